@@ -1,0 +1,60 @@
+-- Laws of chains of checks. A proof walks a chain from its front by `search chain depth N`, N above the number of checks: at each
+-- `return` the code's tests say which law serves at each check. Assumes nothing.
+use Prim.Native.Nat.{ℕ}
+use mathlib.Core.Bool.{Bool, true, false, not, _&&_}
+use mathlib.Core.List.{List, [], _∷_}
+use mathlib.Core.Path.{_≡_, refl, ap, sym, _∙_}
+use native.Mathlib.Omega.{arith}
+use borrow.Author.Tests.{not-false, eq-eqb, ne-eqb, lt-ltb, le-ltb, le-leb, lt-leb}
+use lib.Dec.{eqb}
+use Rattle.chain.specs.Chain.{_if_else_, Check, when, pass, first, Unmet}
+
+-- by the value of a test, with its equation: the goal is not written, `rw e` puts the value in
+pub caseB {ℓ} : {P : Type ℓ} (t : Bool) → (t ≡ true → P) → (t ≡ false → P) → P
+caseB true a b = a refl
+caseB false a b = b refl
+
+module _ (A : Type 0) (a : A) (t : Bool) (p r : A) where
+  pub takes : t ≡ true → r ≡ a → r ≡ (a if t else p)
+  unfolding _if_else_
+  takes e q = rw e q
+
+  pub passes : t ≡ false → r ≡ p → r ≡ (a if t else p)
+  unfolding _if_else_
+  passes e q = rw e q
+
+-- what a test was found to be: of `a != b`, which is `not (eqb a b)`
+pub eq-not : (a b : ℕ) → a ≡ b → not (eqb a b) ≡ false
+eq-not a b e = ap not (eq-eqb a b e)
+
+pub ne-not : (a b : ℕ) → (a ≡ b → ⊥) → not (eqb a b) ≡ true
+ne-not a b e = ap not (ne-eqb a b e)
+
+-- of a call whose result s is t by its contract, as `if f(x)` and `if !f(x)` have it
+pub through : (s t b : Bool) → s ≡ t → s ≡ b → t ≡ b
+through s t b e f = sym e ∙ f
+
+pub not-through : (s t b : Bool) → s ≡ t → not s ≡ b → not t ≡ b
+not-through s t b e f = ap not (sym e) ∙ f
+
+-- of a call s, by contract t, whose negation was found false
+pub fits-told : (s t : Bool) → s ≡ t → not s ≡ false → t ≡ true
+fits-told s t e f = sym e ∙ not-false s f
+
+pub and-left : (a b : Bool) → (a && b) ≡ false → a ≡ true → b ≡ false
+and-left true b e f = e
+and-left false b e f = cc
+
+pub ruleset chain = (takes, passes, eq-eqb, ne-eqb, eq-not, ne-not, lt-ltb, le-ltb, le-leb, lt-leb, through, not-through)
+
+-- what holds of both ways holds of the chain
+pub if-all : {A : Type 0} (P : A → Type 0) (a : A) (t : Bool) (p : A) → P a → P p → P (a if t else p)
+unfolding _if_else_
+if-all P a true p x y = x
+if-all P a false p x y = y
+
+-- a check list that passes has no test that is met
+pub unmet : {A : Type 0} (cs : List (Check A)) → first cs ≡ pass → Unmet cs
+unmet [] = λ e. tt
+unmet (when b n ∷ cs) =
+    caseB b (λ y. rw y λ e. let z : _≡_ {A = ℕ} 0 1 = cc in absurd (omega arith)) (λ y. rw y λ e. (refl, unmet cs e))

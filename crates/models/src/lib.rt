@@ -1,0 +1,286 @@
+// The plain types of the Rust's models.rs, models/requests.rs, models/control_plan.rs, models/ports.rs and services/usb.rs,
+// under the Rust's names. A message text is a number here, a `usize` length a `u64`, and bytes stand beside the value.
+use words::OptionI32;
+use words::OptionU32;
+use words::OptionU64;
+ghost use mathlib.Core.Path.{_≡_};
+ghost use Rattle.models.specs.Requests.{deviceMayAccess, isPending, isUncertainFailure, sameRequest, sameDevice, samePort, requestBefore};
+ghost use Rattle.models.specs.Refusals.{ownError, validation, unsupported, fromBackend, invalidCompletion};
+
+pub mod codes;
+
+pub enum ControllerState {
+    Closed,
+    AcquiredUnknown,
+    Initialized,
+    Closing,
+    RecoveryRequired,
+}
+
+pub enum DeviceState {
+    Observed,
+    PortReset,
+    SlotEnabled,
+    DefaultAddress,
+    Addressed,
+    Configured,
+    Disconnected,
+}
+
+pub enum ErrorCategory {
+    Validation,
+    Unsupported,
+    OperatingSystem,
+    Controller,
+    Timeout,
+    Disconnect,
+    RecoveryRequired,
+}
+
+pub struct OperationError {
+    pub category: ErrorCategory,
+    pub message: u16,
+    pub os_code: OptionI32,
+    pub completion_code: OptionU32,
+}
+
+pub enum OptionError {
+    None,
+    Some(OperationError),
+}
+
+// A call that is refused: its number in document 01's table, and its error.
+pub struct Refusal {
+    pub number: u16,
+    pub error: OperationError,
+}
+
+pub struct RequestId {
+    pub session: u64,
+    pub generation: u64,
+    pub sequence: u64,
+}
+
+pub struct DeviceId {
+    pub session: u64,
+    pub generation: u64,
+    pub slot: u8,
+}
+
+pub struct PortId {
+    pub session: u64,
+    pub generation: u64,
+    pub number: u8,
+}
+
+pub enum RequestState {
+    Pending {
+        logical_cancel: bool,
+        timed_out: bool,
+    },
+    Completed {
+        actual_length: u64,
+        completion_code: u32,
+        logical_cancel: bool,
+    },
+    Failed {
+        error: OperationError,
+        completion_code: OptionU32,
+        quiescent: bool,
+    },
+    Aborted,
+}
+
+pub enum Direction {
+    In,
+    Out,
+}
+
+pub enum TransferType {
+    Control,
+    Bulk,
+    Interrupt,
+    Isochronous,
+}
+
+pub struct SetupPacket {
+    pub request_type: u8,
+    pub request: u8,
+    pub value: u16,
+    pub index: u16,
+    pub length: u16,
+}
+
+pub enum OptionSetup {
+    None,
+    Some(SetupPacket),
+}
+
+pub struct RequestMetadata {
+    pub device: DeviceId,
+    pub endpoint: u8,
+    pub transfer_type: TransferType,
+    pub direction: Direction,
+    pub requested_length: u64,
+    pub setup: OptionSetup,
+}
+
+// What a call says of a request. The Rust's `data` comes back as a part of the lent area, from a call of its own.
+pub struct RequestReport {
+    pub id: RequestId,
+    pub metadata: RequestMetadata,
+    pub state: RequestState,
+    pub logical_cancel: bool,
+    pub timed_out: bool,
+}
+
+// What the backend brings of a request. The data's bytes are lent beside it, and are not read where `has_data` is false.
+pub struct BackendCompletion {
+    pub actual_length: OptionU64,
+    pub completion_code: OptionU32,
+    pub has_data: bool,
+    pub error: OptionError,
+    pub quiescent: bool,
+}
+
+// The controller may still write to the request's buffer: document 01's "held".
+pub fn device_may_access(state: RequestState) -> bool
+    ensures { λ r. ⌜ r ≡ deviceMayAccess state ⌝ }
+{
+    match state {
+        RequestState::Pending {
+            logical_cancel: _,
+            timed_out: _,
+        } => true,
+        RequestState::Completed {
+            actual_length: _,
+            completion_code: _,
+            logical_cancel: _,
+        } => false,
+        RequestState::Failed {
+            error: _,
+            completion_code: _,
+            quiescent,
+        } => !quiescent,
+        RequestState::Aborted => false,
+    }
+}
+
+pub fn is_pending(state: RequestState) -> bool
+    ensures { λ r. ⌜ r ≡ isPending state ⌝ }
+{
+    match state {
+        RequestState::Pending {
+            logical_cancel: _,
+            timed_out: _,
+        } => true,
+        RequestState::Completed {
+            actual_length: _,
+            completion_code: _,
+            logical_cancel: _,
+        } => false,
+        RequestState::Failed {
+            error: _,
+            completion_code: _,
+            quiescent: _,
+        } => false,
+        RequestState::Aborted => false,
+    }
+}
+
+// Failed, and not known to be quiescent.
+pub fn is_uncertain_failure(state: RequestState) -> bool
+    ensures { λ r. ⌜ r ≡ isUncertainFailure state ⌝ }
+{
+    match state {
+        RequestState::Pending {
+            logical_cancel: _,
+            timed_out: _,
+        } => false,
+        RequestState::Completed {
+            actual_length: _,
+            completion_code: _,
+            logical_cancel: _,
+        } => false,
+        RequestState::Failed {
+            error: _,
+            completion_code: _,
+            quiescent,
+        } => !quiescent,
+        RequestState::Aborted => false,
+    }
+}
+
+pub fn same_request(a: RequestId, b: RequestId) -> bool
+    ensures { λ r. ⌜ r ≡ sameRequest a b ⌝ }
+{
+    (a.session == b.session) & (a.generation == b.generation) & (a.sequence == b.sequence)
+}
+
+pub fn same_device(a: DeviceId, b: DeviceId) -> bool
+    ensures { λ r. ⌜ r ≡ sameDevice a b ⌝ }
+{
+    (a.session == b.session) & (a.generation == b.generation) & (a.slot == b.slot)
+}
+
+pub fn same_port(a: PortId, b: PortId) -> bool
+    ensures { λ r. ⌜ r ≡ samePort a b ⌝ }
+{
+    (a.session == b.session) & (a.generation == b.generation) & (a.number == b.number)
+}
+
+// The order of ids: by session, then generation, then sequence.
+pub fn request_before(a: RequestId, b: RequestId) -> bool
+    ensures { λ r. ⌜ r ≡ requestBefore a b ⌝ }
+{
+    if a.session != b.session {
+        return a.session < b.session;
+    }
+    if a.generation != b.generation {
+        return a.generation < b.generation;
+    }
+    a.sequence < b.sequence
+}
+
+// An error of the ledger's own: its message is the refusal's number.
+fn own_error(category: ErrorCategory, number: u16, code: OptionU32) -> OperationError
+    ensures { λ r. ⌜ r ≡ ownError category number code ⌝ }
+{
+    OperationError {
+        category,
+        message: number,
+        os_code: OptionI32::None,
+        completion_code: code,
+    }
+}
+
+// A refusal by a number of the table that has no U.
+pub fn refuse_validation(number: u16) -> Refusal
+    ensures { λ r. ⌜ r ≡ validation number ⌝ }
+{
+    let error = own_error(ErrorCategory::Validation, number, OptionU32::None);
+    Refusal { number, error }
+}
+
+// A refusal by a number with a U.
+pub fn refuse_unsupported(number: u16) -> Refusal
+    ensures { λ r. ⌜ r ≡ unsupported number ⌝ }
+{
+    let error = own_error(ErrorCategory::Unsupported, number, OptionU32::None);
+    Refusal { number, error }
+}
+
+// 33 and 45 carry the backend's error.
+pub fn refuse_backend(number: u16, error: OperationError) -> Refusal
+    ensures { λ r. ⌜ r ≡ fromBackend number error ⌝ }
+{
+    Refusal { number, error }
+}
+
+// 48, with the completion's code.
+pub fn refuse_completion(code: OptionU32) -> Refusal
+    ensures { λ r. ⌜ r ≡ invalidCompletion code ⌝ }
+{
+    let error = own_error(ErrorCategory::RecoveryRequired, 48, code);
+    Refusal { number: 48, error }
+}

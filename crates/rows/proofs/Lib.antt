@@ -1,0 +1,4 @@
+pub mod Fields
+pub mod Tabled
+pub mod Placed
+pub mod Scans

@@ -1,0 +1,87 @@
+-- What the words of a row say, and the words that say it. Every list of words says a row. Assumes nothing.
+use Prim.Native.Nat.{ℕ, _%_, _^_}
+use mathlib.Core.List.{List, [], _∷_}
+use mathlib.Core.Bool.{Bool, cond}
+use lib.ListN.{getD, take, drop}
+use lib.Dec.{eqb}
+use Rattle.words.specs.Words.{flagOf, flagWord, optionU32Of, optionU32Word, optionI32Of, optionI32Word}
+use Rattle.models.specs.Codes.{categoryOf, categoryWord, transferOf, transferWord, directionOf, directionWord}
+use Rattle.models.specs.declared.OperationError.{OperationError}
+use Rattle.models.specs.declared.OptionSetup.{OptionSetup}
+use Rattle.models.specs.declared.OptionSetup.the-variants as setup
+use Rattle.models.specs.declared.RequestMetadata.{RequestMetadata}
+use Rattle.models.specs.declared.RequestState.{RequestState}
+use Rattle.models.specs.declared.RequestState.the-variants.{Pending, Completed, Failed, Aborted}
+use Rattle.rows.specs.declared.Row.{Row}
+use Rattle.rows.specs.declared.codec.SetupWords.{SetupWords}
+use Rattle.rows.specs.declared.codec.StateWords.{StateWords}
+
+abbrev pub setupOf : ℕ → ℕ → ℕ → ℕ → ℕ → ℕ → OptionSetup
+setupOf present type request value index length =
+    cond (eqb present 0) setup.None
+    (setup.Some (record { «request_type» = type % 2 ^ 8; request = request % 2 ^ 8; value = value % 2 ^ 16; index = index % 2 ^ 16; length = length % 2 ^ 16 }))
+
+abbrev pub setupWords : OptionSetup → SetupWords
+setupWords setup.None = record { present = 0; «request_type» = 0; request = 0; value = 0; index = 0; length = 0 }
+setupWords (setup.Some p) = record { present = 1; «request_type» = p .«request_type»; request = p .request; value = p .value; index = p .index; length = p .length }
+
+unfoldable pub metadataOf : List ℕ → RequestMetadata
+metadataOf w = record {
+  device = record { session = getD w 0 0; generation = getD w 1 0; slot = getD w 2 0 % 2 ^ 8 };
+  endpoint = getD w 3 0 % 2 ^ 8;
+  «transfer_type» = transferOf (getD w 4 0);
+  direction = directionOf (getD w 5 0);
+  «requested_length» = getD w 6 0;
+  setup = setupOf (getD w 7 0) (getD w 8 0) (getD w 9 0) (getD w 10 0) (getD w 11 0) (getD w 12 0);
+}
+
+abbrev pub errorOf : ℕ → ℕ → ℕ → ℕ → OperationError
+errorOf a b d e = record { category = categoryOf a; message = b % 2 ^ 16; «os_code» = optionI32Of d; «completion_code» = optionU32Of e }
+
+-- tags: 0 Pending, 1 Completed, 2 Failed, any other Aborted
+abbrev pub stateOf : ℕ → ℕ → ℕ → ℕ → ℕ → ℕ → ℕ → RequestState
+stateOf tag a b c d e f =
+    cond (eqb tag 0) (Pending (flagOf a) (flagOf b))
+    (cond (eqb tag 1) (Completed a (b % 2 ^ 32) (flagOf c))
+    (cond (eqb tag 2) (Failed (errorOf a b d e) (optionU32Of f) (flagOf c))
+    Aborted))
+
+abbrev pub stateWords : RequestState → StateWords
+stateWords (Pending cancel late) = record { tag = 0; a = flagWord cancel; b = flagWord late; c = 0; d = 0; e = 0; f = 0 }
+stateWords (Completed actual code cancel) = record { tag = 1; a = actual; b = code; c = flagWord cancel; d = 0; e = 0; f = 0 }
+stateWords (Failed x code quiescent) = record {
+  tag = 2;
+  a = categoryWord (x .category);
+  b = x .message;
+  c = flagWord quiescent;
+  d = optionI32Word (x .«os_code»);
+  e = optionU32Word (x .«completion_code»);
+  f = optionU32Word code;
+}
+stateWords Aborted = record { tag = 3; a = 0; b = 0; c = 0; d = 0; e = 0; f = 0 }
+
+-- a row's words: the three that stand in columns (sequence, used, tag of the state), then its record
+unfoldable pub rowOf : List ℕ → Row
+rowOf w = record {
+  used = flagOf (getD w 1 0);
+  id = record { session = getD w 3 0; generation = getD w 4 0; sequence = getD w 0 0 };
+  metadata = metadataOf (take 13 (drop 5 w));
+  token = getD w 18 0;
+  «logical_cancel» = flagOf (getD w 19 0);
+  «timed_out» = flagOf (getD w 20 0);
+  state = stateOf (getD w 2 0) (getD w 21 0) (getD w 22 0) (getD w 23 0) (getD w 24 0) (getD w 25 0) (getD w 26 0);
+}
+
+abbrev pub setupTail : SetupWords → List ℕ → List ℕ
+setupTail p rest = p .present ∷ p .«request_type» ∷ p .request ∷ p .value ∷ p .index ∷ p .length ∷ rest
+
+abbrev pub stateTail : StateWords → List ℕ
+stateTail s = s .a ∷ s .b ∷ s .c ∷ s .d ∷ s .e ∷ s .f ∷ []
+
+unfoldable pub recordOf : Row → List ℕ
+recordOf r =
+    r .id .session ∷ r .id .generation
+    ∷ r .metadata .device .session ∷ r .metadata .device .generation ∷ r .metadata .device .slot ∷ r .metadata .endpoint
+    ∷ transferWord (r .metadata .«transfer_type») ∷ directionWord (r .metadata .direction) ∷ r .metadata .«requested_length»
+    ∷ setupTail (setupWords (r .metadata .setup))
+    (r .token ∷ flagWord (r .«logical_cancel») ∷ flagWord (r .«timed_out») ∷ stateTail (stateWords (r .state)))

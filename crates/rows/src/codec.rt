@@ -1,0 +1,252 @@
+// A row as words: three that stand in columns (sequence, used, tag of the state), and a record. Each value takes one word a field.
+use crate::Row;
+use models::DeviceId;
+use models::OperationError;
+use models::OptionSetup;
+use models::RequestId;
+use models::RequestMetadata;
+use models::RequestState;
+use models::SetupPacket;
+use models::codes;
+ghost use mathlib.Core.Path.{_≡_};
+ghost use mathlib.Core.List.{_∷_};
+ghost use lib.ListN.{length};
+ghost use Rattle.words.specs.Words.{flagWord};
+ghost use Rattle.rows.specs.Codec.{setupOf, setupWords, metadataOf, stateOf, stateWords, rowOf, recordOf};
+
+// The words of an optional SETUP packet.
+pub struct SetupWords {
+    pub present: u64,
+    pub request_type: u64,
+    pub request: u64,
+    pub value: u64,
+    pub index: u64,
+    pub length: u64,
+}
+
+// The words of a state. What a to f hold depends on the tag.
+pub struct StateWords {
+    pub tag: u64,
+    pub a: u64,
+    pub b: u64,
+    pub c: u64,
+    pub d: u64,
+    pub e: u64,
+    pub f: u64,
+}
+
+pub fn setup_words(o: OptionSetup) -> SetupWords
+    ensures { λ r. ⌜ (setupOf (r .present) (r .«request_type») (r .request) (r .value) (r .index) (r .length) ≡ o) × (r ≡ setupWords o) ⌝ }
+{
+    match o {
+        OptionSetup::None => SetupWords {
+            present: 0,
+            request_type: 0,
+            request: 0,
+            value: 0,
+            index: 0,
+            length: 0,
+        },
+        OptionSetup::Some(p) => SetupWords {
+            present: 1,
+            request_type: p.request_type as u64,
+            request: p.request as u64,
+            value: p.value as u64,
+            index: p.index as u64,
+            length: p.length as u64,
+        },
+    }
+}
+
+pub fn to_setup(
+    present: u64,
+    request_type: u64,
+    request: u64,
+    value: u64,
+    index: u64,
+    length: u64,
+) -> OptionSetup
+    ensures { λ r. ⌜ r ≡ setupOf present «request_type» request value index length ⌝ }
+{
+    if present == 0 {
+        return OptionSetup::None;
+    }
+    OptionSetup::Some(SetupPacket {
+        request_type: (request_type % 256) as u8,
+        request: (request % 256) as u8,
+        value: (value % 65536) as u16,
+        index: (index % 65536) as u16,
+        length: (length % 65536) as u16,
+    })
+}
+
+// The metadata that the words of a record from its third on say.
+pub fn to_metadata(w: &[u64]) -> RequestMetadata
+    requires { ⌜ length (now w) ≡ 13 ⌝ }
+    ensures { λ r. ⌜ r ≡ metadataOf (now (w .entry)) ⌝ }
+{
+    let device = DeviceId {
+        session: w[0],
+        generation: w[1],
+        slot: (w[2] % 256) as u8,
+    };
+    let setup = to_setup(w[7], w[8], w[9], w[10], w[11], w[12]);
+    RequestMetadata {
+        device,
+        endpoint: (w[3] % 256) as u8,
+        transfer_type: codes::to_transfer(w[4]),
+        direction: codes::to_direction(w[5]),
+        requested_length: w[6],
+        setup,
+    }
+}
+
+pub fn state_words(s: RequestState) -> StateWords
+    ensures { λ r. ⌜ (stateOf (r .tag) (r .a) (r .b) (r .c) (r .d) (r .e) (r .f) ≡ s) × (r ≡ stateWords s) ⌝ }
+{
+    match s {
+        RequestState::Pending {
+            logical_cancel,
+            timed_out,
+        } => StateWords {
+            tag: 0,
+            a: words::flag_word(logical_cancel),
+            b: words::flag_word(timed_out),
+            c: 0,
+            d: 0,
+            e: 0,
+            f: 0,
+        },
+        RequestState::Completed {
+            actual_length,
+            completion_code,
+            logical_cancel,
+        } => StateWords {
+            tag: 1,
+            a: actual_length,
+            b: completion_code as u64,
+            c: words::flag_word(logical_cancel),
+            d: 0,
+            e: 0,
+            f: 0,
+        },
+        RequestState::Failed {
+            error,
+            completion_code,
+            quiescent,
+        } => {
+            let category = error.category;
+            let os_code = error.os_code;
+            let inner = error.completion_code;
+            StateWords {
+                tag: 2,
+                a: codes::category_word(category),
+                b: error.message as u64,
+                c: words::flag_word(quiescent),
+                d: words::option_i32_word(os_code),
+                e: words::option_u32_word(inner),
+                f: words::option_u32_word(completion_code),
+            }
+        }
+        RequestState::Aborted => StateWords {
+            tag: 3,
+            a: 0,
+            b: 0,
+            c: 0,
+            d: 0,
+            e: 0,
+            f: 0,
+        },
+    }
+}
+
+pub fn to_state(tag: u64, a: u64, b: u64, c: u64, d: u64, e: u64, f: u64) -> RequestState
+    ensures { λ r. ⌜ r ≡ stateOf tag a b c d e f ⌝ }
+{
+    if tag == 0 {
+        return RequestState::Pending {
+            logical_cancel: words::to_flag(a),
+            timed_out: words::to_flag(b),
+        };
+    }
+    if tag == 1 {
+        return RequestState::Completed {
+            actual_length: a,
+            completion_code: (b % 4294967296) as u32,
+            logical_cancel: words::to_flag(c),
+        };
+    }
+    if tag == 2 {
+        let error = OperationError {
+            category: codes::to_category(a),
+            message: (b % 65536) as u16,
+            os_code: words::to_option_i32(d),
+            completion_code: words::to_option_u32(e),
+        };
+        return RequestState::Failed {
+            error,
+            completion_code: words::to_option_u32(f),
+            quiescent: words::to_flag(c),
+        };
+    }
+    RequestState::Aborted
+}
+
+// The row that its three column words and its record say.
+pub fn decode(sequence: u64, used: u64, tag: u64, w: &[u64]) -> Row
+    requires { ⌜ length (now w) ≡ 24 ⌝ }
+    ensures { λ r. ⌜ r ≡ rowOf (sequence ∷ used ∷ tag ∷ now (w .entry)) ⌝ }
+{
+    let id = RequestId {
+        session: w[0],
+        generation: w[1],
+        sequence,
+    };
+    let metadata = to_metadata(&w[2..15]);
+    let state = to_state(tag, w[18], w[19], w[20], w[21], w[22], w[23]);
+    Row {
+        used: words::to_flag(used),
+        id,
+        metadata,
+        token: w[15],
+        logical_cancel: words::to_flag(w[16]),
+        timed_out: words::to_flag(w[17]),
+        state,
+    }
+}
+
+// The record of a row whose SETUP has the words p and whose state the words s.
+pub fn encode(r: Row, p: SetupWords, s: StateWords) -> [u64; 24]
+    requires { ⌜ (setupOf (p .present) (p .«request_type») (p .request) (p .value) (p .index) (p .length) ≡ r .metadata .setup) × (p ≡ setupWords (r .metadata .setup)) × (stateOf (s .tag) (s .a) (s .b) (s .c) (s .d) (s .e) (s .f) ≡ r .state) × (s ≡ stateWords (r .state)) ⌝ }
+    ensures { λ w. ⌜ (rowOf (r .id .sequence ∷ flagWord (r .used) ∷ s .tag ∷ w) ≡ r) × (w ≡ recordOf r) ⌝ }
+{
+    let m = r.metadata;
+    let transfer_type = m.transfer_type;
+    let direction = m.direction;
+    [
+        r.id.session,
+        r.id.generation,
+        m.device.session,
+        m.device.generation,
+        m.device.slot as u64,
+        m.endpoint as u64,
+        codes::transfer_word(transfer_type),
+        codes::direction_word(direction),
+        m.requested_length,
+        p.present,
+        p.request_type,
+        p.request,
+        p.value,
+        p.index,
+        p.length,
+        r.token,
+        words::flag_word(r.logical_cancel),
+        words::flag_word(r.timed_out),
+        s.a,
+        s.b,
+        s.c,
+        s.d,
+        s.e,
+        s.f,
+    ]
+}

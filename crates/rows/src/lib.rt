@@ -1,0 +1,92 @@
+// Request rows, kept as words of a slice that the caller lends.
+use models::RequestId;
+use models::RequestMetadata;
+use models::RequestState;
+use words::slices;
+ghost use mathlib.Core.Path.{_≡_};
+ghost use Prim.Native.Nat.{_+_, _*_, _<_, _≤_};
+ghost use lib.ListN.{length, set};
+ghost use Rattle.rows.specs.Table.{rowWords, rowsOf, rowAt, emptyRow};
+ghost use Rattle.rows.specs.Store.{storeOf, putIn, emptied};
+
+pub mod codec;
+pub mod columns;
+
+// The words of a record, and of a row: three columns and the record.
+const RECORD: usize = 24;
+
+const ROW: usize = 27;
+
+// A row of the store: free, where `used` is false, or a request with its metadata, the backend's token, the record's own copies
+// of the two flags, and its state.
+pub struct Row {
+    pub used: bool,
+    pub id: RequestId,
+    pub metadata: RequestMetadata,
+    pub token: u64,
+    pub logical_cancel: bool,
+    pub timed_out: bool,
+    pub state: RequestState,
+}
+
+// How many rows the words hold.
+pub fn count(rows: &[u64]) -> usize
+    ensures { λ r. ⌜ r ≡ length (rowsOf (now (rows .entry))) ⌝ }
+{
+    rows.len() / ROW
+}
+
+pub fn empty_row() -> Row
+    ensures { λ r. ⌜ r ≡ emptyRow ⌝ }
+{
+    let w = [0u64; RECORD];
+    codec::decode(0, 0, 0, &w)
+}
+
+pub fn read_row(rows: &[u64], i: usize) -> Row
+    requires { ⌜ i < length (rowsOf (now rows)) ⌝ }
+    ensures { λ r. ⌜ r ≡ rowAt (now (rows .entry)) i ⌝ }
+{
+    let sequence = columns::column(rows, i, 0);
+    let used = columns::column(rows, i, 1);
+    let tag = columns::column(rows, i, 2);
+    let at = columns::record_at(rows, i);
+    let end = at + RECORD;
+    codec::decode(sequence, used, tag, &rows[at..end])
+}
+
+// The words of row i of n that stand in columns.
+fn put_columns(rows: &mut [u64], n: usize, i: usize, sequence: u64, used: u64, tag: u64)
+    requires { ⌜ (i < n) × (n * rowWords ≤ length (now rows)) ⌝ }
+    ensures { λ _. ⌜ now (rows .exit) ≡ set (set (set (now (rows .entry)) i sequence) (n + i) used) (n * 2 + i) tag ⌝ }
+{
+    rows[i] = sequence;
+    rows[n + i] = used;
+    rows[n * 2 + i] = tag;
+}
+
+pub fn write_row(rows: &mut [u64], i: usize, r: Row)
+    requires { ⌜ i < length (rowsOf (now rows)) ⌝ }
+    ensures { λ _. ⌜ storeOf (now (rows .exit)) ≡ putIn (storeOf (now (rows .entry))) i r ⌝ }
+{
+    let n = rows.len() / ROW;
+    let at = columns::record_at(rows, i);
+    let id = r.id;
+    let metadata = r.metadata;
+    let setup = metadata.setup;
+    let state = r.state;
+    let p = codec::setup_words(setup);
+    let s = codec::state_words(state);
+    let used = words::flag_word(r.used);
+    let w = codec::encode(r, p, s);
+    put_columns(rows, n, i, id.sequence, used, s.tag);
+    slices::copy_words(rows, at, &w, RECORD);
+}
+
+// Every row is free.
+pub fn clear_rows(rows: &mut [u64])
+    ensures { λ _. ⌜ storeOf (now (rows .exit)) ≡ emptied (storeOf (now (rows .entry))) ⌝ }
+{
+    let n = rows.len();
+    slices::clear_words(rows, 0, n);
+}

@@ -1,0 +1,4 @@
+pub mod Signed
+pub mod Options
+pub mod Parts
+pub mod Records

@@ -1,0 +1,105 @@
+-- A 32-bit signed number and its word.
+use Prim.Native.Nat.{ℕ, zero, suc, _+_, _-_, _%_, _<_, _≤_}
+use mathlib.Core.Path.{_≡_, refl, sym, ap, _∙_}
+use mathlib.Core.Bool.{true, false}
+use native.Mathlib.Nat.{zero-add}
+use native.Mathlib.Omega.{arith}
+use lib.IntN.{ℤ, pos, negsuc, _-ℤ_}
+use lib.Signed.{ltZ}
+use borrow.Author.Tests.{lt-ltb, le-ltb, ne-eqb, eq-eqb}
+use mir.Syntax.{w32}
+use mir.Val.{SFits, toZ, ofZ}
+use mir.ValLaws.{toZ-ofZ, toZ-pos}
+use Rattle.words.specs.declared.OptionI32.the-variants.{None, Some}
+use Rattle.words.specs.Words.{lowSigned, signedOf, optionI32Of, signedWord, optionI32Word}
+use Rattle.words.specs.declared.OptionI32.{OptionI32}
+
+-- `-1 - v`, as the code computes it
+abbrev pub flip : ℤ → ℤ
+flip v = negsuc 0 -ℤ toZ w32 (ofZ w32 v)
+
+minus : (n : ℕ) → negsuc 0 -ℤ negsuc n ≡ pos n
+minus n = let e : suc n - 1 ≡ n = omega arith in simp (le-ltb (suc n) 1 (omega arith), e)
+
+pub record Neg (v : ℤ) : Type 0 where
+  pub n : ℕ
+  pub small : n < 2147483648
+  pub is : v ≡ negsuc n
+  pub flipped : flip v ≡ pos n
+  pub back : toZ w32 (ofZ w32 (flip v)) ≡ pos n
+
+pub record Pos (v : ℤ) : Type 0 where
+  pub n : ℕ
+  pub small : n < 2147483648
+  pub is : v ≡ pos n
+  pub back : toZ w32 (ofZ w32 v) ≡ pos n
+
+flip-neg : (n : ℕ) → n < 2147483648 → flip (negsuc n) ≡ pos n
+flip-neg n h = ap (λ (z : ℤ). negsuc 0 -ℤ z) (toZ-ofZ w32 (negsuc n) (record { sfits = h })) ∙ minus n
+
+contra : {A : Type 0} → true ≡ false → A
+contra e = absurd (let z : _≡_ {A = ℕ} 0 1 = cc in omega arith)
+
+neg-of : (v : ℤ) → SFits w32 v → ltZ v (pos 0) ≡ true → Neg v
+neg-of (pos k) f t = contra (sym t ∙ le-ltb k 0 (omega arith))
+neg-of (negsuc k) f t = record {
+  n = k;
+  small = f .sfits;
+  is = refl;
+  flipped = flip-neg k (f .sfits);
+  back = ap (λ (z : ℤ). toZ w32 (ofZ w32 z)) (flip-neg k (f .sfits)) ∙ toZ-pos w32 k (f .sfits);
+}
+
+pos-of : (v : ℤ) → SFits w32 v → ltZ v (pos 0) ≡ false → Pos v
+pos-of (negsuc k) f t = contra t
+pos-of (pos k) f t = record { n = k; small = f .sfits; is = refl; back = toZ-pos w32 k (f .sfits) }
+
+pub negative : (v : ℤ) → SFits w32 v → ltZ (toZ w32 (ofZ w32 v)) (pos 0) ≡ true → Neg v
+negative v f t = neg-of v f (rw (toZ-ofZ w32 v f) at t)
+
+pub positive : (v : ℤ) → SFits w32 v → ltZ (toZ w32 (ofZ w32 v)) (pos 0) ≡ false → Pos v
+positive v f t = pos-of v f (rw (toZ-ofZ w32 v f) at t)
+
+pub high : (n : ℕ) → n < 2147483648 → signedOf (n + 2147483648) ≡ negsuc n
+unfolding signedOf
+high n h =
+    let m : (n + 2147483648) % 4294967296 ≡ n + 2147483648 = omega arith in
+    let e : n + 2147483648 - 2147483648 ≡ n = omega arith in
+    simp (m, le-ltb (n + 2147483648) 2147483648 (omega arith), e)
+
+pub low : (n : ℕ) → n < 2147483648 → signedOf n ≡ pos n
+unfolding signedOf
+low n h = let m : n % 4294967296 ≡ n = omega arith in simp (m, lt-ltb n 2147483648 h)
+
+minus-pos : (m : ℕ) → negsuc 0 -ℤ pos m ≡ negsuc m
+minus-pos zero = refl
+minus-pos (suc m) = ap (λ (k : ℕ). negsuc (suc k)) (zero-add m)
+
+-- `-1 - m`, as the code computes it, of a number m
+pub minus-word : (m : ℕ) → m < 2147483648 → negsuc 0 -ℤ toZ w32 m ≡ negsuc m
+minus-word m h = ap (λ (z : ℤ). negsuc 0 -ℤ z) (toZ-pos w32 m h) ∙ minus-pos m
+
+-- the upper half of the words
+pub high-word : (y : ℕ) → 2147483648 ≤ y → y < 4294967296 → toZ w32 (ofZ w32 (negsuc 0 -ℤ toZ w32 (y - 2147483648))) ≡ lowSigned y
+high-word y g h =
+    let m : y - 2147483648 < 2147483648 = omega arith in
+    ap (λ (z : ℤ). toZ w32 (ofZ w32 z)) (minus-word (y - 2147483648) m) ∙ toZ-ofZ w32 (negsuc (y - 2147483648)) (record { sfits = m })
+    ∙ sym (simp (le-ltb y 2147483648 g))
+
+pub low-word : (y : ℕ) → y < 2147483648 → toZ w32 y ≡ lowSigned y
+low-word y h = toZ-pos w32 y h ∙ sym (simp (lt-ltb y 2147483648 h))
+
+pub option-back : (y : ℕ) (v : ℤ) → y < 4294967296 → signedOf y ≡ v → optionI32Of (y + 1) ≡ Some v
+unfolding optionI32Of
+option-back y v h e = let b : y + 1 - 1 ≡ y = omega arith in simp (ne-eqb (y + 1) 0 (omega arith), b, e)
+
+pub option-some : (w : ℕ) (v : ℤ) → (w ≡ 0 → ⊥) → v ≡ signedOf (w - 1) → Some v ≡ optionI32Of w
+unfolding optionI32Of
+option-some w v h e = simp (ne-eqb w 0 h, e)
+
+pub option-none : (w : ℕ) → w ≡ 0 → None ≡ optionI32Of w
+unfolding optionI32Of
+option-none w e = simp (eq-eqb w 0 e)
+
+pub option-exact : (y : ℕ) (v u : ℤ) (o : OptionI32) → y ≡ signedWord v → v ≡ u → o ≡ Some u → y + 1 ≡ optionI32Word o
+option-exact y v u o e f g = ap (λ (k : ℕ). k + 1) (e ∙ ap signedWord f) ∙ ap optionI32Word (sym g)

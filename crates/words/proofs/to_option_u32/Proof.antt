@@ -1,0 +1,13 @@
+use borrow.Author.Tests.{eq-eqb, ne-eqb}
+use borrow.Author.Needs.{needs}
+use Rattle.words.proofs.to_option_u32.Statement.{statement}
+use Rattle.words.proofs.to_option_u32.Tie as tie
+
+returns : tie.Need-returns
+returns c = simp (eq-eqb _ _ (c .if1 .taken))
+
+returns-2 : tie.Need-returns-2
+returns-2 c = simp (ne-eqb _ _ (c .if1 .left))
+
+pub to-option-u32-spec : {M : Type 1} → statement M
+to-option-u32-spec = tie.close (tie.spec returns (λ c. search needs) (λ c. search needs) returns-2)

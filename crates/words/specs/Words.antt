@@ -1,0 +1,53 @@
+-- What a word says, and the word that says it. Every word says something. Assumes nothing.
+use Prim.Native.Nat.{ℕ, _+_, _-_, _%_, _^_}
+use mathlib.Core.Bool.{Bool, not, cond}
+use lib.Dec.{eqb, ltb}
+use lib.IntN.{ℤ, pos, negsuc}
+use Rattle.words.specs.declared.OptionU32.{OptionU32}
+use Rattle.words.specs.declared.OptionU32.the-variants as u32
+use Rattle.words.specs.declared.OptionU64.{OptionU64}
+use Rattle.words.specs.declared.OptionU64.the-variants as u64
+use Rattle.words.specs.declared.OptionI32.{OptionI32}
+use Rattle.words.specs.declared.OptionI32.the-variants as i32
+use Rattle.words.specs.declared.OptionWords.{OptionWords}
+
+-- a flag: 0 is false
+abbrev pub flagOf : ℕ → Bool
+flagOf w = not (eqb w 0)
+
+abbrev pub flagWord : Bool → ℕ
+flagWord b = cond b 1 0
+
+-- what may be missing: 0, or one more than the value
+abbrev pub optionU32Of : ℕ → OptionU32
+optionU32Of w = cond (eqb w 0) u32.None (u32.Some ((w - 1) % 2 ^ 32))
+
+abbrev pub optionU32Word : OptionU32 → ℕ
+optionU32Word u32.None = 0
+optionU32Word (u32.Some v) = v + 1
+
+-- a `u64` that may be missing: a flag and the value
+abbrev pub optionU64Of : ℕ → ℕ → OptionU64
+optionU64Of p v = cond (eqb p 0) u64.None (u64.Some v)
+
+abbrev pub optionU64Words : OptionU64 → OptionWords
+optionU64Words u64.None = record { present = 0; value = 0 }
+optionU64Words (u64.Some v) = record { present = 1; value = v }
+
+-- a signed number: two's complement in the low 32 bits
+abbrev pub lowSigned : ℕ → ℤ
+lowSigned y = cond (ltb y (2 ^ 31)) (pos y) (negsuc (y - 2 ^ 31))
+
+unfoldable pub signedOf : ℕ → ℤ
+signedOf w = lowSigned (w % 2 ^ 32)
+
+unfoldable pub signedWord : ℤ → ℕ
+signedWord (pos n) = n
+signedWord (negsuc n) = n + 2 ^ 31
+
+unfoldable pub optionI32Of : ℕ → OptionI32
+optionI32Of w = cond (eqb w 0) i32.None (i32.Some (signedOf (w - 1)))
+
+abbrev pub optionI32Word : OptionI32 → ℕ
+optionI32Word i32.None = 0
+optionI32Word (i32.Some v) = signedWord v + 1

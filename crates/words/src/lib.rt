@@ -1,0 +1,123 @@
+// Small values as words of a lent `&[u64]`, and the words and bytes of a lent slice. One word a field; every word decodes to something.
+ghost use mathlib.Core.Path.{_≡_};
+ghost use Prim.Native.Nat.{_<_};
+ghost use Rattle.words.specs.Words.{flagOf, flagWord, optionU32Of, optionU32Word, optionU64Of, optionU64Words, signedOf, signedWord, optionI32Of, optionI32Word};
+
+pub mod slices;
+
+// The Rust's `Option` of three types.
+pub enum OptionU32 {
+    None,
+    Some(u32),
+}
+
+pub enum OptionU64 {
+    None,
+    Some(u64),
+}
+
+pub enum OptionI32 {
+    None,
+    Some(i32),
+}
+
+// The two words of an optional `u64`: every value of the second is taken.
+pub struct OptionWords {
+    pub present: u64,
+    pub value: u64,
+}
+
+pub fn flag_word(b: bool) -> u64
+    ensures { λ r. ⌜ (flagOf r ≡ b) × (r ≡ flagWord b) ⌝ }
+{
+    if b { 1 } else { 0 }
+}
+
+pub fn to_flag(w: u64) -> bool
+    ensures { λ r. ⌜ r ≡ flagOf w ⌝ }
+{
+    w != 0
+}
+
+pub fn option_u32_word(o: OptionU32) -> u64
+    ensures { λ r. ⌜ (optionU32Of r ≡ o) × (r ≡ optionU32Word o) ⌝ }
+{
+    match o {
+        OptionU32::None => 0,
+        OptionU32::Some(v) => v as u64 + 1,
+    }
+}
+
+pub fn to_option_u32(w: u64) -> OptionU32
+    ensures { λ r. ⌜ r ≡ optionU32Of w ⌝ }
+{
+    if w == 0 {
+        return OptionU32::None;
+    }
+    OptionU32::Some(((w - 1) % 4294967296) as u32)
+}
+
+pub fn option_u64_words(o: OptionU64) -> OptionWords
+    ensures { λ r. ⌜ (optionU64Of (r .present) (r .value) ≡ o) × (r ≡ optionU64Words o) ⌝ }
+{
+    match o {
+        OptionU64::None => OptionWords {
+            present: 0,
+            value: 0,
+        },
+        OptionU64::Some(v) => OptionWords {
+            present: 1,
+            value: v,
+        },
+    }
+}
+
+pub fn to_option_u64(present: u64, value: u64) -> OptionU64
+    ensures { λ r. ⌜ r ≡ optionU64Of present value ⌝ }
+{
+    if present == 0 {
+        return OptionU64::None;
+    }
+    OptionU64::Some(value)
+}
+
+pub fn signed_word(v: i32) -> u64
+    ensures { λ r. ⌜ (signedOf r ≡ v) × (r < 4294967296) × (r ≡ signedWord v) ⌝ }
+{
+    if v < 0 {
+        let n = -1 - v;
+        n as u64 + 2147483648
+    } else {
+        v as u64
+    }
+}
+
+pub fn to_signed(w: u64) -> i32
+    ensures { λ r. ⌜ r ≡ signedOf w ⌝ }
+{
+    let y = w % 4294967296;
+    if y < 2147483648 {
+        y as i32
+    } else {
+        let n = (y - 2147483648) as i32;
+        -1 - n
+    }
+}
+
+pub fn option_i32_word(o: OptionI32) -> u64
+    ensures { λ r. ⌜ (optionI32Of r ≡ o) × (r ≡ optionI32Word o) ⌝ }
+{
+    match o {
+        OptionI32::None => 0,
+        OptionI32::Some(v) => signed_word(v) + 1,
+    }
+}
+
+pub fn to_option_i32(w: u64) -> OptionI32
+    ensures { λ r. ⌜ r ≡ optionI32Of w ⌝ }
+{
+    if w == 0 {
+        return OptionI32::None;
+    }
+    OptionI32::Some(to_signed(w - 1))
+}
