@@ -1,0 +1,4 @@
+pub mod Fields
+pub mod Setup
+pub mod Ports
+pub mod Completion

@@ -1,0 +1,13 @@
+// What the two standards say of the bytes, words and codes that the ledger reads: USB 2.0 chapter 9 and xHCI chapters 5 and 6.
+pub mod completion;
+pub mod ports;
+pub mod setup;
+
+// The parts of a port's status word that the Rust's `PortSnapshot` has.
+pub struct PortStatus {
+    pub connected: bool,
+    pub enabled: bool,
+    pub resetting: bool,
+    pub speed_code: u8,
+    pub change_bits: u32,
+}
