@@ -8,6 +8,7 @@ ghost use Rattle.models.specs.Requests.{deviceMayAccess, isPending, isUn
 ghost use Rattle.models.specs.Refusals.{ownError, validation, unsupported, fromBackend, invalidCompletion};
 
 pub mod codes;
+pub mod kinds;
 
 pub enum ControllerState {
     Closed,
@@ -141,6 +142,84 @@ pub struct BackendCompletion {
     pub has_data: bool,
     pub error: OptionError,
     pub quiescent: bool,
+}
+
+// What a check answers.
+pub enum Verdict {
+    Refused(Refusal),
+    Pass,
+}
+
+pub enum OptionDirection {
+    None,
+    Some(Direction),
+}
+
+// A request as it is asked for. The data's bytes are lent beside it.
+pub struct RequestSpec {
+    pub device: DeviceId,
+    pub endpoint: u8,
+    pub transfer_type: TransferType,
+    pub direction: Direction,
+    pub length: u64,
+    pub setup: OptionSetup,
+}
+
+pub enum ControlProfile {
+    Compliant,
+    DeviceCompatibility,
+}
+
+pub struct DataStage {
+    pub direction: Direction,
+    pub length: u64,
+}
+
+pub enum OptionStage {
+    None,
+    Some(DataStage),
+}
+
+// A control transfer with its stages declared. The data's bytes are lent beside it.
+pub struct ControlPlan {
+    pub device: DeviceId,
+    pub profile: ControlProfile,
+    pub setup: SetupPacket,
+    pub data_stage: OptionStage,
+    pub status_direction: OptionDirection,
+}
+
+// The ports of an opening: the session number that their ids carry, and how many there are.
+pub struct Ports {
+    pub session: u64,
+    pub count: u8,
+}
+
+pub enum OptionPorts {
+    None,
+    Some(Ports),
+}
+
+pub struct DeviceSnapshot {
+    pub id: DeviceId,
+    pub port: PortId,
+    pub state: DeviceState,
+}
+
+pub enum OptionDevice {
+    None,
+    Some(DeviceSnapshot),
+}
+
+pub struct EndpointSnapshot {
+    pub address: u8,
+    pub transfer_type: TransferType,
+}
+
+// What reading a port's status register brought.
+pub enum PortReading {
+    Word(u32),
+    Error(OperationError),
 }
 
 // The controller may still write to the request's buffer: document 01's "held".

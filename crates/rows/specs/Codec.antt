@@ -5,6 +5,7 @@ use mathlib.Core.Bool.{Bool, cond}
 use lib.ListN.{getD, take, drop}
 use lib.Dec.{eqb}
 use Rattle.words.specs.Words.{flagOf, flagWord, optionU32Of, optionU32Word, optionI32Of, optionI32Word}
+use Rattle.words.specs.declared.OptionU32.{OptionU32}
 use Rattle.models.specs.Codes.{categoryOf, categoryWord, transferOf, transferWord, directionOf, directionWord}
 use Rattle.models.specs.declared.OperationError.{OperationError}
 use Rattle.models.specs.declared.OptionSetup.{OptionSetup}
@@ -46,10 +47,12 @@ stateOf tag a b c d e f =
     (cond (eqb tag 2) (Failed (errorOf a b d e) (optionU32Of f) (flagOf c))
     Aborted))
 
-abbrev pub stateWords : RequestState → StateWords
-stateWords (Pending cancel late) = record { tag = 0; a = flagWord cancel; b = flagWord late; c = 0; d = 0; e = 0; f = 0 }
-stateWords (Completed actual code cancel) = record { tag = 1; a = actual; b = code; c = flagWord cancel; d = 0; e = 0; f = 0 }
-stateWords (Failed x code quiescent) = record {
+-- the words of a state: three beside its tag, or six where it has an error
+abbrev pub shortWords : ℕ → ℕ → ℕ → ℕ → StateWords
+shortWords tag a b c = record { tag = tag; a = a; b = b; c = c; d = 0; e = 0; f = 0 }
+
+abbrev pub failedWords : OperationError → OptionU32 → Bool → StateWords
+failedWords x code quiescent = record {
   tag = 2;
   a = categoryWord (x .category);
   b = x .message;
@@ -58,7 +61,12 @@ stateWords (Failed x code quiescent) = record {
   e = optionU32Word (x .«completion_code»);
   f = optionU32Word code;
 }
-stateWords Aborted = record { tag = 3; a = 0; b = 0; c = 0; d = 0; e = 0; f = 0 }
+
+abbrev pub stateWords : RequestState → StateWords
+stateWords (Pending cancel late) = shortWords 0 (flagWord cancel) (flagWord late) 0
+stateWords (Completed actual code cancel) = shortWords 1 actual code (flagWord cancel)
+stateWords (Failed x code quiescent) = failedWords x code quiescent
+stateWords Aborted = shortWords 3 0 0 0
 
 -- a row's words: the three that stand in columns (sequence, used, tag of the state), then its record
 unfoldable pub rowOf : List ℕ → Row

@@ -8,11 +8,13 @@ use models::RequestMetadata;
 use models::RequestState;
 use models::SetupPacket;
 use models::codes;
+use words::OptionU32;
 ghost use mathlib.Core.Path.{_≡_};
 ghost use mathlib.Core.List.{_∷_};
 ghost use lib.ListN.{length};
 ghost use Rattle.words.specs.Words.{flagWord};
-ghost use Rattle.rows.specs.Codec.{setupOf, setupWords, metadataOf, stateOf, stateWords, rowOf, recordOf};
+ghost use Rattle.rows.specs.Codec.{setupOf, setupWords, metadataOf, stateOf, shortWords, failedWords, stateWords, rowOf, recordOf};
+ghost use Rattle.models.specs.declared.RequestState.the-variants as RequestState;
 
 // The words of an optional SETUP packet.
 pub struct SetupWords {
@@ -101,6 +103,38 @@ pub fn to_metadata(w: &[u64]) -> RequestMetadata
     }
 }
 
+// Of a state that needs three words beside its tag.
+fn short_words(tag: u64, a: u64, b: u64, c: u64) -> StateWords
+    ensures { λ r. ⌜ r ≡ shortWords tag a b c ⌝ }
+{
+    StateWords {
+        tag,
+        a,
+        b,
+        c,
+        d: 0,
+        e: 0,
+        f: 0,
+    }
+}
+
+fn failed_words(error: OperationError, code: OptionU32, quiescent: bool) -> StateWords
+    ensures { λ r. ⌜ (stateOf (r .tag) (r .a) (r .b) (r .c) (r .d) (r .e) (r .f) ≡ RequestState.Failed error code quiescent) × (r ≡ failedWords error code quiescent) ⌝ }
+{
+    let category = error.category;
+    let os_code = error.os_code;
+    let inner = error.completion_code;
+    StateWords {
+        tag: 2,
+        a: codes::category_word(category),
+        b: error.message as u64,
+        c: words::flag_word(quiescent),
+        d: words::option_i32_word(os_code),
+        e: words::option_u32_word(inner),
+        f: words::option_u32_word(code),
+    }
+}
+
 pub fn state_words(s: RequestState) -> StateWords
     ensures { λ r. ⌜ (stateOf (r .tag) (r .a) (r .b) (r .c) (r .d) (r .e) (r .f) ≡ s) × (r ≡ stateWords s) ⌝ }
 {
@@ -108,55 +142,28 @@ pub fn state_words(s: RequestState) -> StateWords
         RequestState::Pending {
             logical_cancel,
             timed_out,
-        } => StateWords {
-            tag: 0,
-            a: words::flag_word(logical_cancel),
-            b: words::flag_word(timed_out),
-            c: 0,
-            d: 0,
-            e: 0,
-            f: 0,
-        },
+        } => short_words(
+            0,
+            words::flag_word(logical_cancel),
+            words::flag_word(timed_out),
+            0,
+        ),
         RequestState::Completed {
             actual_length,
             completion_code,
             logical_cancel,
-        } => StateWords {
-            tag: 1,
-            a: actual_length,
-            b: completion_code as u64,
-            c: words::flag_word(logical_cancel),
-            d: 0,
-            e: 0,
-            f: 0,
-        },
+        } => short_words(
+            1,
+            actual_length,
+            completion_code as u64,
+            words::flag_word(logical_cancel),
+        ),
         RequestState::Failed {
             error,
             completion_code,
             quiescent,
-        } => {
-            let category = error.category;
-            let os_code = error.os_code;
-            let inner = error.completion_code;
-            StateWords {
-                tag: 2,
-                a: codes::category_word(category),
-                b: error.message as u64,
-                c: words::flag_word(quiescent),
-                d: words::option_i32_word(os_code),
-                e: words::option_u32_word(inner),
-                f: words::option_u32_word(completion_code),
-            }
-        }
-        RequestState::Aborted => StateWords {
-            tag: 3,
-            a: 0,
-            b: 0,
-            c: 0,
-            d: 0,
-            e: 0,
-            f: 0,
-        },
+        } => failed_words(error, completion_code, quiescent),
+        RequestState::Aborted => short_words(3, 0, 0, 0),
     }
 }
 

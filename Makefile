@@ -1,0 +1,19 @@
+# make run: proves and runs the program `examples`; make test: the merge gate; make fmt: lays every file out.
+.PHONY: run test fmt oracle
+
+run:
+	rt check examples
+	./target/bin/examples
+
+test:
+	rt fmt --check
+	$(MAKE) --no-print-directory -C host check
+	rt ci
+
+fmt:
+	rt fmt
+	cd host && cargo fmt
+
+# Builds the unchanged Rust and runs it over the recorded scripts.
+oracle:
+	$(MAKE) --no-print-directory -C host oracle

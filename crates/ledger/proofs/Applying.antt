@@ -1,0 +1,36 @@
+-- A change of the row of an id, by what the search and the row's step say. Assumes nothing.
+use Prim.Native.Nat.{ℕ}
+use mathlib.Core.Path.{_≡_, sym, _∙_}
+use lib.ListN.{getD}
+use Rattle.chain.specs.Lists.{foundIn}
+use Rattle.chain.specs.declared.Found.{Found}
+use Rattle.chain.specs.declared.Found.the-variants.{At, Nothing}
+use Rattle.models.specs.Refusals.{validation}
+use Rattle.models.specs.declared.Refusal.{Refusal}
+use Rattle.models.specs.declared.RequestId.{RequestId}
+use Rattle.models.specs.declared.RequestReport.{RequestReport}
+use Rattle.rows.specs.Table.{emptyRow}
+use Rattle.rows.specs.Store.{Store, putIn}
+use Rattle.rows.specs.declared.Row.{Row}
+use Rattle.ledger.specs.Search.{isAt}
+use Rattle.ledger.specs.Rules.{changeRow}
+use Rattle.ledger.specs.Apply.{appliedTo, applyBy, applyAt, applyOf}
+use Rattle.ledger.specs.declared.Applied.the-variants as applied
+use Rattle.ledger.specs.declared.rules.Step.{Step}
+use Rattle.ledger.specs.declared.rules.Step.the-variants as step
+use Rattle.ledger.specs.declared.rules.Change.{Change}
+
+module _ (id : RequestId) (c : Change) (s : Store) (f : Found) (ef : f ≡ foundIn (isAt id) (s .rows)) where
+  pub apply-none : (r : Refusal) → f ≡ Nothing → r ≡ validation 40 → appliedTo (applied.Refused r) s ≡ applyOf id c s
+  unfolding applyOf applyAt
+  apply-none r e er = rw (sym ef ∙ e, er)
+
+  module _ (i : ℕ) (row : Row) (m : Step) (e : f ≡ At i) (er : row ≡ getD (s .rows) i emptyRow) (em : m ≡ changeRow row c) where
+    pub apply-no : (r : Refusal) → m ≡ step.Refused r → appliedTo (applied.Refused r) s ≡ applyOf id c s
+    unfolding applyOf applyAt applyBy
+    apply-no r et = rw (sym ef ∙ e, ← er, ← em, et)
+
+    pub apply-to : (next : Row) (report : RequestReport) (after : Store) → m ≡ step.To next report → after ≡ putIn s i next
+        → appliedTo (applied.Done report) after ≡ applyOf id c s
+    unfolding applyOf applyAt applyBy
+    apply-to next report after et w = rw (sym ef ∙ e, ← er, ← em, et, w)

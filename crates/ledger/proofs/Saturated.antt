@@ -1,0 +1,99 @@
+-- Laws of numbers that stop at the maximum of their w bits, and of the tallies that are such numbers. Assumes nothing.
+use Prim.Native.Nat.{ℕ, _+_, _-_, _^_, _<_, _≤_}
+use mathlib.Core.Path.{_≡_, refl, sym, _∙_}
+use mathlib.Core.Bool.{Bool, true, false, cond, not, _&&_}
+use mathlib.Core.List.{List}
+use native.Mathlib.Omega.{arith}
+use native.Mathlib.Numerals.{add-one}
+use lib.Dec.{ltb}
+use lib.ListN.{length, getD, take}
+use lib.Pow.{pow-pos}
+use lib.Seq.{take-all}
+use borrow.Author.Tests.{lt-ltb, ltb-true, ltb-false, not-true, not-false}
+use Rattle.chain.specs.Lists.{sumBy, only, count}
+use Rattle.chain.proofs.Chain.{caseB}
+use Rattle.chain.proofs.Lists.{sum-suc}
+use Rattle.rows.specs.Table.{emptyRow, isHeld}
+use Rattle.rows.specs.declared.Row.{Row}
+use Rattle.ledger.specs.Tally.{saturate, heldLength, heldCount, heldBytes}
+
+both : (a b : Bool) → (a && b) ≡ true → (a ≡ true) × (b ≡ true)
+both true b e = (refl, e)
+both false b e = (e, cc)
+
+module _ (w : ℕ) where
+  pub saturate-plain : (n : ℕ) → n < 2 ^ w → saturate w n ≡ n
+  unfolding saturate
+  saturate-plain n h = rw (lt-ltb n (2 ^ w) h)
+
+  -- from the maximum on
+  pub saturate-top : (n : ℕ) → 2 ^ w - 1 ≤ n → saturate w n ≡ 2 ^ w - 1
+  unfolding saturate
+  saturate-top n h =
+      caseB (ltb n (2 ^ w)) (λ e. let g : n < 2 ^ w = ltb-true n (2 ^ w) e in rw e (omega arith)) (λ e. rw e)
+
+  -- below the maximum, or at it
+  by-size : {P : Type 0} (n : ℕ) → (n < 2 ^ w → saturate w n ≡ n → P) → (2 ^ w ≤ n → saturate w n ≡ 2 ^ w - 1 → P) → P
+  by-size n a b =
+      caseB (ltb n (2 ^ w)) (λ e. let h = ltb-true n (2 ^ w) e in a h (saturate-plain n h))
+      (λ e. let h = ltb-false n (2 ^ w) e in b h (saturate-top n (omega arith)))
+
+  pub saturate-le : (n : ℕ) → saturate w n ≤ n
+  saturate-le n = by-size n (λ h e. omega arith) (λ h e. omega arith)
+
+  pub saturate-below : (n : ℕ) → saturate w n < 2 ^ w
+  saturate-below n = let z = pow-pos w in by-size n (λ h e. omega arith) (λ h e. omega arith)
+
+  pub saturate-add : (a b : ℕ) → saturate w (saturate w a + b) ≡ saturate w (a + b)
+  saturate-add a b =
+      by-size a (λ h e. rw e)
+      (λ h e. rw e (saturate-top (2 ^ w - 1 + b) (omega arith) ∙ sym (saturate-top (a + b) (omega arith))))
+
+  pub count-plain : (rows : List Row) → count isHeld rows < 2 ^ w → heldCount w rows ≡ count isHeld rows
+  unfolding heldCount
+  count-plain rows h = saturate-plain (count isHeld rows) h
+
+  pub bytes-plain : (rows : List Row) → sumBy heldLength rows < 2 ^ w → heldBytes w rows ≡ sumBy heldLength rows
+  unfolding heldBytes
+  bytes-plain rows h = saturate-plain (sumBy heldLength rows) h
+
+  -- a tally of f that has come to row i of n
+  abbrev pub Tallied : (Row → ℕ) → List Row → ℕ → ℕ → ℕ → Type 0
+  Tallied f l n i total = (n ≡ length l) × (i ≤ n) × (total ≡ saturate w (sumBy f (take i l)))
+
+  pub tally-start : 0 ≡ saturate w 0
+  tally-start = sym (saturate-plain 0 (pow-pos w))
+
+  module _ (f : Row → ℕ) (l : List Row) (n i total : ℕ) where
+    pub tally-on : (next : ℕ) → i < n → n ≡ length l → total ≡ saturate w (sumBy f (take i l)) → next ≡ saturate w (total + f (getD l i emptyRow))
+        → next ≡ saturate w (sumBy f (take (i + 1) l))
+    tally-on next h e t s =
+        s ∙ rw (t, add-one, sum-suc f l i emptyRow (omega arith)) (saturate-add (sumBy f (take i l)) (f (getD l i emptyRow)))
+
+    pub tally-end : n ≤ i → n ≡ length l → total ≡ saturate w (sumBy f (take i l)) → total ≡ saturate w (sumBy f l)
+    tally-end h e t = t ∙ rw (take-all i l (omega arith))
+
+  pub count-on : (l : List Row) (n i total next : ℕ) (held : Bool) → i < n → n ≡ length l → total ≡ saturate w (count isHeld (take i l))
+      → held ≡ isHeld (getD l i emptyRow) → next ≡ saturate w (total + cond held 1 0) → next ≡ saturate w (count isHeld (take (i + 1) l))
+  count-on l n i total next held h e t eh s = tally-on (only isHeld (λ r. 1)) l n i total next h e t (rw eh at s)
+
+  -- one row of a tally: a held row counts for one
+  module _ (total : ℕ) (held : Bool) where
+    pub one-room : (held && ltb total (2 ^ w - 1)) ≡ true → total < 2 ^ w - 1
+    one-room e = ltb-true total (2 ^ w - 1) (both held (ltb total (2 ^ w - 1)) e .1)
+
+    pub one-more : (held && ltb total (2 ^ w - 1)) ≡ true → total + 1 ≡ saturate w (total + cond held 1 0)
+    one-more e = let h = one-room e in rw (both held (ltb total (2 ^ w - 1)) e .0) (sym (saturate-plain (total + 1) (omega arith)))
+
+    pub one-kept : total < 2 ^ w → (held && ltb total (2 ^ w - 1)) ≡ false → total ≡ saturate w (total + cond held 1 0)
+    one-kept g = caseB held
+        (λ y. rw y λ e. let h : 2 ^ w - 1 ≤ total = ltb-false total (2 ^ w - 1) e in omega (arith, saturate-top (total + 1) (omega arith)))
+        (λ y. rw y λ e. omega (arith, saturate-plain (total + 0) (omega arith)))
+
+  -- and its length joins the bytes
+  module _ (total : ℕ) (r : Row) (held : Bool) (e : held ≡ isHeld r) where
+    pub bytes-kept : total < 2 ^ w → not held ≡ true → total ≡ saturate w (total + heldLength r)
+    bytes-kept g h = rw (sym e ∙ not-true held h) (omega (arith, saturate-plain (total + 0) (omega arith)))
+
+    pub bytes-more : (n next : ℕ) → not held ≡ false → n ≡ r .metadata .«requested_length» → next ≡ saturate w (total + n) → next ≡ saturate w (total + heldLength r)
+    bytes-more n next h en es = rw (sym e ∙ not-false held h, ← en) es

@@ -1,0 +1,44 @@
+use Rattle.ledger.proofs.Placing.{found-in}
+use Rattle.ledger.proofs.Applying.{apply-none, apply-no, apply-to}
+use Rattle.rows.specs.Store.{storeOf}
+use borrow.Author.Needs.{needs}
+use Rattle.ledger.proofs.apply.Statement.{statement}
+use Rattle.ledger.proofs.apply.Tie as tie
+
+returns : tie.Need-returns
+unfolding storeOf
+returns c = search apply-none
+
+read-row-requires : tie.Need-read-row-requires
+read-row-requires c κs = search found-in
+
+write-row-requires : tie.Need-write-row-requires
+write-row-requires c κs = search found-in
+
+returns-2 : tie.Need-returns-2
+unfolding storeOf
+returns-2 c = search apply-no
+
+returns-3 : tie.Need-returns-3
+unfolding storeOf
+returns-3 c = search apply-to
+
+pub apply-spec : {M : Type 1} → statement M
+apply-spec =
+    tie.close
+    (tie.spec
+    (λ c κs. search needs)
+    (λ c. search needs)
+    (λ c. search needs)
+    (λ c κs. search needs)
+    (λ c. search needs)
+    returns
+    read-row-requires
+    (λ c κs. search needs)
+    (λ c. search needs)
+    (λ c. search needs)
+    write-row-requires
+    (λ c. search needs)
+    returns-2
+    (λ c. search needs)
+    returns-3)

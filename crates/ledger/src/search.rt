@@ -1,0 +1,77 @@
+// Searches along the columns of the rows.
+use chain::Found;
+use models::RequestId;
+use rows::Row;
+use rows::columns;
+ghost use mathlib.Core.Path.{_≡_};
+ghost use Prim.Native.Nat.{_<_};
+ghost use lib.ListN.{length};
+ghost use Rattle.chain.specs.Lists.{foundIn, anyIn};
+ghost use Rattle.rows.specs.Table.{rowsOf, rowAt, isUncertain};
+ghost use Rattle.ledger.specs.Search.{isAt, isFree};
+
+// The row is a request with the whole id.
+pub fn is_at(row: Row, id: RequestId) -> bool
+    ensures { λ r. ⌜ r ≡ isAt id row ⌝ }
+{
+    let own = row.id;
+    row.used & models::same_request(own, id)
+}
+
+// Row i has the id. Only a row with the id's sequence is read whole.
+fn holds(rows: &[u64], i: usize, id: RequestId) -> bool
+    requires { ⌜ i < length (rowsOf (now rows)) ⌝ }
+    ensures { λ r. ⌜ r ≡ isAt id (rowAt (now (rows .entry)) i) ⌝ }
+{
+    let own = columns::sequence_at(rows, i);
+    if own != id.sequence {
+        return false;
+    }
+    let row = rows::read_row(rows, i);
+    is_at(row, id)
+}
+
+// The row of an id.
+pub fn find(rows: &[u64], id: RequestId) -> Found
+    ensures { λ r. ⌜ r ≡ foundIn (isAt id) (rowsOf (now (rows .entry))) ⌝ }
+{
+    let n = rows::count(rows);
+    let mut i = 0;
+    while i < n {
+        if holds(rows, i, id) {
+            return Found::At(i);
+        }
+        i += 1;
+    }
+    Found::Nothing
+}
+
+// The first row without a request.
+pub fn first_free(rows: &[u64]) -> Found
+    ensures { λ r. ⌜ r ≡ foundIn isFree (rowsOf (now (rows .entry))) ⌝ }
+{
+    let n = rows::count(rows);
+    let mut i = 0;
+    while i < n {
+        if !columns::used_at(rows, i) {
+            return Found::At(i);
+        }
+        i += 1;
+    }
+    Found::Nothing
+}
+
+// Whether a row is Failed and not quiescent.
+pub fn any_uncertain(rows: &[u64]) -> bool
+    ensures { λ r. ⌜ r ≡ anyIn isUncertain (rowsOf (now (rows .entry))) ⌝ }
+{
+    let n = rows::count(rows);
+    let mut i = 0;
+    while i < n {
+        if columns::uncertain_at(rows, i) {
+            return true;
+        }
+        i += 1;
+    }
+    false
+}
