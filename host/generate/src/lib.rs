@@ -1,0 +1,68 @@
+//! Seeded random scripts. The oracle runs in step with the generator, so that
+//! the next call can aim at rows, tokens and states that are really there.
+mod episode;
+mod phase;
+mod poll;
+mod recover;
+mod rng;
+mod settings;
+mod submit;
+mod table;
+mod values;
+mod world;
+
+use oracle::{Oracle, RowView};
+use script::{Answer, Call, Side};
+
+pub use phase::Phase;
+pub use table::Table;
+use world::World;
+
+/// Which calls a script may have.
+#[derive(Debug, Clone, Copy, PartialEq, Eq)]
+pub enum Mix {
+    Default,
+    /// Without abort and reset.
+    NoRecovery,
+}
+
+impl Mix {
+    pub fn from_name(name: &str) -> Option<Self> {
+        match name {
+            "default" => Some(Self::Default),
+            "no-recovery" => Some(Self::NoRecovery),
+            _ => None,
+        }
+    }
+}
+
+pub struct Generator {
+    world: World,
+    oracle: Oracle,
+}
+
+impl Generator {
+    /// With a phase, every call is of that phase.
+    pub fn new(seed: u64, mix: Mix, phase: Option<Phase>) -> Self {
+        Self {
+            world: World::new(seed, mix, phase),
+            oracle: Oracle::new(),
+        }
+    }
+
+    /// The next call, and the oracle's answer to it.
+    pub fn step(&mut self) -> Result<(Call, Answer), String> {
+        let call = self.world.next_call(&self.oracle);
+        let answer = self
+            .oracle
+            .apply(&call)
+            .map_err(|message| format!("{message}, at: {call}"))?;
+        self.world.note(&call, &answer);
+        Ok((call, answer))
+    }
+
+    /// The rows before the latest call.
+    pub fn rows(&self) -> &[RowView] {
+        &self.world.rows
+    }
+}

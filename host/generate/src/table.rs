@@ -1,0 +1,279 @@
+//! How often each refusal and each kind of answer came.
+use std::collections::BTreeMap;
+use std::fmt::{self, Display, Formatter};
+
+use oracle::RowView;
+use script::{Answer, Asked, Call, ControllerState, Outcome, Recovery, RowState};
+
+/// The refusals of document 01's table, by who can meet them.
+const CANNOT_BE_MET: [u16; 3] = [7, 25, 44];
+const NO_RUST_SIDE: [u16; 5] = [1, 2, 3, 49, 53];
+const LAST: u16 = 53;
+
+/// Every kind of report, of question to the backend, and the corners worth a name.
+const KINDS: &[&str] = &[
+    "ok",
+    "row P(0,0)",
+    "row P(0,1)",
+    "row P(1,0)",
+    "row P(1,1)",
+    "row C(_,1,0)",
+    "row C(_,1,1)",
+    "row C(_,13,0)",
+    "row C(_,13,1)",
+    "row F(_,_,0)",
+    "row F(_,_,1)",
+    "row A",
+    "rows, none",
+    "rows, some",
+    "abort ready=0 error=-",
+    "abort ready=0 error=given",
+    "abort ready=1 error=-",
+    "abort ready=1 error=given",
+    "dump",
+    "dump with a recoverable stall",
+    "dump with rev=-",
+    "asked: none",
+    "asked: submit",
+    "asked: submit with packets",
+    "asked: plan",
+    "asked: poll",
+    "asked: abort",
+    "asked: reset",
+    "5 with 128 held",
+    "5 with all 1,024 rows used",
+    "31 after 0 readings",
+    "31 after 1 readings",
+    "31 after 2 readings",
+    "33 after 1 readings",
+    "33 after 2 readings",
+    "34 after 1 readings",
+    "34 after 2 readings",
+    "41 by abort",
+    "41 by reset",
+    "41 by a recovery that keeps earlier entries",
+    "47 by a recovery that keeps earlier entries",
+    "48 by a recovery that keeps earlier entries",
+    "recovery of more than 100 rows",
+    "recovery, ready, that leaves a row of an equal token held",
+    "reset that restores Initialized",
+    "reset, ready, that leaves a row Failed and not quiescent",
+    "reset, ready, that restores nothing",
+    "reset not ready or with an error",
+];
+
+pub struct Table {
+    pub calls: u64,
+    refusals: BTreeMap<u16, u64>,
+    kinds: BTreeMap<String, u64>,
+    corners: BTreeMap<String, u64>,
+    most_held: u64,
+    most_rows: usize,
+    /// State and held rows before the call.
+    state: ControllerState,
+    held: u64,
+}
+
+impl Default for Table {
+    fn default() -> Self {
+        Self {
+            calls: 0,
+            refusals: BTreeMap::new(),
+            kinds: BTreeMap::new(),
+            corners: BTreeMap::new(),
+            most_held: 0,
+            most_rows: 0,
+            state: ControllerState::Closed,
+            held: 0,
+        }
+    }
+}
+
+impl Table {
+    /// Counts a call and its answer; `rows` are those before it.
+    pub fn count(&mut self, call: &Call, answer: &Answer, rows: &[RowView]) {
+        self.calls += 1;
+        self.most_held = self.most_held.max(answer.held);
+        self.most_rows = self.most_rows.max(rows.len());
+        match &answer.outcome {
+            Outcome::Refused { number, error } => {
+                *self.refusals.entry(*number).or_default() += 1;
+                let category = error.category.name();
+                self.refused(call, answer, *number, category, rows.len());
+            }
+            outcome => {
+                *self.kinds.entry(kind(outcome)).or_default() += 1;
+                self.passed(call, answer, rows);
+            }
+        }
+        *self
+            .kinds
+            .entry(format!("asked: {}", asked(&answer.asked)))
+            .or_default() += 1;
+        self.state = answer.state;
+        self.held = answer.held;
+    }
+
+    fn corner(&mut self, name: impl Into<String>) {
+        *self.corners.entry(name.into()).or_default() += 1;
+    }
+
+    fn refused(&mut self, call: &Call, answer: &Answer, number: u16, category: &str, rows: usize) {
+        match number {
+            5 if rows >= 1024 => self.corner("5 with all 1,024 rows used"),
+            5 => self.corner("5 with 128 held"),
+            31 | 33 | 34 => self.corner(format!("{number} after {} readings", answer.reads)),
+            45 => self.corner(format!("45 by {}, category {category}", call.verb())),
+            41 | 47 | 48 => self.corner(format!("{number} by {}", call.verb())),
+            40 => self.corner(format!("40 by {}", call.verb())),
+            _ => {}
+        }
+        if matches!(number, 41 | 47 | 48) && answer.held < self.held {
+            self.corner(format!("{number} by a recovery that keeps earlier entries"));
+        }
+    }
+
+    fn passed(&mut self, call: &Call, answer: &Answer, rows: &[RowView]) {
+        let Outcome::Abort(report) = &answer.outcome else {
+            return;
+        };
+        let affected = rows
+            .iter()
+            .filter(|row| row.held)
+            .filter(|row| row.device == report.device && row.endpoint == report.endpoint)
+            .count();
+        if affected > 100 {
+            self.corner("recovery of more than 100 rows");
+        }
+        let released = report.completed.len() + report.aborted.len();
+        let ready = report.ready && report.error.is_none();
+        if ready && released < affected {
+            self.corner("recovery, ready, that leaves a row of an equal token held");
+        }
+        let reset = matches!(
+            call,
+            Call::Recover {
+                kind: Recovery::Reset { .. },
+                ..
+            }
+        );
+        if reset && self.state == ControllerState::RecoveryRequired {
+            let left =
+                |row: &&RowView| row.held && !row.pending && !report.aborted.contains(&row.id);
+            if ready && rows.iter().any(|row| left(&row)) {
+                self.corner("reset, ready, that leaves a row Failed and not quiescent");
+            }
+            self.corner(match (ready, answer.state) {
+                (true, ControllerState::Initialized) => "reset that restores Initialized",
+                (true, _) => "reset, ready, that restores nothing",
+                (false, _) => "reset not ready or with an error",
+            });
+        }
+    }
+
+    /// The numbers that can be met and were not.
+    pub fn missing(&self) -> Vec<u16> {
+        (1..=LAST)
+            .filter(|number| !CANNOT_BE_MET.contains(number) && !NO_RUST_SIDE.contains(number))
+            .filter(|number| !self.refusals.contains_key(number))
+            .collect()
+    }
+
+    /// The kinds of report and corners that should come and did not.
+    pub fn missing_kinds(&self) -> Vec<&'static str> {
+        let met = |name: &&str| self.kinds.contains_key(*name) || self.corners.contains_key(*name);
+        KINDS.iter().copied().filter(|name| !met(name)).collect()
+    }
+
+    /// The numbers that were met though no opening should lead to them.
+    pub fn unexpected(&self) -> Vec<u16> {
+        let never = CANNOT_BE_MET.iter().chain(&NO_RUST_SIDE);
+        never
+            .filter(|number| self.refusals.contains_key(number))
+            .copied()
+            .collect()
+    }
+}
+
+fn kind(outcome: &Outcome) -> String {
+    match outcome {
+        Outcome::Done => "ok".into(),
+        Outcome::Row(row) => format!("row {}", state_kind(&row.state)),
+        Outcome::Rows(rows) if rows.is_empty() => "rows, none".into(),
+        Outcome::Rows(_) => "rows, some".into(),
+        Outcome::Abort(report) => format!(
+            "abort ready={} error={}",
+            u8::from(report.ready),
+            if report.error.is_some() { "given" } else { "-" }
+        ),
+        Outcome::Dump(dump) if dump.stall.is_some() => "dump with a recoverable stall".into(),
+        Outcome::Dump(dump) if dump.revision.is_none() => "dump with rev=-".into(),
+        Outcome::Dump(_) => "dump".into(),
+        Outcome::Refused { .. } => "refuse".into(),
+    }
+}
+
+fn state_kind(state: &RowState) -> String {
+    match state {
+        RowState::Pending {
+            cancelled,
+            timed_out,
+        } => format!("P({},{})", u8::from(*cancelled), u8::from(*timed_out)),
+        RowState::Completed {
+            code, cancelled, ..
+        } => format!("C(_,{code},{})", u8::from(*cancelled)),
+        RowState::Failed { quiescent, .. } => format!("F(_,_,{})", u8::from(*quiescent)),
+        RowState::Aborted => "A".into(),
+    }
+}
+
+fn asked(asked: &Asked) -> &'static str {
+    match asked {
+        Asked::Nothing => "none",
+        Asked::Submit { packets: None, .. } => "submit",
+        Asked::Submit { .. } => "submit with packets",
+        Asked::Plan { .. } => "plan",
+        Asked::Poll { .. } => "poll",
+        Asked::Abort { .. } => "abort",
+        Asked::Reset { .. } => "reset",
+    }
+}
+
+impl Display for Table {
+    fn fmt(&self, f: &mut Formatter<'_>) -> fmt::Result {
+        writeln!(f, "calls {}", self.calls)?;
+        writeln!(
+            f,
+            "most held {}, most rows {}",
+            self.most_held, self.most_rows
+        )?;
+        writeln!(f, "\nrefusals")?;
+        for number in 1..=LAST {
+            match self.refusals.get(&number) {
+                Some(count) => writeln!(f, "{number:4} {count:8}")?,
+                None => writeln!(f, "{number:4}        - {}", why(number))?,
+            }
+        }
+        writeln!(f, "\nreports and what reached the backend")?;
+        for (name, count) in &self.kinds {
+            writeln!(f, "{count:8}  {name}")?;
+        }
+        writeln!(f, "\ncorners")?;
+        for (name, count) in &self.corners {
+            writeln!(f, "{count:8}  {name}")?;
+        }
+        writeln!(f, "\nrefusals missing: {:?}", self.missing())?;
+        writeln!(f, "refusals unexpected: {:?}", self.unexpected())?;
+        writeln!(f, "kinds missing: {:?}", self.missing_kinds())
+    }
+}
+
+fn why(number: u16) -> &'static str {
+    match number {
+        7 => "never: 6 comes first where rows have 65,536 bytes",
+        25 => "never: 24 comes first",
+        44 => "never: no row is held while Closed, AcquiredUnknown or Closing",
+        _ if NO_RUST_SIDE.contains(&number) => "no Rust side",
+        _ => "NOT MET",
+    }
+}
