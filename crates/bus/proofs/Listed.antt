@@ -1,0 +1,88 @@
+-- The endpoints of a slot: set, and searched by a loop. Assumes nothing.
+use Prim.Native.Nat.{ℕ, _+_, _-_, _*_, _<_, _≤_, min}
+use mathlib.Core.Path.{_≡_, sym, _∙_}
+use mathlib.Core.Bool.{Bool, true, false}
+use mathlib.Core.List.{List, []}
+use native.Mathlib.Omega.{arith}
+use lib.ListN.{length, getD, take, drop, length-take, length-drop, length-map, List·getD-map}
+use lib.Seq.{getD-take, getD-drop}
+use borrow.Author.Tests.{lt-ltb, le-ltb}
+use Rattle.chain.specs.Lists.{find, anyIn}
+use Rattle.chain.proofs.Chain.{takes, passes}
+use Rattle.chain.proofs.Lists.{find-on, find-here}
+use Rattle.words.specs.Records.{part}
+use Rattle.words.proofs.Records.{part-getD, part-length, chunks-at}
+use Rattle.models.specs.Refusals.{validation}
+use Rattle.models.specs.declared.Refusal.{Refusal}
+use Rattle.models.specs.declared.TransferType.{TransferType}
+use Rattle.models.specs.declared.Verdict.the-variants as verdict
+use Rattle.bus.specs.Layout.{listsAt, busWords, endpointOf, endpointsOf}
+use Rattle.bus.specs.Tables.{Bus, busOf, endpointsAt, putEndpoints}
+use Rattle.bus.specs.Ports.{VerdictTo, verdictTo}
+use Rattle.bus.specs.Endpoints.{isEndpoint, setEndpoints}
+
+module _ (slot : ℕ) (e : List ℕ) (b : Bus) where
+  pub endpoints-over : (r : Refusal) → 30 < length e → r ≡ validation 53 → verdictTo (verdict.Refused r) b ≡ setEndpoints slot e b
+  unfolding setEndpoints
+  endpoints-over r h f = takes VerdictTo _ _ _ _ (lt-ltb _ _ h) (rw f)
+
+  pub endpoints-set : (after : Bus) → length e ≤ 30 → after ≡ putEndpoints b slot e → verdictTo verdict.Pass after ≡ setEndpoints slot e b
+  unfolding setEndpoints
+  endpoints-set after h f = passes VerdictTo _ _ _ _ (le-ltb _ _ h) (rw f)
+
+-- what the words of a list say: as many as the count, 30 at the most
+listed-length : (q : List ℕ) → length q ≡ 31 → length (endpointsOf q) ≡ min (getD q 0 0) 30
+unfolding endpointsOf
+listed-length q n =
+    let m : length (take 30 (drop 1 q)) ≡ 30 = length-take 30 (drop 1 q) ∙ rw (length-drop 1 q, n) in
+    length-map (take (getD q 0 0) (take 30 (drop 1 q))) endpointOf ∙ length-take (getD q 0 0) (take 30 (drop 1 q)) ∙ rw m
+
+listed-at : (q : List ℕ) (i : ℕ) → i < getD q 0 0 → i < 30 → getD (endpointsOf q) i (endpointOf 0) ≡ endpointOf (getD q (1 + i) 0)
+unfolding endpointsOf
+listed-at q i h k =
+    List·getD-map endpointOf (take (getD q 0 0) (take 30 (drop 1 q))) i 0
+    ∙ rw (getD-take (getD q 0 0) (take 30 (drop 1 q)) i 0 h, getD-take 30 (drop 1 q) i 0 k, getD-drop 1 q i 0)
+
+-- the list of a slot
+module _ (l : List ℕ) (slot : ℕ) (sized : length l ≡ busWords) (h : slot < 256) where
+  abbrev at : ℕ
+  at = listsAt + slot * 31
+
+  endpoints-are : endpointsAt (busOf l) slot ≡ endpointsOf (part at 31 l)
+  unfolding busOf
+  endpoints-are = chunks-at listsAt 31 endpointsOf 256 l slot [] h
+
+  count-is : getD (part at 31 l) 0 0 ≡ getD l at 0
+  count-is = let z : at + 0 ≡ at = omega arith in rw z at (part-getD 0 at 31 l 0 (omega arith))
+
+  pub endpoints-length : length (endpointsAt (busOf l) slot) ≡ min (getD l at 0) 30
+  endpoints-length = rw (endpoints-are, ← count-is) (listed-length (part at 31 l) (part-length at 31 l (omega arith)))
+
+  endpoint-at : (i : ℕ) → i < min (getD l at 0) 30 → getD (endpointsAt (busOf l) slot) i (endpointOf 0) ≡ endpointOf (getD l (at + 1 + i) 0)
+  endpoint-at i k =
+      let s : at + (1 + i) ≡ at + 1 + i = omega arith in
+      let c = count-is in
+      rw (endpoints-are, listed-at (part at 31 l) i (omega arith) (omega arith), part-getD 0 at 31 l (1 + i) (omega arith), s)
+
+  -- a search that has come to i
+  module _ (address : ℕ) (type : TransferType) (n i : ℕ) (en : n ≡ min (getD l at 0) 30) (on : i ≤ find (isEndpoint address type) (endpointsAt (busOf l) slot)) where
+    module _ (b : Bool) (k : i < n) (eb : b ≡ isEndpoint address type (endpointOf (getD l (at + 1 + i) 0))) where
+      here : b ≡ isEndpoint address type (getD (endpointsAt (busOf l) slot) i (endpointOf 0))
+      here = rw (endpoint-at i (omega arith)) eb
+
+      below : i < length (endpointsAt (busOf l) slot)
+      below = rw endpoints-length (omega arith)
+
+      pub search-on : b ≡ false → i + 1 ≤ find (isEndpoint address type) (endpointsAt (busOf l) slot)
+      search-on f = find-on (isEndpoint address type) (endpointOf 0) (endpointsAt (busOf l) slot) i below on (sym here ∙ f)
+
+      pub search-here : b ≡ true → true ≡ anyIn (isEndpoint address type) (endpointsAt (busOf l) slot)
+      search-here t =
+          let z = find-here (isEndpoint address type) (endpointOf 0) (endpointsAt (busOf l) slot) i below on (sym here ∙ t) in
+          let m = below in
+          sym (lt-ltb (find (isEndpoint address type) (endpointsAt (busOf l) slot)) (length (endpointsAt (busOf l) slot)) (omega arith))
+
+    pub search-none : n ≤ i → false ≡ anyIn (isEndpoint address type) (endpointsAt (busOf l) slot)
+    search-none k =
+        let m = endpoints-length in
+        sym (le-ltb (find (isEndpoint address type) (endpointsAt (busOf l) slot)) (length (endpointsAt (busOf l) slot)) (omega arith))

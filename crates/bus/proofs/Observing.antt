@@ -1,0 +1,173 @@
+-- One law for each way out of the functions on ports: its premises are the facts in hand there. Assumes nothing.
+use Prim.Native.Nat.{ℕ, zero, suc, _+_, _-_, _<_, _≤_}
+use mathlib.Core.Path.{_≡_, refl, sym, ap, _∙_}
+use mathlib.Core.Bool.{Bool, true, false, not, _||_, Bool·beq}
+use native.Mathlib.Omega.{arith}
+use lib.Dec.{eqb, ltb}
+use borrow.Author.Tests.{eq-eqb, ne-eqb}
+use Rattle.chain.specs.Chain.{_if_else_}
+use Rattle.chain.proofs.Chain.{caseB, takes, passes, eq-not, ne-not}
+use Rattle.words.specs.declared.OptionU32.{OptionU32}
+use Rattle.words.specs.declared.OptionU32.the-variants as u32
+use Rattle.models.specs.Refusals.{validation, fromBackend}
+use Rattle.models.specs.declared.OperationError.{OperationError}
+use Rattle.models.specs.declared.OptionPorts.{OptionPorts}
+use Rattle.models.specs.declared.OptionPorts.the-variants as ports
+use Rattle.models.specs.declared.PortId.{PortId}
+use Rattle.models.specs.declared.PortReading.{PortReading}
+use Rattle.models.specs.declared.PortReading.the-variants.{Word, Error}
+use Rattle.models.specs.declared.Ports.{Ports}
+use Rattle.models.specs.declared.Refusal.{Refusal}
+use Rattle.models.specs.declared.Verdict.the-variants as verdict
+use Rattle.standards.specs.Ports.{portConnected}
+use Rattle.bus.specs.Tables.{Bus, portAt, putPort}
+use Rattle.bus.specs.Ports.{portIndex, verdictTo, setPortAt, setPort, readingOf, isSession, validatedRow, validatedAt, validated, raised, observedBy, observedRow, observedTo, observePortBy, observePort, freshTo, freshObserved, freshWord, freshReading, freshBy, freshPort}
+use Rattle.bus.specs.declared.PortRow.{PortRow}
+use Rattle.bus.specs.declared.ports.PortIndex.{PortIndex}
+use Rattle.bus.specs.declared.ports.PortIndex.the-variants as index
+use Rattle.bus.specs.declared.ports.PortChecked.{PortChecked}
+use Rattle.bus.specs.declared.ports.PortChecked.the-variants as checked
+use Rattle.bus.specs.declared.ports.Observed.{Observed}
+use Rattle.bus.specs.declared.ports.Observed.the-variants as observed
+
+-- the row of a port number
+module _ (o : OptionPorts) (number : ℕ) where
+  pub index-none : (r : Refusal) → o ≡ ports.None → r ≡ validation 29 → index.Refused r ≡ portIndex o number
+  unfolding portIndex
+  index-none r e f = rw (e, f)
+
+  module _ (p : Ports) (e : o ≡ ports.Some p) where
+    pub index-out : (r : Refusal) → (eqb number 0 || ltb (p .count) number) ≡ true → r ≡ validation 30 → index.Refused r ≡ portIndex o number
+    unfolding portIndex
+    index-out r t f = rw (e, f) (takes PortIndex _ _ _ _ t refl)
+
+    pub index-in : (eqb number 0 || ltb (p .count) number) ≡ false → index.At (number - 1) ≡ portIndex o number
+    unfolding portIndex
+    index-in t = rw e (passes PortIndex _ _ _ _ t refl)
+
+-- a row stands only for a number from 1 on, and that of a byte is inside
+pub not-zero : (n : ℕ) (t : Bool) → (eqb n 0 || t) ≡ false → 1 ≤ n
+not-zero zero t = λ e. let z : _≡_ {A = ℕ} 0 1 = cc in absurd (omega arith)
+not-zero (suc n) t = λ e. omega arith
+
+below : (o : OptionPorts) (number i : ℕ) → number < 256 → portIndex o number ≡ index.At i → i < 255
+unfolding portIndex _if_else_
+below ports.None number i h = λ e. let z : _≡_ {A = ℕ} 0 1 = cc in absurd (omega arith)
+below (ports.Some p) number i h =
+    caseB (eqb number 0 || ltb (p .count) number) (λ t. rw t λ e. let z : _≡_ {A = ℕ} 0 1 = cc in absurd (omega arith))
+    (λ t. rw t λ e. let z : number - 1 ≡ i = cc in omega arith)
+
+pub index-below : (o : OptionPorts) (number i : ℕ) (x : PortIndex) → number < 256 → x ≡ portIndex o number → x ≡ index.At i → i < 255
+index-below o number i x h e f = below o number i h (sym e ∙ f)
+
+-- the session and the reading
+pub session-is : (o : OptionPorts) (p : Ports) (session : ℕ) → o ≡ ports.Some p → eqb session (p .session) ≡ isSession o session
+session-is o p session e = rw e
+
+pub reading-none : (o : OptionU32) (r : Refusal) → o ≡ u32.None → r ≡ validation 32 → checked.Refused r ≡ readingOf o
+unfolding readingOf
+reading-none o r e f = rw (e, f)
+
+pub reading-some : (o : OptionU32) (raw : ℕ) → o ≡ u32.Some raw → checked.Read raw ≡ readingOf o
+unfolding readingOf
+reading-some o raw e = rw e
+
+-- an id against its row
+module _ (o : OptionPorts) (id : PortId) where
+  module _ (row : PortRow) (same : Bool) (s : same ≡ isSession o (id .session)) where
+    pub row-stale : (r : Refusal) → (not same || not (eqb (id .generation) (row .generation))) ≡ true → r ≡ validation 31
+        → checked.Refused r ≡ validatedRow o id row
+    unfolding validatedRow
+    row-stale r t f = takes PortChecked _ _ _ _ (rw s at t) (ap checked.Refused f)
+
+    pub row-read : (v : PortChecked) → (not same || not (eqb (id .generation) (row .generation))) ≡ false → v ≡ readingOf (row .reading)
+        → v ≡ validatedRow o id row
+    unfolding validatedRow
+    row-read v t f = passes PortChecked _ _ _ _ (rw s at t) f
+
+  module _ (b : Bus) (x : PortIndex) (e : x ≡ portIndex o (id .number)) where
+    pub validated-out : (r : Refusal) → x ≡ index.Refused r → checked.Refused r ≡ validated o id b
+    unfolding validated validatedAt
+    validated-out r f = rw (← e, f)
+
+    pub validated-in : (i : ℕ) (row : PortRow) (v : PortChecked) → x ≡ index.At i → row ≡ portAt b i → v ≡ validatedRow o id row → v ≡ validated o id b
+    unfolding validated validatedAt
+    validated-in i row v f g h = h ∙ rw (← e, f, g)
+
+-- a row put, whatever its old words
+module _ (o : OptionPorts) (number : ℕ) (row : PortRow) (b : Bus) (x : PortIndex) (e : x ≡ portIndex o number) where
+  pub set-out : (r : Refusal) → x ≡ index.Refused r → verdictTo (verdict.Refused r) b ≡ setPort o number row b
+  unfolding setPort setPortAt
+  set-out r f = rw (← e, f)
+
+  pub set-in : (i : ℕ) (after : Bus) → x ≡ index.At i → after ≡ putPort b i row → verdictTo verdict.Pass after ≡ setPort o number row b
+  unfolding setPort setPortAt
+  set-in i after f g = rw (← e, f, g)
+
+-- a row after a reading
+module _ (row : PortRow) (raw : ℕ) where
+  pub raise-full : (r : Refusal) → row .generation ≡ 18446744073709551615 → r ≡ validation 34 → observed.Refused r ≡ raised row raw
+  unfolding raised
+  raise-full r e f = takes Observed _ _ _ _ (eq-eqb _ _ e) (ap observed.Refused f)
+
+  pub raise-on : (row .generation ≡ 18446744073709551615 → ⊥)
+      → observed.To (record { generation = row .generation + 1; reading = u32.Some raw }) ≡ raised row raw
+  unfolding raised
+  raise-on e = passes Observed _ _ _ _ (ne-eqb _ _ e) refl
+
+  pub observed-first : row .reading ≡ u32.None → observed.To (record { generation = row .generation; reading = u32.Some raw }) ≡ observedRow row raw
+  unfolding observedRow observedBy
+  observed-first e = rw e
+
+  module _ (old : ℕ) (s t : Bool) (e : row .reading ≡ u32.Some old) (es : s ≡ portConnected old) (et : t ≡ portConnected raw) where
+    pub observed-changed : (v : Observed) → not (Bool·beq s t) ≡ true → v ≡ raised row raw → v ≡ observedRow row raw
+    unfolding observedRow observedBy
+    observed-changed v h f = takes Observed _ _ _ _ (rw (es, et) at h) f ∙ sym (ap (λ (o : OptionU32). observedBy o row raw) e)
+
+    pub observed-kept : not (Bool·beq s t) ≡ false → observed.To (record { generation = row .generation; reading = u32.Some raw }) ≡ observedRow row raw
+    unfolding observedRow observedBy
+    observed-kept h = passes Observed _ _ _ _ (rw (es, et) at h) refl ∙ sym (ap (λ (o : OptionU32). observedBy o row raw) e)
+
+module _ (i raw : ℕ) (b : Bus) (row : PortRow) (v : Observed) (e : row ≡ portAt b i) (f : v ≡ observedRow row raw) where
+  pub observe-full : (r : Refusal) → v ≡ observed.Refused r → observedTo (observed.Refused r) b ≡ observePort i raw b
+  unfolding observePort observePortBy
+  observe-full r g = rw (← e, ← f, g)
+
+  pub observe-on : (w : PortRow) (after : Bus) → v ≡ observed.To w → after ≡ putPort b i w → observedTo (observed.To w) after ≡ observePort i raw b
+  unfolding observePort observePortBy
+  observe-on w after g h = rw (← e, ← f, g, h)
+
+-- a fresh reading
+module _ (id : PortId) (raw i : ℕ) (b after : Bus) (v : Observed) (e : i ≡ id .number - 1) (f : observedTo v after ≡ observePort i raw b) where
+  pub fresh-full : (r : Refusal) → v ≡ observed.Refused r → freshTo (checked.Refused r) after ≡ freshWord raw id b
+  unfolding freshWord freshObserved
+  fresh-full r g = rw (← e, ← f, g)
+
+  module _ (w : PortRow) (g : v ≡ observed.To w) where
+    pub fresh-stale : (r : Refusal) → (id .generation ≡ w .generation → ⊥) → r ≡ validation 31 → freshTo (checked.Refused r) after ≡ freshWord raw id b
+    unfolding freshWord freshObserved
+    fresh-stale r ne h = rw (← e, ← f, g) (ap (λ (c : PortChecked). freshTo c after) (takes PortChecked _ _ _ _ (ne-not _ _ ne) (ap checked.Refused h)))
+
+    pub fresh-on : id .generation ≡ w .generation → freshTo (checked.Read raw) after ≡ freshWord raw id b
+    unfolding freshWord freshObserved
+    fresh-on h = rw (← e, ← f, g) (ap (λ (c : PortChecked). freshTo c after) (passes PortChecked _ _ _ _ (eq-not _ _ h) refl))
+
+module _ (id : PortId) (b : Bus) (reading : PortReading) where
+  pub reading-failed : (x : OperationError) (r : Refusal) → reading ≡ Error x → r ≡ fromBackend 33 x → freshTo (checked.Refused r) b ≡ freshReading reading id b
+  unfolding freshReading
+  reading-failed x r e f = rw (e, f)
+
+  pub reading-word : (raw : ℕ) (v : PortChecked) (after : Bus) → reading ≡ Word raw → freshTo v after ≡ freshWord raw id b
+      → freshTo v after ≡ freshReading reading id b
+  unfolding freshReading
+  reading-word raw v after e f = f ∙ rw e
+
+  module _ (o : OptionPorts) (v : PortChecked) (e : v ≡ validated o id b) where
+    pub fresh-out : (r : Refusal) → v ≡ checked.Refused r → freshTo v b ≡ freshPort o id reading b
+    unfolding freshPort freshBy
+    fresh-out r f = rw (← e, f)
+
+    pub fresh-in : (raw : ℕ) (w : PortChecked) (after : Bus) → v ≡ checked.Read raw → freshTo w after ≡ freshReading reading id b
+        → freshTo w after ≡ freshPort o id reading b
+    unfolding freshPort freshBy
+    fresh-in raw w after f g = g ∙ rw (← e, f)

@@ -1,0 +1,203 @@
+-- The four tables of the bus: what a row reads, and one row put, which keeps the other tables. Assumes nothing.
+use Prim.Native.Nat.{ℕ, suc, _+_, _-_, _*_, _<_, _≤_}
+use mathlib.Core.Path.{_≡_, refl, sym, ap, _∙_}
+use mathlib.Core.Bool.{Bool, false}
+use mathlib.Core.List.{List, [], _∷_, _++_, map, append-assoc}
+use mathlib.Core.Logic.{_⊎_, inl, inr}
+use native.Mathlib.Omega.{arith}
+use native.Mathlib.Numerals.{add-one}
+use lib.ListN.{length, getD, set, take, drop, length-append, length-drop, length-set, take-append-drop}
+use lib.Seq.{take-all, take-at, take-take, take-suc-set, drop-set-lt, drop-drop, drop-append-le}
+use Rattle.words.specs.Words.{flagOf, flagWord, optionU32Of, optionU32Word}
+use Rattle.words.specs.Records.{splice, part, chunks}
+use Rattle.words.specs.declared.OptionU32.{OptionU32}
+use Rattle.words.proofs.Records.{part-getD, part-length, splice-length, splice-set, length-chunks, chunks-at, chunks-put, chunks-kept}
+use Rattle.models.specs.declared.DeviceSnapshot.{DeviceSnapshot}
+use Rattle.models.specs.declared.OptionDevice.{OptionDevice}
+use Rattle.models.specs.declared.OptionDevice.the-variants as device
+use Rattle.bus.specs.Layout.{devicesAt, listsAt, marksAt, busWords, portOf, portRecord, deviceOf, deviceRecord, endpointOf, endpointsOf, markOf}
+use Rattle.bus.specs.Tables.{Bus, busOf, newPort, portAt, deviceAt, markAt, putPort, putDevice, putEndpoints, putMark}
+use Rattle.bus.specs.declared.PortRow.{PortRow}
+
+-- words put inside one table keep each other table
+module _ (l : List ℕ) (at : ℕ) (p : List ℕ) (sized : length l ≡ busWords) (fits : at + length p ≤ busWords) where
+  keeps-ports : devicesAt ≤ at → busOf (splice at p l) .ports ≡ busOf l .ports
+  unfolding busOf
+  keeps-ports h = chunks-kept 0 2 portOf 255 l at p (omega arith) (inr h)
+
+  keeps-devices : (at + length p ≤ devicesAt) ⊎ (listsAt ≤ at) → busOf (splice at p l) .devices ≡ busOf l .devices
+  unfolding busOf
+  keeps-devices h = chunks-kept devicesAt 8 deviceOf 256 l at p (omega arith) h
+
+  keeps-lists : (at + length p ≤ listsAt) ⊎ (marksAt ≤ at) → busOf (splice at p l) .lists ≡ busOf l .lists
+  unfolding busOf
+  keeps-lists h = chunks-kept listsAt 31 endpointsOf 256 l at p (omega arith) h
+
+  keeps-marks : at + length p ≤ marksAt → busOf (splice at p l) .marks ≡ busOf l .marks
+  unfolding busOf
+  keeps-marks h = chunks-kept marksAt 1 markOf 256 l at p (omega arith) (inl h)
+
+-- a port row
+pub port-is : (l : List ℕ) (i : ℕ) (r : OptionU32) → i < 255 → r ≡ optionU32Of (getD l (i * 2 + 1) 0)
+    → _≡_ {A = PortRow} (record { generation = getD l (i * 2) 0; reading = r }) (portAt (busOf l) i)
+unfolding busOf
+port-is l i r h e =
+    let z : 0 + i * 2 ≡ i * 2 = omega arith in
+    let z0 : i * 2 + 0 ≡ i * 2 = omega arith in
+    rw (chunks-at 0 2 portOf 255 l i newPort h, e, z, part-getD 0 (i * 2) 2 l 0 (omega arith), part-getD 0 (i * 2) 2 l 1 (omega arith), z0)
+
+pub put-port : (l x : List ℕ) (i w : ℕ) (r : PortRow) → length l ≡ busWords → i < 255 → optionU32Of w ≡ r .reading → w ≡ optionU32Word (r .reading)
+    → x ≡ splice (i * 2) (r .generation ∷ w ∷ []) l → busOf x ≡ putPort (busOf l) i r
+unfolding busOf putPort
+put-port l x i w r sized h e f ex =
+    let p : List ℕ = r .generation ∷ w ∷ [] in
+    let fits : i * 2 + 2 ≤ devicesAt = omega arith in
+    let row : portOf p ≡ r = ap (λ (o : OptionU32). record { generation = r .generation; reading = o }) e in
+    let z : 0 + i * 2 ≡ i * 2 = omega arith in
+    let rows = rw z at (chunks-put 0 2 portOf 255 l i p h (omega arith) refl) in
+    rw (
+      ex,
+      keeps-devices l (i * 2) p sized (omega arith) (inl fits),
+      keeps-lists l (i * 2) p sized (omega arith) (inl (omega arith)),
+      keeps-marks l (i * 2) p sized (omega arith) (omega arith),
+      rows,
+      row,
+      f,
+    )
+
+-- a device row
+pub device-is : (l : List ℕ) (slot : ℕ) (r : OptionDevice) → slot < 256
+    → r ≡ deviceOf (take (devicesAt + slot * 8 + 8 - (devicesAt + slot * 8)) (drop (devicesAt + slot * 8) l)) → r ≡ deviceAt (busOf l) slot
+unfolding busOf part
+device-is l slot r h e =
+    let w : devicesAt + slot * 8 + 8 - (devicesAt + slot * 8) ≡ 8 = omega arith in
+    e ∙ rw (w, chunks-at devicesAt 8 deviceOf 256 l slot device.None h)
+
+record-length : (d : DeviceSnapshot) → length (deviceRecord d) ≡ 8
+unfolding deviceRecord
+record-length d = refl
+
+pub put-device : (l x w : List ℕ) (d : DeviceSnapshot) → length l ≡ busWords → d .id .slot < 256 → deviceOf w ≡ device.Some d → w ≡ deviceRecord d
+    → x ≡ splice (devicesAt + d .id .slot * 8) (take 8 w) l → busOf x ≡ putDevice (busOf l) d
+unfolding busOf putDevice
+put-device l x w d sized h e f ex =
+    let at : ℕ = devicesAt + d .id .slot * 8 in
+    let n : length w ≡ 8 = ap length f ∙ record-length d in
+    let y : x ≡ splice at w l = ex ∙ rw (take-all 8 w (omega arith)) in
+    let rows = chunks-put devicesAt 8 deviceOf 256 l (d .id .slot) w h (omega arith) n in
+    rw (
+      y,
+      keeps-ports l at w sized (omega arith) (omega arith),
+      keeps-lists l at w sized (omega arith) (inl (omega arith)),
+      keeps-marks l at w sized (omega arith) (omega arith),
+      rows,
+      e,
+      f,
+    )
+
+-- a mark
+pub mark-is : (l : List ℕ) (slot : ℕ) (r : Bool) → slot < 256 → r ≡ flagOf (getD l (marksAt + slot) 0) → r ≡ markAt (busOf l) slot
+unfolding busOf
+mark-is l slot r h e =
+    let z : marksAt + slot * 1 + 0 ≡ marksAt + slot = omega arith in
+    e ∙ rw (chunks-at marksAt 1 markOf 256 l slot false h, part-getD 0 (marksAt + slot * 1) 1 l 0 (omega arith), z)
+
+pub put-mark : (l : List ℕ) (slot w : ℕ) (m : Bool) → length l ≡ busWords → slot < 256 → flagOf w ≡ m → w ≡ flagWord m
+    → busOf (set l (marksAt + slot) w) ≡ putMark (busOf l) slot m
+unfolding busOf putMark
+put-mark l slot w m sized h e f =
+    let at : ℕ = marksAt + slot in
+    let p : List ℕ = w ∷ [] in
+    let z : marksAt + slot * 1 ≡ at = omega arith in
+    let y : set l at w ≡ splice at p l = sym (splice-set at w l (omega arith)) in
+    let rows = rw z at (chunks-put marksAt 1 markOf 256 l slot p h (omega arith) refl) in
+    rw (
+      y,
+      keeps-ports l at p sized (omega arith) (omega arith),
+      keeps-devices l at p sized (omega arith) (inr (omega arith)),
+      keeps-lists l at p sized (omega arith) (inr (omega arith)),
+      rows,
+      e,
+      f,
+      splice-set at (flagWord m) l (omega arith),
+    )
+
+-- a word stored, then words after it
+pub store-copy : (at n : ℕ) (e l : List ℕ) → at < length l → splice (at + 1) e (set l at n) ≡ splice at (n ∷ e) l
+unfolding splice
+store-copy at n e l h =
+    let z : at + 1 + length e ≡ at + suc (length e) = omega arith in
+    rw (drop-set-lt (at + 1 + length e) l at n (omega arith), z, add-one, take-suc-set l at n h) (append-assoc (take at l) (n ∷ []) (e ++ drop (at + suc (length e)) l))
+
+-- the record of w words at `at`, once p stands at its start
+abbrev fronted : ℕ → ℕ → List ℕ → List ℕ → List ℕ
+fronted at w p l = p ++ drop (length p) (part at w l)
+
+module _ (at w : ℕ) (p l : List ℕ) (less : length p ≤ w) (fits : at + w ≤ length l) where
+  fronted-length : length (fronted at w p l) ≡ w
+  fronted-length = simp (length-append, length-drop, part-length at w l fits) (omega arith)
+
+  splice-front : splice at p l ≡ splice at (fronted at w p l) l
+  unfolding splice part
+  splice-front =
+      let q = take w (drop at l) in
+      let n : length q ≡ w = part-length at w l fits in
+      let a : drop (length p) (drop at l) ≡ drop (length p) q ++ drop w (drop at l) =
+      ap (drop (length p)) (sym (take-append-drop w (drop at l))) ∙ drop-append-le (length p) q (drop w (drop at l)) (omega arith) in
+      rw (fronted-length, ← drop-drop (length p) at l, a, drop-drop w at l) (ap (λ (r : List ℕ). take at l ++ r) (sym (append-assoc p (drop (length p) q) (drop (at + w) l))))
+
+-- a list of endpoints
+listed : (e r : List ℕ) → length e ≤ 30 → endpointsOf ((length e ∷ e) ++ r) ≡ map endpointOf e
+unfolding endpointsOf
+listed e r h = rw (take-take (length e) 30 (e ++ r) h, take-at e r (length e) refl)
+
+pub put-endpoints : (l x : List ℕ) (slot : ℕ) (e : List ℕ) → length l ≡ busWords → slot < 256 → length e ≤ 30
+    → x ≡ splice (listsAt + slot * 31 + 1) (take (length e) e) (set l (listsAt + slot * 31) (length e)) → busOf x ≡ putEndpoints (busOf l) slot e
+unfolding busOf putEndpoints
+put-endpoints l x slot e sized h few ex =
+    let at : ℕ = listsAt + slot * 31 in
+    let p : List ℕ = length e ∷ e in
+    let q = fronted at 31 p l in
+    let n : length q ≡ 31 = fronted-length at 31 p l (omega arith) (omega arith) in
+    let y : x ≡ splice at p l = ex ∙ rw (take-all (length e) e (omega arith)) (store-copy at (length e) e l (omega arith)) in
+    let z : splice at p l ≡ splice at q l = splice-front at 31 p l (omega arith) (omega arith) in
+    let row : endpointsOf q ≡ map endpointOf e = listed e (drop (length p) (part at 31 l)) few in
+    let rows = ap (chunks listsAt 31 endpointsOf 256) z ∙ chunks-put listsAt 31 endpointsOf 256 l slot q h (omega arith) n in
+    rw (
+      y,
+      keeps-ports l at p sized (omega arith) (omega arith),
+      keeps-devices l at p sized (omega arith) (inr (omega arith)),
+      keeps-marks l at p sized (omega arith) (omega arith),
+      rows,
+      row,
+    )
+
+-- a put keeps the number of words
+pub put-port-length : (b : Bus) (i : ℕ) (r : PortRow) → length (b .words) ≡ busWords → i < 255 → length (putPort b i r .words) ≡ length (b .words)
+unfolding putPort
+put-port-length b i r sized h = splice-length (i * 2) (portRecord r) (b .words) (omega arith)
+
+pub put-device-length : (b : Bus) (d : DeviceSnapshot) → length (b .words) ≡ busWords → d .id .slot < 256 → length (putDevice b d .words) ≡ length (b .words)
+unfolding putDevice
+put-device-length b d sized h =
+    let n = record-length d in
+    splice-length (devicesAt + d .id .slot * 8) (deviceRecord d) (b .words) (omega arith)
+
+pub put-endpoints-length : (b : Bus) (slot : ℕ) (e : List ℕ) → length (b .words) ≡ busWords → slot < 256 → length e ≤ 30
+    → length (putEndpoints b slot e .words) ≡ length (b .words)
+unfolding putEndpoints
+put-endpoints-length b slot e sized h few = splice-length (listsAt + slot * 31) (length e ∷ e) (b .words) (omega arith)
+
+pub put-mark-length : (b : Bus) (slot : ℕ) (m : Bool) → length (putMark b slot m .words) ≡ length (b .words)
+unfolding putMark
+put-mark-length b slot m = length-set (b .words) (marksAt + slot) (flagWord m)
+
+-- the words of a bus, and how many rows its tables have
+pub words-of : (l : List ℕ) → busOf l .words ≡ l
+unfolding busOf
+words-of l = refl
+
+pub row-counts : (l : List ℕ) → (length (busOf l .ports) ≡ 255) × (length (busOf l .devices) ≡ 256) × (length (busOf l .lists) ≡ 256) × (length (busOf l .marks) ≡ 256)
+unfolding busOf
+row-counts l =
+    (length-chunks 0 2 portOf 255 l, length-chunks devicesAt 8 deviceOf 256 l, length-chunks listsAt 31 endpointsOf 256 l, length-chunks marksAt 1 markOf 256 l)

@@ -1,0 +1,25 @@
+use Rattle.bus.proofs.Observing.{index-below, set-in, set-out}
+use borrow.Author.Needs.{needs}
+use Rattle.bus.proofs.ports.set_port.Statement.{statement}
+use Rattle.bus.proofs.ports.set_port.Tie as tie
+
+write-port-requires : tie.Need-write-port-requires
+write-port-requires c κs = (search needs, search index-below)
+
+returns : tie.Need-returns
+returns c = search set-out
+
+returns-2 : tie.Need-returns-2
+returns-2 c = search set-in
+
+pub set-port-spec : {M : Type 1} → statement M
+set-port-spec =
+    tie.close
+    (tie.spec
+    (λ c κs. search needs)
+    (λ c. search needs)
+    (λ c. search needs)
+    write-port-requires
+    returns
+    (λ c. search needs)
+    returns-2)

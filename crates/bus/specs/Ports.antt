@@ -1,0 +1,129 @@
+-- Ports (document 01, "Port row", and the places placing and device of its table). Assumes nothing.
+use Prim.Native.Nat.{ℕ, _+_, _-_, _^_}
+use mathlib.Core.Bool.{Bool, false, not, _||_, Bool·beq}
+use lib.Dec.{eqb, ltb}
+use Rattle.chain.specs.Chain.{_if_else_}
+use Rattle.words.specs.declared.OptionU32.{OptionU32}
+use Rattle.words.specs.declared.OptionU32.the-variants as u32
+use Rattle.models.specs.Refusals.{validation, fromBackend}
+use Rattle.models.specs.declared.OptionPorts.{OptionPorts}
+use Rattle.models.specs.declared.OptionPorts.the-variants as ports
+use Rattle.models.specs.declared.PortId.{PortId}
+use Rattle.models.specs.declared.PortReading.{PortReading}
+use Rattle.models.specs.declared.PortReading.the-variants.{Word, Error}
+use Rattle.models.specs.declared.Verdict.{Verdict}
+use Rattle.models.specs.declared.Verdict.the-variants as verdict
+use Rattle.standards.specs.Ports.{portConnected}
+use Rattle.bus.specs.Tables.{Bus, portAt, putPort}
+use Rattle.bus.specs.declared.PortRow.{PortRow}
+use Rattle.bus.specs.declared.ports.PortIndex.{PortIndex}
+use Rattle.bus.specs.declared.ports.PortIndex.the-variants as index
+use Rattle.bus.specs.declared.ports.PortChecked.{PortChecked}
+use Rattle.bus.specs.declared.ports.PortChecked.the-variants as checked
+use Rattle.bus.specs.declared.ports.Observed.{Observed}
+use Rattle.bus.specs.declared.ports.Observed.the-variants as observed
+
+-- 29: no ports; 30: the number is 0 or above the count
+unfoldable pub portIndex : OptionPorts → ℕ → PortIndex
+portIndex ports.None number = index.Refused (validation 29)
+portIndex (ports.Some p) number = index.Refused (validation 30) if eqb number 0 || ltb (p .count) number else index.At (number - 1)
+
+-- a verdict and the bus after it
+pub record VerdictTo : Type 0 where
+  pub answer : Verdict
+  pub bus : Bus
+
+abbrev pub verdictTo : Verdict → Bus → VerdictTo
+verdictTo v b = record { answer = v; bus = b }
+
+unfoldable pub setPortAt : PortIndex → PortRow → Bus → VerdictTo
+setPortAt (index.Refused r) row b = verdictTo (verdict.Refused r) b
+setPortAt (index.At i) row b = verdictTo verdict.Pass (putPort b i row)
+
+unfoldable pub setPort : OptionPorts → ℕ → PortRow → Bus → VerdictTo
+setPort ports number row b = setPortAt (portIndex ports number) row b
+
+-- 32: no reading
+unfoldable pub readingOf : OptionU32 → PortChecked
+readingOf u32.None = checked.Refused (validation 32)
+readingOf (u32.Some raw) = checked.Read raw
+
+-- the session number that port ids carry is the opening's
+abbrev pub isSession : OptionPorts → ℕ → Bool
+isSession ports.None session = false
+isSession (ports.Some p) session = eqb session (p .session)
+
+-- 31: another session than the opening's, or another generation than the row's
+unfoldable pub validatedRow : OptionPorts → PortId → PortRow → PortChecked
+validatedRow ports id row =
+    checked.Refused (validation 31) if not (isSession ports (id .session)) || not (eqb (id .generation) (row .generation)) else
+    readingOf (row .reading)
+
+unfoldable pub validatedAt : PortIndex → OptionPorts → PortId → Bus → PortChecked
+validatedAt (index.Refused r) ports id b = checked.Refused r
+validatedAt (index.At i) ports id b = validatedRow ports id (portAt b i)
+
+-- 29, 30, 31, 32
+unfoldable pub validated : OptionPorts → PortId → Bus → PortChecked
+validated ports id b = validatedAt (portIndex ports (id .number)) ports id b
+
+-- if the reading's connected bit differs from the row's, the generation rises by one; 34: it is at its maximum
+unfoldable pub raised : PortRow → ℕ → Observed
+raised row raw =
+    observed.Refused (validation 34) if eqb (row .generation) (2 ^ 64 - 1) else
+    observed.To (record { generation = row .generation + 1; reading = u32.Some raw })
+
+unfoldable pub observedBy : OptionU32 → PortRow → ℕ → Observed
+observedBy u32.None row raw = observed.To (record { generation = row .generation; reading = u32.Some raw })
+observedBy (u32.Some old) row raw =
+    raised row raw if not (Bool·beq (portConnected old) (portConnected raw)) else
+    observed.To (record { generation = row .generation; reading = u32.Some raw })
+
+unfoldable pub observedRow : PortRow → ℕ → Observed
+observedRow row raw = observedBy (row .reading) row raw
+
+-- a row after a reading, and the bus after it
+pub record ObservedTo : Type 0 where
+  pub answer : Observed
+  pub bus : Bus
+
+abbrev pub observedTo : Observed → Bus → ObservedTo
+observedTo o b = record { answer = o; bus = b }
+
+unfoldable pub observePortBy : Observed → ℕ → Bus → ObservedTo
+observePortBy (observed.Refused r) i b = observedTo (observed.Refused r) b
+observePortBy (observed.To row) i b = observedTo (observed.To row) (putPort b i row)
+
+unfoldable pub observePort : ℕ → ℕ → Bus → ObservedTo
+observePort i raw b = observePortBy (observedRow (portAt b i) raw) i b
+
+-- a port with a fresh reading, and the bus after it
+pub record FreshTo : Type 0 where
+  pub answer : PortChecked
+  pub bus : Bus
+
+abbrev pub freshTo : PortChecked → Bus → FreshTo
+freshTo c b = record { answer = c; bus = b }
+
+-- 31 again, with the row written
+unfoldable pub freshObserved : Observed → PortId → ℕ → PortChecked
+freshObserved (observed.Refused r) id raw = checked.Refused r
+freshObserved (observed.To row) id raw = checked.Refused (validation 31) if not (eqb (id .generation) (row .generation)) else checked.Read raw
+
+-- 34 with nothing written, or the row written
+unfoldable pub freshWord : ℕ → PortId → Bus → FreshTo
+freshWord raw id b =
+    freshTo (freshObserved (observePort (id .number - 1) raw b .answer) id raw) (observePort (id .number - 1) raw b .bus)
+
+-- 33: the reading failed, with the backend's error
+unfoldable pub freshReading : PortReading → PortId → Bus → FreshTo
+freshReading (Error e) id b = freshTo (checked.Refused (fromBackend 33 e)) b
+freshReading (Word raw) id b = freshWord raw id b
+
+unfoldable pub freshBy : PortChecked → PortReading → PortId → Bus → FreshTo
+freshBy (checked.Refused r) reading id b = freshTo (checked.Refused r) b
+freshBy (checked.Read raw) reading id b = freshReading reading id b
+
+-- 29, 30, 31, 32, then 33, 34, and 31 again
+unfoldable pub freshPort : OptionPorts → PortId → PortReading → Bus → FreshTo
+freshPort ports id reading b = freshBy (validated ports id b) reading id b

@@ -1,0 +1,100 @@
+-- The bus: its words and the tables that they say, and one row of a table put. Assumes nothing.
+use Prim.Native.Nat.{ℕ, zero, suc, _+_, _-_, _*_}
+use mathlib.Core.Bool.{Bool, false}
+use mathlib.Core.List.{List, [], _∷_, _++_, map}
+use lib.ListN.{length, getD, set, replicate}
+use Rattle.words.specs.Words.{flagWord}
+use Rattle.words.specs.Records.{splice, chunks}
+use Rattle.words.specs.declared.OptionU32.the-variants as u32
+use Rattle.models.specs.declared.DeviceSnapshot.{DeviceSnapshot}
+use Rattle.models.specs.declared.OptionDevice.{OptionDevice}
+use Rattle.models.specs.declared.OptionDevice.the-variants as device
+use Rattle.models.specs.declared.EndpointSnapshot.{EndpointSnapshot}
+use Rattle.bus.specs.Layout.{portWords, deviceWords, listWords, devicesAt, listsAt, marksAt, busWords, portOf, portRecord, deviceOf, deviceRecord, endpointOf, endpointsOf, markOf}
+use Rattle.bus.specs.declared.PortRow.{PortRow}
+
+pub record Bus : Type 0 where
+  pub words : List ℕ
+  pub ports : List PortRow
+  pub devices : List OptionDevice
+  pub lists : List (List EndpointSnapshot)
+  pub marks : List Bool
+
+unfoldable pub busOf : List ℕ → Bus
+busOf l = record {
+  words = l;
+  ports = chunks 0 portWords portOf 255 l;
+  devices = chunks devicesAt deviceWords deviceOf 256 l;
+  lists = chunks listsAt listWords endpointsOf 256 l;
+  marks = chunks marksAt 1 markOf 256 l;
+}
+
+-- a port at opening
+abbrev pub newPort : PortRow
+newPort = record { generation = 1; reading = u32.None }
+
+-- row i of each table
+abbrev pub portAt : Bus → ℕ → PortRow
+portAt b i = getD (b .ports) i newPort
+
+abbrev pub deviceAt : Bus → ℕ → OptionDevice
+deviceAt b slot = getD (b .devices) slot device.None
+
+abbrev pub endpointsAt : Bus → ℕ → List EndpointSnapshot
+endpointsAt b slot = getD (b .lists) slot []
+
+abbrev pub markAt : Bus → ℕ → Bool
+markAt b slot = getD (b .marks) slot false
+
+unfoldable pub putPort : Bus → ℕ → PortRow → Bus
+putPort b i r = record {
+  words = splice (i * portWords) (portRecord r) (b .words);
+  ports = set (b .ports) i r;
+  devices = b .devices;
+  lists = b .lists;
+  marks = b .marks;
+}
+
+-- the device takes the place of its slot's
+unfoldable pub putDevice : Bus → DeviceSnapshot → Bus
+putDevice b d = record {
+  words = splice (devicesAt + d .id .slot * deviceWords) (deviceRecord d) (b .words);
+  ports = b .ports;
+  devices = set (b .devices) (d .id .slot) (device.Some d);
+  lists = b .lists;
+  marks = b .marks;
+}
+
+-- the words l take the place of the slot's list: the count, then as many words; later words stay, and are not read
+unfoldable pub putEndpoints : Bus → ℕ → List ℕ → Bus
+putEndpoints b slot l = record {
+  words = splice (listsAt + slot * listWords) (length l ∷ l) (b .words);
+  ports = b .ports;
+  devices = b .devices;
+  lists = set (b .lists) slot (map endpointOf l);
+  marks = b .marks;
+}
+
+unfoldable pub putMark : Bus → ℕ → Bool → Bus
+putMark b slot m = record {
+  words = set (b .words) (marksAt + slot) (flagWord m);
+  ports = b .ports;
+  devices = b .devices;
+  lists = b .lists;
+  marks = set (b .marks) slot m;
+}
+
+-- the words of n ports at opening
+abbrev pub newPorts : ℕ → List ℕ
+newPorts zero = []
+newPorts (suc n) = 1 ∷ 0 ∷ newPorts n
+
+-- at opening: every device absent, every list empty, every mark clear, every port of generation 1 and without a reading
+unfoldable pub cleared : Bus
+cleared = record {
+  words = newPorts 255 ++ replicate (busWords - devicesAt) 0;
+  ports = replicate 255 newPort;
+  devices = replicate 256 device.None;
+  lists = replicate 256 [];
+  marks = replicate 256 false;
+}

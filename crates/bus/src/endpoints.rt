@@ -1,0 +1,69 @@
+// The endpoints of a slot, one word each: the address in the low 8 bits, the transfer type above them.
+use crate::ENDPOINTS;
+use models::TransferType;
+use models::Verdict;
+use models::codes;
+use models::kinds;
+use words::slices;
+ghost use mathlib.Core.Path.{_≡_};
+ghost use Prim.Native.Nat.{_≤_, min};
+ghost use lib.ListN.{length};
+ghost use Rattle.chain.specs.Lists.{anyIn};
+ghost use Rattle.bus.specs.Layout.{busWords, endpointOf};
+ghost use Rattle.bus.specs.Tables.{busOf, endpointsAt, putEndpoints};
+ghost use Rattle.bus.specs.Ports.{verdictTo};
+ghost use Rattle.bus.specs.Endpoints.{isEndpoint, setEndpoints};
+
+fn write_endpoints(bus: &mut [u64], slot: u8, list: &[u64])
+    requires { ⌜ (length (now bus) ≡ busWords) × (length (now list) ≤ 30) ⌝ }
+    ensures { λ _. ⌜ busOf (now (bus .exit)) ≡ putEndpoints (busOf (now (bus .entry))) slot (now (list .entry)) ⌝ }
+{
+    let at = ENDPOINTS + slot as usize * 31;
+    let n = list.len();
+    bus[at] = n as u64;
+    slices::copy_words(bus, at + 1, list, n);
+}
+
+// The list takes the place of the slot's; 53: it has more than 30.
+pub fn set_endpoints(bus: &mut [u64], slot: u8, list: &[u64]) -> Verdict
+    requires { ⌜ length (now bus) ≡ busWords ⌝ }
+    ensures { λ r. ⌜ verdictTo r (busOf (now (bus .exit))) ≡ setEndpoints slot (now (list .entry)) (busOf (now (bus .entry))) ⌝ }
+{
+    if list.len() > 30 {
+        return Verdict::Refused(models::refuse_validation(53));
+    }
+    write_endpoints(bus, slot, list);
+    Verdict::Pass
+}
+
+// The word is an endpoint with this address and type.
+fn is_endpoint(word: u64, address: u8, transfer_type: TransferType) -> bool
+    ensures { λ r. ⌜ r ≡ isEndpoint address «transfer_type» (endpointOf word) ⌝ }
+{
+    let own = codes::to_transfer(word / 256);
+    let same = kinds::same_transfer(own, transfer_type);
+    (word % 256 == address as u64) & same
+}
+
+fn up_to_30(n: u64) -> usize
+    ensures { λ r. ⌜ r ≡ min n 30 ⌝ }
+{
+    if n < 30 { n as usize } else { 30 }
+}
+
+pub fn has_endpoint(bus: &[u64], slot: u8, address: u8, transfer_type: TransferType) -> bool
+    requires { ⌜ length (now bus) ≡ busWords ⌝ }
+    ensures { λ r. ⌜ r ≡ anyIn (isEndpoint address «transfer_type») (endpointsAt (busOf (now (bus .entry))) slot) ⌝ }
+{
+    let at = ENDPOINTS + slot as usize * 31;
+    let n = up_to_30(bus[at]);
+    let first = at + 1;
+    let mut i = 0;
+    while i < n {
+        if is_endpoint(bus[first + i], address, transfer_type) {
+            return true;
+        }
+        i += 1;
+    }
+    false
+}

@@ -1,0 +1,234 @@
+// Root ports: the Rust's `Ports`.
+use crate::PortRow;
+use models::OptionPorts;
+use models::PortId;
+use models::PortReading;
+use models::Refusal;
+use models::Verdict;
+use standards::ports::port_connected;
+use words::OptionU32;
+use words::slices;
+ghost use mathlib.Core.Path.{_≡_};
+ghost use Prim.Native.Nat.{_-_, _<_};
+ghost use lib.ListN.{length};
+ghost use Rattle.bus.specs.Layout.{busWords};
+ghost use Rattle.bus.specs.Tables.{busOf, portAt, putPort};
+ghost use Rattle.bus.specs.Ports.{portIndex, verdictTo, setPort, readingOf, isSession, validatedRow, validated, raised, observedRow, observedTo, observePort, freshTo, freshWord, freshReading, freshPort};
+
+// The row of a port number.
+pub enum PortIndex {
+    Refused(Refusal),
+    At(usize),
+}
+
+// A port that was validated, with its reading.
+pub enum PortChecked {
+    Refused(Refusal),
+    Read(u32),
+}
+
+// A row after a reading.
+pub enum Observed {
+    Refused(Refusal),
+    To(PortRow),
+}
+
+pub fn read_port(bus: &[u64], i: usize) -> PortRow
+    requires { ⌜ (length (now bus) ≡ busWords) × (i < 255) ⌝ }
+    ensures { λ r. ⌜ r ≡ portAt (busOf (now (bus .entry))) i ⌝ }
+{
+    let at = i * 2;
+    let reading = words::to_option_u32(bus[at + 1]);
+    PortRow {
+        generation: bus[at],
+        reading,
+    }
+}
+
+pub fn write_port(bus: &mut [u64], i: usize, row: PortRow)
+    requires { ⌜ (length (now bus) ≡ busWords) × (i < 255) ⌝ }
+    ensures { λ _. ⌜ busOf (now (bus .exit)) ≡ putPort (busOf (now (bus .entry))) i row ⌝ }
+{
+    let reading = row.reading;
+    let w = [row.generation, words::option_u32_word(reading)];
+    slices::copy_words(bus, i * 2, &w, 2);
+}
+
+// 29: no ports; 30: the number is 0 or above the count.
+pub fn port_index(ports: OptionPorts, number: u8) -> PortIndex
+    ensures { λ r. ⌜ r ≡ portIndex ports number ⌝ }
+{
+    let OptionPorts::Some(p) = ports else {
+        return PortIndex::Refused(models::refuse_validation(29));
+    };
+    if (number == 0) | (number > p.count) {
+        return PortIndex::Refused(models::refuse_validation(30));
+    }
+    PortIndex::At((number - 1) as usize)
+}
+
+// Puts a port row, whatever its old words.
+pub fn set_port(bus: &mut [u64], ports: OptionPorts, number: u8, row: PortRow) -> Verdict
+    requires { ⌜ length (now bus) ≡ busWords ⌝ }
+    ensures { λ r. ⌜ verdictTo r (busOf (now (bus .exit))) ≡ setPort ports number row (busOf (now (bus .entry))) ⌝ }
+{
+    let index = port_index(ports, number);
+    match index {
+        PortIndex::Refused(refusal) => Verdict::Refused(refusal),
+        PortIndex::At(i) => {
+            write_port(bus, i, row);
+            Verdict::Pass
+        }
+    }
+}
+
+// The session number that port ids carry is the opening's.
+fn is_session(ports: OptionPorts, session: u64) -> bool
+    ensures { λ r. ⌜ r ≡ isSession ports session ⌝ }
+{
+    let OptionPorts::Some(p) = ports else {
+        return false;
+    };
+    session == p.session
+}
+
+// 32: no reading.
+fn reading_of(reading: OptionU32) -> PortChecked
+    ensures { λ r. ⌜ r ≡ readingOf reading ⌝ }
+{
+    let OptionU32::Some(raw) = reading else {
+        return PortChecked::Refused(models::refuse_validation(32));
+    };
+    PortChecked::Read(raw)
+}
+
+// 31: another session or generation.
+fn validate_row(ports: OptionPorts, id: PortId, row: PortRow) -> PortChecked
+    ensures { λ r. ⌜ r ≡ validatedRow ports id row ⌝ }
+{
+    let same = is_session(ports, id.session);
+    if !same | (id.generation != row.generation) {
+        return PortChecked::Refused(models::refuse_validation(31));
+    }
+    let reading = row.reading;
+    reading_of(reading)
+}
+
+// 29, 30, 31, 32.
+pub fn validate(bus: &[u64], ports: OptionPorts, id: PortId) -> PortChecked
+    requires { ⌜ length (now bus) ≡ busWords ⌝ }
+    ensures { λ r. ⌜ r ≡ validated ports id (busOf (now (bus .entry))) ⌝ }
+{
+    let index = port_index(ports, id.number);
+    match index {
+        PortIndex::Refused(refusal) => PortChecked::Refused(refusal),
+        PortIndex::At(i) => {
+            let row = read_port(bus, i);
+            validate_row(ports, id, row)
+        }
+    }
+}
+
+// The row with the reading and its generation, raised by one; 34: it is at its maximum.
+fn raise(row: PortRow, raw: u32) -> Observed
+    ensures { λ r. ⌜ r ≡ raised row raw ⌝ }
+{
+    if row.generation == 18446744073709551615 {
+        return Observed::Refused(models::refuse_validation(34));
+    }
+    Observed::To(PortRow {
+        generation: row.generation + 1,
+        reading: OptionU32::Some(raw),
+    })
+}
+
+// A reading whose connected bit differs from the row's raises the generation.
+pub fn observe_row(row: PortRow, raw: u32) -> Observed
+    ensures { λ r. ⌜ r ≡ observedRow row raw ⌝ }
+{
+    let next = PortRow {
+        generation: row.generation,
+        reading: OptionU32::Some(raw),
+    };
+    let reading = row.reading;
+    let OptionU32::Some(old) = reading else {
+        return Observed::To(next);
+    };
+    if port_connected(old) != port_connected(raw) {
+        return raise(row, raw);
+    }
+    Observed::To(next)
+}
+
+// Observes port row i, and writes it unless 34.
+pub fn observe(bus: &mut [u64], i: usize, raw: u32) -> Observed
+    requires { ⌜ (length (now bus) ≡ busWords) × (i < 255) ⌝ }
+    ensures { λ r. ⌜ observedTo r (busOf (now (bus .exit))) ≡ observePort i raw (busOf (now (bus .entry))) ⌝ }
+{
+    let row = read_port(bus, i);
+    let next = observe_row(row, raw);
+    match next {
+        Observed::Refused(refusal) => Observed::Refused(refusal),
+        Observed::To(written) => {
+            write_port(bus, i, written);
+            Observed::To(written)
+        }
+    }
+}
+
+// The row of a port number, which is not 0 where it was validated.
+fn row_of(number: u8) -> usize
+    ensures { λ r. ⌜ (r ≡ number - 1) × (r < 255) ⌝ }
+{
+    if number == 0 {
+        0
+    } else {
+        (number - 1) as usize
+    }
+}
+
+// 34 with nothing written, or 31 again with the row written.
+fn observe_word(bus: &mut [u64], id: PortId, raw: u32) -> PortChecked
+    requires { ⌜ length (now bus) ≡ busWords ⌝ }
+    ensures { λ r. ⌜ freshTo r (busOf (now (bus .exit))) ≡ freshWord raw id (busOf (now (bus .entry))) ⌝ }
+{
+    let i = row_of(id.number);
+    let next = observe(bus, i, raw);
+    match next {
+        Observed::Refused(refusal) => PortChecked::Refused(refusal),
+        Observed::To(row) => {
+            if id.generation != row.generation {
+                return PortChecked::Refused(models::refuse_validation(31));
+            }
+            PortChecked::Read(raw)
+        }
+    }
+}
+
+// 33, 34, and 31 again.
+fn observe_reading(bus: &mut [u64], id: PortId, reading: PortReading) -> PortChecked
+    requires { ⌜ length (now bus) ≡ busWords ⌝ }
+    ensures { λ r. ⌜ freshTo r (busOf (now (bus .exit))) ≡ freshReading reading id (busOf (now (bus .entry))) ⌝ }
+{
+    match reading {
+        PortReading::Error(error) => PortChecked::Refused(models::refuse_backend(33, error)),
+        PortReading::Word(raw) => observe_word(bus, id, raw),
+    }
+}
+
+// Validates the id, takes a reading (33), observes it (34), and validates the id again (31).
+pub fn fresh_port(
+    bus: &mut [u64],
+    ports: OptionPorts,
+    id: PortId,
+    reading: PortReading,
+) -> PortChecked
+    requires { ⌜ length (now bus) ≡ busWords ⌝ }
+    ensures { λ r. ⌜ freshTo r (busOf (now (bus .exit))) ≡ freshPort ports id reading (busOf (now (bus .entry))) ⌝ }
+{
+    let checked = validate(bus, ports, id);
+    let PortChecked::Read(_) = checked else {
+        return checked;
+    };
+    observe_reading(bus, id, reading)
+}
