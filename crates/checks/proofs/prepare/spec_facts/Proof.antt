@@ -1,0 +1,23 @@
+-- `checks::prepare::spec_facts` meets its contract: each field is what its call ensures. Assumes nothing.
+use borrow.Author.Needs.{needs}
+use Rattle.checks.proofs.prepare.spec_facts.Statement.{statement}
+use Rattle.checks.proofs.prepare.spec_facts.Tie as tie
+
+pub spec-facts-spec : {M : Type 1} → statement M
+spec-facts-spec =
+    tie.close
+    (tie.spec
+    (λ c κs. search needs)
+    (λ c κs. search needs)
+    (λ c κs. search needs)
+    (λ c κs. search needs)
+    (λ c κs. search needs)
+    (λ c κs. search needs)
+    (λ c κs. search needs)
+    (λ c κs. search needs)
+    (λ c κs. search needs)
+    (λ c. search needs)
+    (λ c κs. search needs)
+    (λ c κs. search needs)
+    (λ c κs. search needs)
+    (λ c. cc))

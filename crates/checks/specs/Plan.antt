@@ -1,0 +1,124 @@
+-- The place plan of document 01's table, in its order. Assumes nothing.
+use Prim.Native.Nat.{ℕ}
+use mathlib.Core.Bool.{Bool, true, false, not, _&&_, _||_, Bool·beq}
+use lib.Dec.{eqb, ltb}
+use Rattle.chain.specs.Chain.{_if_else_}
+use Rattle.models.specs.Kinds.{isIn}
+use Rattle.models.specs.declared.ControlPlan.{ControlPlan}
+use Rattle.models.specs.declared.ControlProfile.{ControlProfile}
+use Rattle.models.specs.declared.ControlProfile.the-variants.{Compliant, DeviceCompatibility}
+use Rattle.models.specs.declared.DataStage.{DataStage}
+use Rattle.models.specs.declared.Direction.{Direction}
+use Rattle.models.specs.declared.Direction.the-variants.{In}
+use Rattle.models.specs.declared.OptionDirection.{OptionDirection}
+use Rattle.models.specs.declared.OptionDirection.the-variants as direction
+use Rattle.models.specs.declared.OptionSetup.the-variants as setup
+use Rattle.models.specs.declared.OptionStage.{OptionStage}
+use Rattle.models.specs.declared.OptionStage.the-variants as stage
+use Rattle.models.specs.declared.TransferType.the-variants.{Control}
+use Rattle.models.specs.declared.Verdict.{Verdict}
+use Rattle.models.specs.declared.Verdict.the-variants as verdict
+use Rattle.standards.specs.Setup.{requestDirection, requestKind, recipientOf}
+use Rattle.checks.specs.Verdicts.{rejected, unsupportedBy}
+use Rattle.checks.specs.declared.plan.PlanFacts.{PlanFacts}
+use Rattle.checks.specs.declared.plan.ValidatedControlPlan.{ValidatedControlPlan}
+use Rattle.checks.specs.declared.plan.Planned.{Planned}
+use Rattle.checks.specs.declared.plan.Planned.the-variants as answer
+
+abbrev pub hasStatus : OptionDirection → Bool
+hasStatus direction.None = false
+hasStatus (direction.Some d) = true
+
+-- the status direction; In, which no check looks at, where there is none
+abbrev pub statusOf : OptionDirection → Direction
+statusOf direction.None = In
+statusOf (direction.Some d) = d
+
+abbrev pub isCompliant : ControlProfile → Bool
+isCompliant Compliant = true
+isCompliant DeviceCompatibility = false
+
+abbrev pub hasStage : OptionStage → Bool
+hasStage stage.None = false
+hasStage (stage.Some s) = true
+
+-- no data stage means length 0 in the SETUP's direction
+abbrev pub stageOf : OptionStage → ℕ → DataStage
+stageOf stage.None type = record { direction = requestDirection type; length = 0 }
+stageOf (stage.Some s) type = s
+
+-- what the checks look at, of the plan q with m bytes of data, where a row of the store has `row` bytes
+abbrev pub planFacts : ControlPlan → ℕ → ℕ → PlanFacts
+planFacts q m row = record {
+  «has_status» = hasStatus (q .«status_direction»);
+  «status_in» = isIn (statusOf (q .«status_direction»));
+  «request_type» = q .setup .«request_type»;
+  request = q .setup .request;
+  recipient = recipientOf (q .setup .«request_type»);
+  kind = requestKind (q .setup .«request_type»);
+  «setup_in» = isIn (requestDirection (q .setup .«request_type»));
+  «setup_length» = q .setup .length;
+  compliant = isCompliant (q .profile);
+  «has_stage» = hasStage (q .«data_stage»);
+  inward = isIn (stageOf (q .«data_stage») (q .setup .«request_type») .direction);
+  length = stageOf (q .«data_stage») (q .setup .«request_type») .length;
+  «data_length» = m;
+  «row_bytes» = row;
+}
+
+-- all: 24 data; 25 payload without stage
+unfoldable pub payloadChecked : PlanFacts → Verdict
+payloadChecked v =
+    rejected 24 if v .inward && not (eqb (v .«data_length») 0) || not (v .inward) && not (eqb (v .«data_length») (v .length)) else
+    rejected 25 if not (v .«has_stage») && not (eqb (v .«data_length») 0) else
+    verdict.Pass
+
+-- Compliant: 21U as 13; 22 stages; 23 status, which is OUT after a non-empty IN stage, else IN
+unfoldable pub stagesChecked : PlanFacts → Verdict
+stagesChecked v =
+    unsupportedBy 21 if ltb 3 (v .recipient) || eqb (v .kind) 3 else
+    rejected 22
+    if not (eqb (v .length) (v .«setup_length»)) || not (Bool·beq (v .«has_stage») (not (eqb (v .«setup_length») 0))) || not (Bool·beq (v .inward) (v .«setup_in»))
+    else
+    rejected 23 if Bool·beq (v .«status_in») (ltb 0 (v .length) && v .inward) else
+    payloadChecked v
+
+-- 6; 7
+unfoldable pub sizeChecked : PlanFacts → Verdict
+sizeChecked v =
+    unsupportedBy 6 if ltb 65536 (v .length) else
+    rejected 7 if ltb (v .«row_bytes») (v .length) else
+    stagesChecked v if v .compliant else
+    payloadChecked v
+
+-- 18U no status; 19U type 0 request 5; 20U type 0 request 9 or type 1 request 11
+unfoldable pub planChecked : PlanFacts → Verdict
+planChecked v =
+    unsupportedBy 18 if not (v .«has_status») else
+    unsupportedBy 19 if eqb (v .«request_type») 0 && eqb (v .request) 5 else
+    unsupportedBy 20 if eqb (v .«request_type») 0 && eqb (v .request) 9 || eqb (v .«request_type») 1 && eqb (v .request) 11 else
+    sizeChecked v
+
+-- document 01's validated plan
+abbrev pub planOf : ControlPlan → ValidatedControlPlan
+planOf q = record {
+  metadata = record {
+    device = q .device;
+    endpoint = 0;
+    «transfer_type» = Control;
+    direction = stageOf (q .«data_stage») (q .setup .«request_type») .direction;
+    «requested_length» = stageOf (q .«data_stage») (q .setup .«request_type») .length;
+    setup = setup.Some (q .setup);
+  };
+  «has_data» = hasStage (q .«data_stage»);
+  «data_direction» = stageOf (q .«data_stage») (q .setup .«request_type») .direction;
+  «status_direction» = statusOf (q .«status_direction»);
+  profile = q .profile;
+}
+
+unfoldable pub plannedBy : Verdict → ControlPlan → Planned
+plannedBy (verdict.Refused r) q = answer.Refused r
+plannedBy verdict.Pass q = answer.Ready (planOf q)
+
+unfoldable pub planned : ControlPlan → ℕ → ℕ → Planned
+planned q m row = plannedBy (planChecked (planFacts q m row)) q

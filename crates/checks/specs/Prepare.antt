@@ -1,0 +1,99 @@
+-- The place prepare of document 01's table, in its order. Assumes nothing.
+use Prim.Native.Nat.{ℕ}
+use mathlib.Core.Bool.{Bool, true, false, not, _&&_, _||_, Bool·beq}
+use lib.Dec.{eqb, ltb}
+use Rattle.chain.specs.Chain.{_if_else_}
+use Rattle.models.specs.Kinds.{isIn, isControl}
+use Rattle.models.specs.declared.OptionSetup.{OptionSetup}
+use Rattle.models.specs.declared.OptionSetup.the-variants as setup
+use Rattle.models.specs.declared.RequestMetadata.{RequestMetadata}
+use Rattle.models.specs.declared.RequestSpec.{RequestSpec}
+use Rattle.models.specs.declared.SetupPacket.{SetupPacket}
+use Rattle.models.specs.declared.Verdict.{Verdict}
+use Rattle.models.specs.declared.Verdict.the-variants as verdict
+use Rattle.standards.specs.Setup.{requestDirection, requestKind, recipientOf, endpointNumber, endpointReserved, endpointDirection}
+use Rattle.checks.specs.Verdicts.{rejected, unsupportedBy}
+use Rattle.checks.specs.declared.prepare.SpecFacts.{SpecFacts}
+use Rattle.checks.specs.declared.prepare.Prepared.{Prepared}
+use Rattle.checks.specs.declared.prepare.Prepared.the-variants as answer
+
+abbrev pub hasSetup : OptionSetup → Bool
+hasSetup setup.None = false
+hasSetup (setup.Some p) = true
+
+-- the packet, or one of zeros, which no check looks at
+abbrev pub packetOf : OptionSetup → SetupPacket
+packetOf setup.None = record { «request_type» = 0; request = 0; value = 0; index = 0; length = 0 }
+packetOf (setup.Some p) = p
+
+-- what the checks look at, of the request q with m bytes of data, where a row of the store has `row` bytes
+abbrev pub specFacts : RequestSpec → ℕ → ℕ → SpecFacts
+specFacts q m row = record {
+  length = q .length;
+  «row_bytes» = row;
+  «data_length» = m;
+  control = isControl (q .«transfer_type»);
+  inward = isIn (q .direction);
+  endpoint = q .endpoint;
+  reserved = endpointReserved (q .endpoint);
+  number = endpointNumber (q .endpoint);
+  «endpoint_in» = isIn (endpointDirection (q .endpoint));
+  «has_setup» = hasSetup (q .setup);
+  «setup_length» = packetOf (q .setup) .length;
+  «setup_in» = isIn (requestDirection (packetOf (q .setup) .«request_type»));
+  recipient = recipientOf (packetOf (q .setup) .«request_type»);
+  kind = requestKind (packetOf (q .setup) .«request_type»);
+  request = packetOf (q .setup) .request;
+}
+
+-- all: 17 data
+unfoldable pub dataChecked : SpecFacts → Verdict
+dataChecked v =
+    rejected 17 if v .inward && not (eqb (v .«data_length») 0) || not (v .inward) && not (eqb (v .«data_length») (v .length)) else
+    verdict.Pass
+
+-- control: 9 endpoint not 0 or over 65,535; 10 no SETUP; 11U lengths differ; 12 direction; 13U recipient over 3 or type 3;
+-- 14U standard type with request 5, 9, 11
+unfoldable pub controlChecked : SpecFacts → Verdict
+controlChecked v =
+    rejected 9 if not (eqb (v .endpoint) 0) || ltb 65535 (v .length) else
+    rejected 10 if not (v .«has_setup») else
+    unsupportedBy 11 if not (eqb (v .«setup_length») (v .length)) else
+    rejected 12 if not (Bool·beq (v .«setup_in») (v .inward)) else
+    unsupportedBy 13 if ltb 3 (v .recipient) || eqb (v .kind) 3 else
+    unsupportedBy 14 if eqb (v .kind) 0 && (eqb (v .request) 5 || eqb (v .request) 9 || eqb (v .request) 11) else
+    dataChecked v
+
+-- else: 15 endpoint number 0 or SETUP given; 16 direction
+unfoldable pub otherChecked : SpecFacts → Verdict
+otherChecked v =
+    rejected 15 if eqb (v .number) 0 || v .«has_setup» else
+    rejected 16 if not (Bool·beq (v .«endpoint_in») (v .inward)) else
+    dataChecked v
+
+-- 6U over 65,536; 7 over the store's row; 8 endpoint bits 4 to 6
+unfoldable pub specChecked : SpecFacts → Verdict
+specChecked v =
+    unsupportedBy 6 if ltb 65536 (v .length) else
+    rejected 7 if ltb (v .«row_bytes») (v .length) else
+    rejected 8 if not (eqb (v .reserved) 0) else
+    controlChecked v if v .control else
+    otherChecked v
+
+-- document 01's prepared request
+abbrev pub metadataOf : RequestSpec → RequestMetadata
+metadataOf q = record {
+  device = q .device;
+  endpoint = q .endpoint;
+  «transfer_type» = q .«transfer_type»;
+  direction = q .direction;
+  «requested_length» = q .length;
+  setup = q .setup;
+}
+
+unfoldable pub preparedBy : Verdict → RequestSpec → Prepared
+preparedBy (verdict.Refused r) q = answer.Refused r
+preparedBy verdict.Pass q = answer.Ready (metadataOf q)
+
+unfoldable pub prepared : RequestSpec → ℕ → ℕ → Prepared
+prepared q m row = preparedBy (specChecked (specFacts q m row)) q
