@@ -1,0 +1,129 @@
+-- Opening, acquire, initialise and close (document 01, "Session"). Assumes nothing.
+use Prim.Native.Nat.{ℕ}
+use mathlib.Core.Bool.{Bool, not, cond}
+use Rattle.chain.specs.Chain.{_if_else_}
+use Rattle.words.specs.declared.OptionU64.{OptionU64}
+use Rattle.words.specs.declared.OptionU64.the-variants as u64
+use Rattle.models.specs.Refusals.{validation, fromBackend}
+use Rattle.models.specs.declared.ControllerState.the-variants.{Closed, AcquiredUnknown, Initialized, RecoveryRequired}
+use Rattle.models.specs.declared.OperationError.{OperationError}
+use Rattle.models.specs.declared.OptionError.{OptionError}
+use Rattle.models.specs.declared.OptionError.the-variants as error
+use Rattle.models.specs.declared.OptionPorts.{OptionPorts}
+use Rattle.models.specs.declared.OptionPorts.the-variants as ports
+use Rattle.models.specs.declared.Refusal.{Refusal}
+use Rattle.models.specs.declared.Verdict.the-variants as verdict
+use Rattle.rows.specs.Store.{Store, emptied}
+use Rattle.bus.specs.Tables.{Bus, cleared}
+use Rattle.session.specs.Session.{isClosed, isAcquired, isBusy, raised, withState, marked}
+use Rattle.session.specs.declared.Called.{Called}
+use Rattle.session.specs.declared.Session.{Session}
+use Rattle.session.specs.declared.OptionStall.the-variants as stall
+use Rattle.session.specs.declared.InFlight.the-variants as flight
+use Rattle.session.specs.declared.lifecycle.Opening.{Opening}
+use Rattle.session.specs.declared.lifecycle.Opened.{Opened}
+use Rattle.session.specs.declared.lifecycle.Opened.the-variants as opened
+use Rattle.session.specs.declared.lifecycle.AcquireReply.{AcquireReply}
+use Rattle.session.specs.declared.lifecycle.AcquireReply.the-variants as acquire
+
+abbrev pub refusedBy : Session → Refusal → Called
+refusedBy s r = record { answer = verdict.Refused r; session = s }
+
+abbrev pub passed : Session → Called
+passed s = record { answer = verdict.Pass; session = s }
+
+-- port ids carry the opening's session number
+abbrev pub portsOf : Opening → OptionPorts
+portsOf o = cond (o .«has_ports») (ports.Some (record { session = o .session; count = o .«port_count» })) ports.None
+
+abbrev pub newSession : Opening → Session
+newSession o = record {
+  number = o .session;
+  generation = 0;
+  «next_sequence» = o .«first_sequence»;
+  ports = portsOf o;
+  state = Closed;
+  «recovery_revision» = o .«recovery_revision»;
+  «recoverable_stall» = stall.None;
+  «in_flight» = flight.Nothing;
+  «row_count» = o .«row_count»;
+  «row_bytes» = o .«row_bytes»;
+}
+
+-- an opening's answer, and the store and the bus after it
+pub record OpenedTo : Type 0 where
+  pub answer : Opened
+  pub store : Store
+  pub bus : Bus
+
+abbrev pub openedTo : Opened → Store → Bus → OpenedTo
+openedTo a s b = record { answer = a; store = s; bus = b }
+
+-- 3: a size is wrong; else every row free and the bus as at opening, whatever they held
+unfoldable pub openOf : Bool → Opening → Store → Bus → OpenedTo
+openOf fits o s b = openedTo (opened.Refused (validation 3)) s b if not fits else openedTo (opened.Open (newSession o)) (emptied s) cleared
+
+-- a failed acquire stays Closed unless the reply says retained: then RecoveryRequired, revision raised
+unfoldable pub acquiredBy : AcquireReply → Session → Called
+acquiredBy acquire.Acquired s = passed (withState s AcquiredUnknown (s .«recovery_revision»))
+acquiredBy (acquire.Failed e retained) s =
+    refusedBy (withState s RecoveryRequired (raised (s .«recovery_revision»))) (fromBackend 45 e) if retained else
+    refusedBy s (fromBackend 45 e)
+
+unfoldable pub acquireOf : Session → AcquireReply → Called
+acquireOf s reply =
+    refusedBy s (validation 1) if isBusy (s .«in_flight») else
+    refusedBy s (validation 50) if not (isClosed (s .state)) else
+    acquiredBy reply s
+
+-- a failed initialise marks
+unfoldable pub initializedBy : OptionError → Session → Called
+initializedBy error.None s = passed (withState s Initialized (s .«recovery_revision»))
+initializedBy (error.Some e) s = refusedBy (marked s) (fromBackend 45 e)
+
+unfoldable pub initializeOf : Session → OptionError → Called
+initializeOf s reply =
+    refusedBy s (validation 1) if isBusy (s .«in_flight») else
+    refusedBy s (validation 51) if not (isAcquired (s .state)) else
+    initializedBy reply s
+
+-- a new ledger at sequence 0; the revision and the stall stay
+abbrev pub closedSession : Session → ℕ → Session
+closedSession s fresh = record {
+  number = fresh;
+  generation = 0;
+  «next_sequence» = 0;
+  ports = s .ports;
+  state = Closed;
+  «recovery_revision» = s .«recovery_revision»;
+  «recoverable_stall» = s .«recoverable_stall»;
+  «in_flight» = flight.Nothing;
+  «row_count» = s .«row_count»;
+  «row_bytes» = s .«row_bytes»;
+}
+
+-- a call's answer with its session, and the store after it
+pub record CalledTo : Type 0 where
+  pub result : Called
+  pub store : Store
+
+abbrev pub calledTo : Called → Store → CalledTo
+calledTo c s = record { result = c; store = s }
+
+-- a backend error leaves a recovery mark
+unfoldable pub closedBy : OptionError → Session → ℕ → Store → CalledTo
+closedBy (error.Some e) s fresh store = calledTo (refusedBy (marked s) (fromBackend 45 e)) store
+closedBy error.None s fresh store = calledTo (passed (closedSession s fresh)) (emptied store)
+
+-- no fresh number is 52
+unfoldable pub freshBy : OptionU64 → Session → OptionError → Store → CalledTo
+freshBy u64.None s reply store = calledTo (refusedBy s (validation 52)) store
+freshBy (u64.Some fresh) s reply store = closedBy reply s fresh store
+
+-- Closed succeeds unchanged
+unfoldable pub closeOf : Session → Bool → OptionU64 → OptionError → Store → CalledTo
+closeOf s fits fresh reply store =
+    calledTo (refusedBy s (validation 1)) store if isBusy (s .«in_flight») else
+    calledTo (refusedBy s (validation 3)) store if not fits else
+    calledTo (passed s) store if isClosed (s .state) else
+    freshBy fresh s reply store

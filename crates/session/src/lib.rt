@@ -1,0 +1,214 @@
+// The session: it goes in and comes out by value. The Rust's `Session`, and what its `UsbSession` keeps beside the rows and the bus.
+use models::ControllerState;
+use models::DeviceId;
+use models::OptionPorts;
+use models::RequestId;
+use models::Verdict;
+use words::OptionU64;
+ghost use mathlib.Core.Path.{_≡_};
+ghost use Rattle.session.specs.Session.{isClosed, isAcquired, isInitialized, mayRecover, isBusy, raised, withState, withFlight, withStall, spent, marked};
+
+pub mod lifecycle;
+pub mod place;
+pub mod sizes;
+
+// What a poll found that a reset of the same endpoint may undo: document 01's stall note.
+pub struct RecoverableStall {
+    pub revision: u64,
+    pub device: DeviceId,
+    pub endpoint: u8,
+}
+
+pub enum OptionStall {
+    None,
+    Some(RecoverableStall),
+}
+
+// What a recovery asks of the backend; a reset may preserve the data toggle.
+pub enum RecoveryKind {
+    Abort,
+    Reset(bool),
+}
+
+// The operation that waits for the backend's reply: document 01's errand.
+pub enum InFlight {
+    Nothing,
+    Submission(RequestId),
+    Poll(RequestId),
+    Recovery(RequestId, DeviceId, u8, RecoveryKind),
+}
+
+pub struct Session {
+    pub number: u64,
+    pub generation: u64,
+    pub next_sequence: u64,
+    pub ports: OptionPorts,
+    pub state: ControllerState,
+    pub recovery_revision: OptionU64,
+    pub recoverable_stall: OptionStall,
+    pub in_flight: InFlight,
+    pub row_count: u64,
+    pub row_bytes: u64,
+}
+
+// A verdict with the session after it.
+pub struct Called {
+    pub answer: Verdict,
+    pub session: Session,
+}
+
+pub fn is_closed(s: ControllerState) -> bool
+    ensures { λ r. ⌜ r ≡ isClosed s ⌝ }
+{
+    match s {
+        ControllerState::Closed => true,
+        ControllerState::AcquiredUnknown => false,
+        ControllerState::Initialized => false,
+        ControllerState::Closing => false,
+        ControllerState::RecoveryRequired => false,
+    }
+}
+
+pub fn is_acquired(s: ControllerState) -> bool
+    ensures { λ r. ⌜ r ≡ isAcquired s ⌝ }
+{
+    match s {
+        ControllerState::Closed => false,
+        ControllerState::AcquiredUnknown => true,
+        ControllerState::Initialized => false,
+        ControllerState::Closing => false,
+        ControllerState::RecoveryRequired => false,
+    }
+}
+
+pub fn is_initialized(s: ControllerState) -> bool
+    ensures { λ r. ⌜ r ≡ isInitialized s ⌝ }
+{
+    match s {
+        ControllerState::Closed => false,
+        ControllerState::AcquiredUnknown => false,
+        ControllerState::Initialized => true,
+        ControllerState::Closing => false,
+        ControllerState::RecoveryRequired => false,
+    }
+}
+
+// Initialized or RecoveryRequired.
+pub fn may_recover(s: ControllerState) -> bool
+    ensures { λ r. ⌜ r ≡ mayRecover s ⌝ }
+{
+    match s {
+        ControllerState::Closed => false,
+        ControllerState::AcquiredUnknown => false,
+        ControllerState::Initialized => true,
+        ControllerState::Closing => false,
+        ControllerState::RecoveryRequired => true,
+    }
+}
+
+pub fn is_busy(f: InFlight) -> bool
+    ensures { λ r. ⌜ r ≡ isBusy f ⌝ }
+{
+    match f {
+        InFlight::Nothing => false,
+        InFlight::Submission(_) => true,
+        InFlight::Poll(_) => true,
+        InFlight::Recovery(_, _, _, _) => true,
+    }
+}
+
+// One more; past the greatest number it is none for ever.
+fn raise(revision: OptionU64) -> OptionU64
+    ensures { λ r. ⌜ r ≡ raised revision ⌝ }
+{
+    let OptionU64::Some(n) = revision else {
+        return OptionU64::None;
+    };
+    if n == 18446744073709551615 {
+        return OptionU64::None;
+    }
+    OptionU64::Some(n + 1)
+}
+
+pub fn with_state(session: Session, state: ControllerState, recovery_revision: OptionU64) -> Session
+    ensures { λ r. ⌜ r ≡ withState session state «recovery_revision» ⌝ }
+{
+    let ports = session.ports;
+    let recoverable_stall = session.recoverable_stall;
+    let in_flight = session.in_flight;
+    Session {
+        number: session.number,
+        generation: session.generation,
+        next_sequence: session.next_sequence,
+        ports,
+        state,
+        recovery_revision,
+        recoverable_stall,
+        in_flight,
+        row_count: session.row_count,
+        row_bytes: session.row_bytes,
+    }
+}
+
+pub fn with_flight(session: Session, in_flight: InFlight) -> Session
+    ensures { λ r. ⌜ r ≡ withFlight session «in_flight» ⌝ }
+{
+    let ports = session.ports;
+    let state = session.state;
+    let recovery_revision = session.recovery_revision;
+    let recoverable_stall = session.recoverable_stall;
+    Session {
+        number: session.number,
+        generation: session.generation,
+        next_sequence: session.next_sequence,
+        ports,
+        state,
+        recovery_revision,
+        recoverable_stall,
+        in_flight,
+        row_count: session.row_count,
+        row_bytes: session.row_bytes,
+    }
+}
+
+pub fn with_stall(session: Session, recoverable_stall: OptionStall) -> Session
+    ensures { λ r. ⌜ r ≡ withStall session «recoverable_stall» ⌝ }
+{
+    let ports = session.ports;
+    let state = session.state;
+    let recovery_revision = session.recovery_revision;
+    let in_flight = session.in_flight;
+    Session {
+        number: session.number,
+        generation: session.generation,
+        next_sequence: session.next_sequence,
+        ports,
+        state,
+        recovery_revision,
+        recoverable_stall,
+        in_flight,
+        row_count: session.row_count,
+        row_bytes: session.row_bytes,
+    }
+}
+
+// The session once a submission has taken its number: the next one, and the submission in flight.
+pub fn spend(session: Session, next_sequence: u64, id: RequestId) -> Session
+    ensures { λ r. ⌜ r ≡ spent session «next_sequence» id ⌝ }
+{
+    let mut next = with_flight(session, InFlight::Submission(id));
+    next.next_sequence = next_sequence;
+    next
+}
+
+// A recovery mark: unless Closed, RecoveryRequired with the revision raised.
+pub fn mark(session: Session) -> Session
+    ensures { λ r. ⌜ r ≡ marked session ⌝ }
+{
+    let state = session.state;
+    let revision = session.recovery_revision;
+    if is_closed(state) {
+        return session;
+    }
+    with_state(session, ControllerState::RecoveryRequired, raise(revision))
+}

@@ -1,0 +1,242 @@
+// Opening, and the calls that move the controller's state, each with the backend's reply.
+use crate::Called;
+use crate::InFlight;
+use crate::OptionStall;
+use crate::Session;
+use crate::is_acquired;
+use crate::is_busy;
+use crate::is_closed;
+use crate::mark;
+use crate::raise;
+use crate::sizes;
+use crate::with_state;
+use models::ControllerState;
+use models::OperationError;
+use models::OptionError;
+use models::OptionPorts;
+use models::Ports;
+use models::Refusal;
+use models::Verdict;
+use words::OptionU64;
+ghost use mathlib.Core.Path.{_≡_};
+ghost use lib.ListN.{length};
+ghost use Rattle.models.specs.Refusals.{validation};
+ghost use Rattle.rows.specs.Store.{storeOf};
+ghost use Rattle.bus.specs.Tables.{busOf};
+ghost use Rattle.session.specs.Sizes.{rowsFit, openFits};
+ghost use Rattle.session.specs.Lifecycle.{refusedBy, passed, portsOf, newSession, openedTo, openOf, acquiredBy, acquireOf, initializedBy, initializeOf, closedSession, calledTo, closedBy, closeOf};
+
+// What an opening sets.
+pub struct Opening {
+    pub session: u64,
+    pub first_sequence: u64,
+    pub recovery_revision: OptionU64,
+    pub has_ports: bool,
+    pub port_count: u8,
+    pub row_count: u64,
+    pub row_bytes: u64,
+}
+
+pub enum Opened {
+    Refused(Refusal),
+    Open(Session),
+}
+
+// The backend's reply to acquire: a failure says whether resources are retained.
+pub enum AcquireReply {
+    Acquired,
+    Failed(OperationError, bool),
+}
+
+fn refused_by(session: Session, refusal: Refusal) -> Called
+    ensures { λ r. ⌜ r ≡ refusedBy session refusal ⌝ }
+{
+    Called {
+        answer: Verdict::Refused(refusal),
+        session,
+    }
+}
+
+fn refused(session: Session, number: u16) -> Called
+    ensures { λ r. ⌜ r ≡ refusedBy session (validation number) ⌝ }
+{
+    refused_by(session, models::refuse_validation(number))
+}
+
+fn pass(session: Session) -> Called
+    ensures { λ r. ⌜ r ≡ passed session ⌝ }
+{
+    Called {
+        answer: Verdict::Pass,
+        session,
+    }
+}
+
+fn ports_of(o: Opening) -> OptionPorts
+    ensures { λ r. ⌜ r ≡ portsOf o ⌝ }
+{
+    if o.has_ports {
+        return OptionPorts::Some(Ports {
+            session: o.session,
+            count: o.port_count,
+        });
+    }
+    OptionPorts::None
+}
+
+fn new_session(o: Opening) -> Session
+    ensures { λ r. ⌜ r ≡ newSession o ⌝ }
+{
+    let recovery_revision = o.recovery_revision;
+    Session {
+        number: o.session,
+        generation: 0,
+        next_sequence: o.first_sequence,
+        ports: ports_of(o),
+        state: ControllerState::Closed,
+        recovery_revision,
+        recoverable_stall: OptionStall::None,
+        in_flight: InFlight::Nothing,
+        row_count: o.row_count,
+        row_bytes: o.row_bytes,
+    }
+}
+
+// The rows, the area and the bus have the sizes that the opening sets.
+fn open_fits(o: Opening, words: usize, bytes: usize, bus_words: usize) -> bool
+    ensures { λ r. ⌜ r ≡ openFits o words bytes «bus_words» ⌝ }
+{
+    let rows_fit = sizes::rows_fit(o.row_count, o.row_bytes, words);
+    let area_fits = sizes::area_fits(o.row_count, o.row_bytes, bytes);
+    let bus_fits = sizes::bus_fits(bus_words);
+    rows_fit & area_fits & bus_fits
+}
+
+// Opens a session on a store and a bus, whatever they held. 3: a size is wrong.
+pub fn open(o: Opening, rows: &mut [u64], area: &[u8], bus: &mut [u64]) -> Opened
+    ensures { λ r. ⌜ openedTo r (storeOf (now (rows .exit))) (busOf (now (bus .exit))) ≡ openOf (openFits o (length (now (rows .entry))) (length (now (area .entry))) (length (now (bus .entry)))) o (storeOf (now (rows .entry))) (busOf (now (bus .entry))) ⌝ }
+{
+    if !open_fits(o, rows.len(), area.len(), bus.len()) {
+        return Opened::Refused(models::refuse_validation(3));
+    }
+    rows::clear_rows(rows);
+    bus::clear(bus);
+    Opened::Open(new_session(o))
+}
+
+// What the backend's reply to acquire leaves.
+fn acquired(session: Session, reply: AcquireReply) -> Called
+    ensures { λ r. ⌜ r ≡ acquiredBy reply session ⌝ }
+{
+    let revision = session.recovery_revision;
+    match reply {
+        AcquireReply::Acquired => pass(with_state(
+            session,
+            ControllerState::AcquiredUnknown,
+            revision,
+        )),
+        AcquireReply::Failed(error, retained) => {
+            let refusal = models::refuse_backend(45, error);
+            if retained {
+                let next = with_state(session, ControllerState::RecoveryRequired, raise(revision));
+                return refused_by(next, refusal);
+            }
+            refused_by(session, refusal)
+        }
+    }
+}
+
+// 1; 50 not Closed; 45: a failed acquire stays Closed unless resources are retained.
+pub fn acquire(session: Session, reply: AcquireReply) -> Called
+    ensures { λ r. ⌜ r ≡ acquireOf session reply ⌝ }
+{
+    let flight = session.in_flight;
+    let state = session.state;
+    if is_busy(flight) {
+        return refused(session, 1);
+    }
+    if !is_closed(state) {
+        return refused(session, 50);
+    }
+    acquired(session, reply)
+}
+
+// What the backend's reply to initialise leaves.
+fn initialized(session: Session, reply: OptionError) -> Called
+    ensures { λ r. ⌜ r ≡ initializedBy reply session ⌝ }
+{
+    let revision = session.recovery_revision;
+    match reply {
+        OptionError::None => pass(with_state(session, ControllerState::Initialized, revision)),
+        OptionError::Some(error) => refused_by(mark(session), models::refuse_backend(45, error)),
+    }
+}
+
+// 1; 51 not AcquiredUnknown; 45: a failed initialise marks.
+pub fn initialize(session: Session, reply: OptionError) -> Called
+    ensures { λ r. ⌜ r ≡ initializeOf session reply ⌝ }
+{
+    let flight = session.in_flight;
+    let state = session.state;
+    if is_busy(flight) {
+        return refused(session, 1);
+    }
+    if !is_acquired(state) {
+        return refused(session, 51);
+    }
+    initialized(session, reply)
+}
+
+fn closed_session(session: Session, fresh: u64) -> Session
+    ensures { λ r. ⌜ r ≡ closedSession session fresh ⌝ }
+{
+    let ports = session.ports;
+    let recovery_revision = session.recovery_revision;
+    let recoverable_stall = session.recoverable_stall;
+    Session {
+        number: fresh,
+        generation: 0,
+        next_sequence: 0,
+        ports,
+        state: ControllerState::Closed,
+        recovery_revision,
+        recoverable_stall,
+        in_flight: InFlight::Nothing,
+        row_count: session.row_count,
+        row_bytes: session.row_bytes,
+    }
+}
+
+// What the backend's reply to close leaves: 45 with a mark, or a new ledger and every row free.
+fn closed(session: Session, rows: &mut [u64], fresh: u64, reply: OptionError) -> Called
+    ensures { λ r. ⌜ calledTo r (storeOf (now (rows .exit))) ≡ closedBy reply session fresh (storeOf (now (rows .entry))) ⌝ }
+{
+    match reply {
+        OptionError::Some(error) => refused_by(mark(session), models::refuse_backend(45, error)),
+        OptionError::None => {
+            rows::clear_rows(rows);
+            pass(closed_session(session, fresh))
+        }
+    }
+}
+
+// 1; 3; Closed succeeds unchanged; 52 no fresh number; then by the reply.
+pub fn close(session: Session, rows: &mut [u64], fresh: OptionU64, reply: OptionError) -> Called
+    ensures { λ r. ⌜ calledTo r (storeOf (now (rows .exit))) ≡ closeOf session (rowsFit (session .«row_count») (session .«row_bytes») (length (now (rows .entry)))) fresh reply (storeOf (now (rows .entry))) ⌝ }
+{
+    let flight = session.in_flight;
+    let state = session.state;
+    if is_busy(flight) {
+        return refused(session, 1);
+    }
+    if !sizes::rows_fit(session.row_count, session.row_bytes, rows.len()) {
+        return refused(session, 3);
+    }
+    if is_closed(state) {
+        return pass(session);
+    }
+    let OptionU64::Some(number) = fresh else {
+        return refused(session, 52);
+    };
+    closed(session, rows, number, reply)
+}
