@@ -10,7 +10,7 @@ use models::RequestReport;
 use session::Session;
 
 pub mod answers;
-pub mod begin;
+mod begin;
 pub mod change;
 pub mod finish;
 pub mod poll;
