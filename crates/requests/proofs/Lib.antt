@@ -6,3 +6,4 @@ pub mod Planning
 pub mod Polling
 pub mod Finishing
 pub mod Reporting
+pub mod Examples
