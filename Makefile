@@ -1,9 +1,10 @@
-# make run: proves and runs the program `examples`; make test: the merge gate; make fmt: lays every file out.
+# make run: proves and runs the programs `examples` and `life`; make test: the merge gate; make fmt: lays every file out.
 .PHONY: run test fmt oracle
 
 run:
-	rt check examples
+	rt check examples life
 	./target/bin/examples
+	./target/bin/life
 
 test:
 	rt fmt --check

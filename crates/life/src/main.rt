@@ -15,6 +15,7 @@ use models::RequestSpec;
 use models::TransferType;
 use requests::PollReply;
 use requests::SubmitReply;
+use requests::Submitted;
 use requests::change;
 use requests::finish;
 use requests::poll;
@@ -102,12 +103,16 @@ fn completion(length: u64, code: u32) -> PollReply {
     })
 }
 
-// The first half of a submission.
-fn ask(s: Session, bus: &mut [u64], rows: &mut [u64], area: &mut [u8], length: u64) -> Session {
+fn submit_bulk(
+    s: Session,
+    bus: &mut [u64],
+    rows: &mut [u64],
+    area: &mut [u8],
+    length: u64,
+) -> Submitted {
     let none = [0u64; 1];
-    let first = PortReading::Word(0x403);
-    let second = PortReading::Word(0x403);
-    let r = submit::submit_request_packets(
+    let word = PortReading::Word(0x403);
+    submit::submit_request_packets(
         s,
         bus,
         rows,
@@ -116,9 +121,14 @@ fn ask(s: Session, bus: &mut [u64], rows: &mut [u64], area: &mut [u8], length: u
         b"",
         false,
         &none,
-        first,
-        second,
-    );
+        word,
+        word,
+    )
+}
+
+// The first half of a submission.
+fn ask(s: Session, bus: &mut [u64], rows: &mut [u64], area: &mut [u8], length: u64) -> Session {
+    let r = submit_bulk(s, bus, rows, area, length);
     let answer = r.answer;
     show::submitted(b"submit", answer);
     r.session
@@ -174,17 +184,21 @@ fn close(s: Session, rows: &mut [u64], fresh: OptionU64, r: OptionError) -> Sess
     x.session
 }
 
-// 30, 53, then the device of slot 1 on port 1 with endpoint 81h.
-fn set_bus(s: Session, bus: &mut [u64]) {
+// 30, then the device of slot 1 on port 1.
+fn set_device(s: Session, bus: &mut [u64]) {
     let row = bus::PortRow {
         generation: 1,
         reading: OptionU32::Some(0x403),
     };
-    let long = [0u64; 31];
-    let one = [0x181u64];
     show::verdict(b"set port 2", place::set_port(s, bus, 2, row));
     show::verdict(b"set port 1", place::set_port(s, bus, 1, row));
     show::verdict(b"set device", place::set_device(s, bus, device()));
+}
+
+// 53, then endpoint 81h and no mark.
+fn set_endpoint(s: Session, bus: &mut [u64]) {
+    let long = [0u64; 31];
+    let one = [0x181u64];
     show::verdict(b"set 31 endpoints", place::set_endpoints(s, bus, 1, &long));
     show::verdict(b"set endpoints", place::set_endpoints(s, bus, 1, &one));
     show::verdict(b"clear mark", place::set_reconcile(s, bus, 1, false));
@@ -213,21 +227,48 @@ fn start(s: Session) -> Session {
     ready.session
 }
 
-// One request from its submission to its end.
-fn one_request(s: Session, bus: &mut [u64], rows: &mut [u64], area: &mut [u8]) -> Session {
+fn prepare(s: Session, bus: &mut [u64]) -> Session {
+    set_device(s, bus);
+    set_endpoint(s, bus);
+    start(s)
+}
+
+// 40 and 1 while a submission is in flight.
+fn ask_twice(s: Session, bus: &mut [u64], rows: &mut [u64], area: &mut [u8]) -> Session {
     let s = ask(s, bus, rows, area, 8);
     show::reported(b"status", status::request_status(s, rows, id_of(0)));
-    let s = ask(s, bus, rows, area, 8);
+    ask(s, bus, rows, area, 8)
+}
+
+// 2 for a poll's reply, then the submission's own.
+fn accept(s: Session, rows: &mut [u64], area: &mut [u8]) -> Session {
     let s = take_poll(s, rows, area, PollReply::Nothing, b"");
-    let s = take(s, rows, SubmitReply::Token(70));
+    take(s, rows, SubmitReply::Token(70))
+}
+
+fn begin(s: Session, bus: &mut [u64], rows: &mut [u64], area: &mut [u8]) -> Session {
+    let s = ask_twice(s, bus, rows, area);
+    accept(s, rows, area)
+}
+
+// Pending with both flags: 42.
+fn flag(s: Session, rows: &mut [u64]) -> Session {
     let s = cancel(s, rows, 0);
     let s = time_out(s, rows, 0);
-    let s = reclaim(s, rows, 0);
+    reclaim(s, rows, 0)
+}
+
+// 40, a poll that brings nothing, and one that brings 3 bytes.
+fn complete(s: Session, rows: &mut [u64], area: &mut [u8]) -> Session {
     let s = ask_poll(s, rows, 9);
     let s = ask_poll(s, rows, 0);
     let s = take_poll(s, rows, area, PollReply::Nothing, b"");
     let s = ask_poll(s, rows, 0);
-    let s = take_poll(s, rows, area, completion(3, 13), b"abc");
+    take_poll(s, rows, area, completion(3, 13), b"abc")
+}
+
+// The bytes, 41, and 40 once the row is free.
+fn release(s: Session, rows: &mut [u64], area: &[u8]) -> Session {
     show::bytes(b"bytes", status::completed_bytes(s, rows, area, id_of(0)));
     let s = cancel(s, rows, 0);
     let s = reclaim(s, rows, 0);
@@ -235,21 +276,47 @@ fn one_request(s: Session, bus: &mut [u64], rows: &mut [u64], area: &mut [u8]) -
     s
 }
 
-// Both rows used, a backend's error, and a completion longer than the request.
-fn trouble(s: Session, bus: &mut [u64], rows: &mut [u64], area: &mut [u8]) -> Session {
-    let s = ask(s, bus, rows, area, 8);
-    let s = take(
-        s,
-        rows,
-        SubmitReply::Error(error(ErrorCategory::Unsupported)),
-    );
-    let s = ask(s, bus, rows, area, 8);
-    let s = take(s, rows, SubmitReply::Token(71));
-    let s = ask(s, bus, rows, area, 4);
-    let s = take(s, rows, SubmitReply::Token(72));
-    let s = ask(s, bus, rows, area, 1);
+// One request that was accepted, to its end.
+fn one_request(s: Session, rows: &mut [u64], area: &mut [u8]) -> Session {
+    let s = flag(s, rows);
+    let s = complete(s, rows, area);
+    release(s, rows, area)
+}
+
+// Both halves.
+fn send(
+    s: Session,
+    bus: &mut [u64],
+    rows: &mut [u64],
+    area: &mut [u8],
+    length: u64,
+    r: SubmitReply,
+) -> Session {
+    let s = ask(s, bus, rows, area, length);
+    take(s, rows, r)
+}
+
+// Both rows used.
+fn fill(s: Session, bus: &mut [u64], rows: &mut [u64], area: &mut [u8]) -> Session {
+    let s = send(s, bus, rows, area, 8, SubmitReply::Token(71));
+    send(s, bus, rows, area, 4, SubmitReply::Token(72))
+}
+
+fn show_held(s: Session, rows: &[u64]) {
     show::tally(b"held", status::held_count(s, rows));
+}
+
+// 5 with no free row.
+fn overfill(s: Session, bus: &mut [u64], rows: &mut [u64], area: &mut [u8]) -> Session {
+    let s = fill(s, bus, rows, area);
+    let s = ask(s, bus, rows, area, 1);
+    show_held(s, rows);
     show::tally(b"held bytes", status::held_bytes(s, rows));
+    s
+}
+
+// A completion longer than the request: 28 for another poll, and 42.
+fn fail(s: Session, rows: &mut [u64], area: &mut [u8]) -> Session {
     let s = ask_poll(s, rows, 2);
     let s = take_poll(s, rows, area, completion(9, 1), b"123456789");
     let s = ask_poll(s, rows, 3);
@@ -257,21 +324,36 @@ fn trouble(s: Session, bus: &mut [u64], rows: &mut [u64], area: &mut [u8]) -> Se
     reclaim(s, rows, 2)
 }
 
-// 52, 45, then a close that passes, and one of a closed session.
-fn finish_life(s: Session, rows: &mut [u64]) {
+// 45, which leaves the row free, then 5, then a completion that is not valid.
+fn trouble(s: Session, bus: &mut [u64], rows: &mut [u64], area: &mut [u8]) -> Session {
+    let failed = SubmitReply::Error(error(ErrorCategory::Unsupported));
+    let s = send(s, bus, rows, area, 8, failed);
+    let s = overfill(s, bus, rows, area);
+    fail(s, rows, area)
+}
+
+// 52, 45, then a close that passes.
+fn close_open(s: Session, rows: &mut [u64]) -> Session {
+    let failed = OptionError::Some(error(ErrorCategory::Timeout));
     let s = close(s, rows, OptionU64::None, OptionError::None);
-    let s = close(
-        s,
-        rows,
-        OptionU64::Some(2),
-        OptionError::Some(error(ErrorCategory::Timeout)),
-    );
-    let s = close(s, rows, OptionU64::Some(2), OptionError::None);
-    show::tally(b"held", status::held_count(s, rows));
+    let s = close(s, rows, OptionU64::Some(2), failed);
+    close(s, rows, OptionU64::Some(2), OptionError::None)
+}
+
+// After it none is held, and a closed session closes again.
+fn finish_life(s: Session, rows: &mut [u64]) {
+    let s = close_open(s, rows);
+    show_held(s, rows);
     close(s, rows, OptionU64::None, OptionError::None);
 }
 
-// A store of two rows of 8 bytes.
+fn requests_of(s: Session, bus: &mut [u64], rows: &mut [u64], area: &mut [u8]) -> Session {
+    let s = begin(s, bus, rows, area);
+    let s = one_request(s, rows, area);
+    trouble(s, bus, rows, area)
+}
+
+// A store of two rows of 8 bytes: 3 as one of three.
 fn small_life() {
     let mut bus = [0u64; 10750];
     let mut rows = [7u64; 54];
@@ -283,29 +365,14 @@ fn small_life() {
     let Opened::Open(s) = opened else {
         return;
     };
-    set_bus(s, &mut bus);
-    let s = start(s);
-    let s = one_request(s, &mut bus, &mut rows, &mut area);
-    let s = trouble(s, &mut bus, &mut rows, &mut area);
+    let s = prepare(s, &mut bus);
+    let s = requests_of(s, &mut bus, &mut rows, &mut area);
     finish_life(s, &mut rows);
 }
 
-// A submission that passes, not printed.
+// Both halves, not printed.
 fn hold(s: Session, bus: &mut [u64], rows: &mut [u64], area: &mut [u8]) -> Session {
-    let none = [0u64; 1];
-    let word = PortReading::Word(0x403);
-    let r = submit::submit_request_packets(
-        s,
-        bus,
-        rows,
-        area,
-        bulk(1),
-        b"",
-        false,
-        &none,
-        word,
-        word,
-    );
+    let r = submit_bulk(s, bus, rows, area, 1);
     let x = reply::submit_reply(r.session, rows, SubmitReply::Token(1));
     x.session
 }
@@ -320,7 +387,21 @@ fn hold_many(s: Session, bus: &mut [u64], rows: &mut [u64], area: &mut [u8], n: 
     held
 }
 
-// 127 held accepts one more; with 128 held the next is 5. A store of 130 rows of a byte.
+// One more accepted, then 5.
+fn reach_limit(s: Session, bus: &mut [u64], rows: &mut [u64], area: &mut [u8]) {
+    let s = send(s, bus, rows, area, 1, SubmitReply::Token(1));
+    show_held(s, rows);
+    ask(s, bus, rows, area, 1);
+}
+
+// 127 held, and then 128.
+fn hold_all(s: Session, bus: &mut [u64], rows: &mut [u64], area: &mut [u8]) {
+    let s = hold_many(s, bus, rows, area, 127);
+    show_held(s, rows);
+    reach_limit(s, bus, rows, area);
+}
+
+// A store of 130 rows of a byte.
 fn full_life() {
     let mut bus = [0u64; 10750];
     let mut rows = [0u64; 3510];
@@ -330,14 +411,8 @@ fn full_life() {
     let Opened::Open(s) = opened else {
         return;
     };
-    set_bus(s, &mut bus);
-    let s = start(s);
-    let s = hold_many(s, &mut bus, &mut rows, &mut area, 127);
-    show::tally(b"held", status::held_count(s, &rows));
-    let s = ask(s, &mut bus, &mut rows, &mut area, 1);
-    let s = take(s, &mut rows, SubmitReply::Token(1));
-    show::tally(b"held", status::held_count(s, &rows));
-    ask(s, &mut bus, &mut rows, &mut area, 1);
+    let s = prepare(s, &mut bus);
+    hold_all(s, &mut bus, &mut rows, &mut area);
 }
 
 fn main() {

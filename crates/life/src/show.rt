@@ -4,14 +4,13 @@ use models::Refusal;
 use models::RequestReport;
 use models::RequestState;
 use models::Verdict;
-use requests::PlanAnswer;
 use requests::PollAnswer;
 use requests::ReportAnswer;
 use requests::SubmitAnswer;
 use requests::Tally;
 use session::lifecycle::Opened;
 
-pub fn text(s: &[u8]) {
+fn text(s: &[u8]) {
     io::write_all(STDOUT_FILENO, s);
 }
 
@@ -113,20 +112,6 @@ pub fn submitted(name: &[u8], a: SubmitAnswer) {
     match a {
         SubmitAnswer::Refused(r) => refused(r),
         SubmitAnswer::Begun(x) => {
-            text(b" begun: sequence");
-            number(x.id.sequence);
-            text(b" row");
-            number(x.row);
-            text(b"\n");
-        }
-    }
-}
-
-pub fn planned(name: &[u8], a: PlanAnswer) {
-    text(name);
-    match a {
-        PlanAnswer::Refused(r) => refused(r),
-        PlanAnswer::Begun(x) => {
             text(b" begun: sequence");
             number(x.id.sequence);
             text(b" row");
