@@ -50,7 +50,7 @@ use Rattle.session.specs.declared.RecoveryKind.{RecoveryKind}
 use Rattle.models.specs.declared.DeviceId.{DeviceId}
 use Rattle.session.specs.declared.Session.{Session}
 use Rattle.session.specs.Sizes.{rowsFit, areaFits}
-use Rattle.session.proofs.Sized.{row-below, fit-area, area-in, place-small}
+use Rattle.session.proofs.Sized.{row-below, area-in, place-small}
 use Rattle.requests.specs.Answers.{effect, reportRefused}
 use Rattle.requests.specs.Finish.{isRecovery, codeIsStall, isScopedStall, stallOf, failedAs, invalidAs, judgedTest, judgedBy, judged, FinishTo, finishTo, storedIn, settled, finishAt, finishBy, finishFound, finishIn, finishOf}
 use Rattle.requests.specs.declared.PollReply.{PollReply}
@@ -197,26 +197,21 @@ both-second true b t = t
 both-second false b t = let z : _≡_ {A = ℕ} 0 1 = cc in absurd (omega arith)
 
 -- where the bytes of a row that was found lie
-module _ (count bytes : ℕ) (w area : List ℕ) (a b : Bool) (ea : a ≡ rowsFit count bytes (length w)) (eb : b ≡ areaFits count bytes (length area)) where
+module _ (count bytes : ℕ) (w : List ℕ) (size : ℕ) (a b : Bool) (ea : a ≡ rowsFit count bytes (length w)) (eb : b ≡ areaFits count bytes size) where
   module _ (t : not (a && b) ≡ false) (id : RequestId) (g : Found) (i : ℕ) (eg : g ≡ foundIn (isAt id) (rowsOf w)) (e : g ≡ found.At i) where
     found-below : i < count
     found-below = row-below count bytes w a i ea (both-first a b t) (found-in (isAt id) (rowsOf w) g i eg e)
 
     pub found-fits : Fits w64 (i * bytes)
-    found-fits = omega (arith, place-small count bytes (length area) b eb (both-second a b t) i found-below)
+    found-fits = omega (arith, place-small count bytes size b eb (both-second a b t) i found-below)
 
-    pub found-room : i * bytes + bytes ≤ length area
-    found-room = area-in count bytes (length area) b eb (both-second a b t) i found-below
+    pub found-room : i * bytes + bytes ≤ size
+    found-room = area-in count bytes size b eb (both-second a b t) i found-below
 
     -- and those of them that are filled
     module _ (len n : ℕ) (en : n ≡ min len bytes) where
-      pub part-end : i * bytes + n ≤ length area
+      pub part-end : i * bytes + n ≤ size
       part-end = omega (arith, found-room, min-le-right len bytes)
-
-      pub part-fits : Fits w64 (i * bytes + n)
-      part-fits =
-          let k = fit-area count bytes (length area) b eb (both-second a b t) in
-          omega (arith, place-small count bytes (length area) b eb (both-second a b t) i found-below, min-le-right len bytes, k .3)
 
 -- by what is in flight
 module _ (s : Session) (fits : Bool) (r : PollReply) (bytes : List ℕ) (store : Store) (area : List ℕ) where

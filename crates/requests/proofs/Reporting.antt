@@ -8,6 +8,9 @@ use native.Mathlib.Numerals.{add-one}
 use native.Mathlib.Omega.{arith}
 use lib.ListN.{length, getD, take, drop}
 use lib.Seq.{take-all}
+use mir.Syntax.{w64}
+use mir.Val.{Fits}
+use Rattle.chain.specs.Chain.{_if_else_}
 use Rattle.chain.specs.Lists.{only, count, foundIn}
 use Rattle.chain.specs.declared.Found.{Found}
 use Rattle.chain.specs.declared.Found.the-variants as found
@@ -18,23 +21,26 @@ use Rattle.models.specs.Requests.{sameRequest, requestBefore}
 use Rattle.models.specs.declared.Refusal.{Refusal}
 use Rattle.models.specs.declared.RequestId.{RequestId}
 use Rattle.models.specs.declared.RequestReport.{RequestReport}
-use Rattle.rows.specs.Table.{emptyRow}
+use Rattle.rows.specs.Table.{emptyRow, rowsOf}
 use Rattle.rows.specs.declared.Row.{Row}
 use Rattle.ledger.specs.Rules.{reportOf}
 use Rattle.ledger.specs.Search.{isAt}
 use Rattle.ledger.specs.Tally.{heldCount, heldBytes}
+use Rattle.session.specs.Sizes.{rowsFit, areaFits}
 use Rattle.session.specs.declared.InFlight.{InFlight}
 use Rattle.session.specs.declared.InFlight.the-variants as flight
 use Rattle.session.specs.declared.Session.{Session}
-use Rattle.requests.specs.Status.{isSubmitting, statusBy, statusOf, isShown, comesAfter, beats, better, bestFrom, nextOf, shownCount, completedLength, bytesBy, completedBytes, heldCountOf, heldBytesOf}
+use Rattle.requests.specs.Status.{isSubmitting, statusBy, statusOf, isShown, comesAfter, beats, better, bestFrom, nextOf, shownCount, completedLength, part, partBy, completedPart, completedBytes, heldCountOf, heldBytesOf}
 use Rattle.requests.specs.declared.OptionId.{OptionId}
 use Rattle.requests.specs.declared.OptionId.the-variants as option
+use Rattle.requests.specs.declared.Part.{Part}
 use Rattle.requests.specs.declared.ReportAnswer.{ReportAnswer}
 use Rattle.requests.specs.declared.ReportAnswer.the-variants as report
 use Rattle.requests.specs.declared.NextReport.{NextReport}
 use Rattle.requests.specs.declared.NextReport.the-variants as next
 use Rattle.requests.specs.declared.Tally.{Tally}
 use Rattle.requests.specs.declared.Tally.the-variants as tally
+use Rattle.requests.proofs.Finishing.{part-end}
 
 -- a submission in flight
 pub submitting-own : (f : InFlight) (id own : RequestId) (b : Bool) → f ≡ flight.Submission own → b ≡ sameRequest own id → b ≡ isSubmitting f id
@@ -173,20 +179,45 @@ module _ (fits : Bool) (rows : List Row) (f : Bool) (ef : f ≡ fits) where
     unfolding heldBytesOf
     bytes-on n e = passes Tally _ _ _ _ (not-through f _ false ef t) (ap tally.Number e)
 
--- the bytes of a Completed request
-module _ (s : Session) (p q : Bool) (id : RequestId) (rows : List Row) (area : List ℕ) (a b : Bool) (ea : a ≡ p) (eb : b ≡ q) where
-  pub part-unfit : not (a && b) ≡ true → [] ≡ completedBytes s (p && q) id rows area
-  unfolding completedBytes
-  part-unfit t = takes (List ℕ) _ _ _ _ (rw (ea, eb) at t) refl
+-- where the bytes of a Completed request stand
+module _ (s : Session) (p q : Bool) (id : RequestId) (rows : List Row) (a b : Bool) (ea : a ≡ p) (eb : b ≡ q) where
+  pub part-unfit : not (a && b) ≡ true → part 0 0 ≡ completedPart s (p && q) id rows
+  unfolding completedPart
+  part-unfit t = takes Part _ _ _ _ (rw (ea, eb) at t) refl
 
   module _ (t : not (a && b) ≡ false) (g : Found) (eg : g ≡ foundIn (isAt id) rows) where
-    pub part-none : g ≡ found.Nothing → [] ≡ completedBytes s (p && q) id rows area
-    unfolding completedBytes bytesBy
-    part-none e = passes (List ℕ) _ _ _ _ (rw (ea, eb) at t) (rw (sym eg ∙ e))
+    pub part-none : g ≡ found.Nothing → part 0 0 ≡ completedPart s (p && q) id rows
+    unfolding completedPart partBy
+    part-none e = passes Part _ _ _ _ (rw (ea, eb) at t) (rw (sym eg ∙ e))
 
     pub part-at : (i len n : ℕ) (row : Row) → g ≡ found.At i → row ≡ getD rows i emptyRow → len ≡ completedLength (row .state) → n ≡ min len (s .«row_bytes»)
-        → take (i * s .«row_bytes» + n - i * s .«row_bytes») (drop (i * s .«row_bytes») area) ≡ completedBytes s (p && q) id rows area
-    unfolding completedBytes bytesBy
-    part-at i len n row e er el en =
-        let z : i * s .«row_bytes» + n - i * s .«row_bytes» ≡ n = omega arith in
-        passes (List ℕ) _ _ _ _ (rw (ea, eb) at t) (rw (z, sym eg ∙ e, en, el, er))
+        → part (i * s .«row_bytes») n ≡ completedPart s (p && q) id rows
+    unfolding completedPart partBy
+    part-at i len n row e er el en = passes Part _ _ _ _ (rw (ea, eb) at t) (rw (sym eg ∙ e, en, el, er))
+
+-- it lies inside the area
+module _ (s : Session) (id : RequestId) (w area : List ℕ) where
+  part-by : (g : Found) → g ≡ foundIn (isAt id) (rowsOf w)
+      → not (rowsFit (s .«row_count») (s .«row_bytes») (length w) && areaFits (s .«row_count») (s .«row_bytes») (length area)) ≡ false
+      → partBy g (s .«row_bytes») (rowsOf w) .start + partBy g (s .«row_bytes») (rowsOf w) .length ≤ length area
+  unfolding partBy
+  part-by found.Nothing eg t = omega arith
+  part-by (found.At i) eg t = part-end (s .«row_count») (s .«row_bytes») w (length area) _ _ refl refl t id (found.At i) i eg refl (completedLength (getD (rowsOf w) i emptyRow .state)) _ refl
+
+  part-fit : (fits : Bool) → fits ≡ (rowsFit (s .«row_count») (s .«row_bytes») (length w) && areaFits (s .«row_count») (s .«row_bytes») (length area))
+      → completedPart s fits id (rowsOf w) .start + completedPart s fits id (rowsOf w) .length ≤ length area
+  unfolding completedPart _if_else_
+  part-fit true e = part-by (foundIn (isAt id) (rowsOf w)) refl (ap not (sym e))
+  part-fit false e = omega arith
+
+  module _ (o : Part) (eo : o ≡ completedPart s (rowsFit (s .«row_count») (s .«row_bytes») (length w) && areaFits (s .«row_count») (s .«row_bytes») (length area)) id (rowsOf w)) where
+    pub part-inside : o .start + o .length ≤ length area
+    part-inside = rw eo (part-fit _ refl)
+
+    pub part-fits : Fits w64 (length area) → Fits w64 (o .start + o .length)
+    part-fits f = omega (arith, f, part-inside)
+
+    pub part-of : take (o .start + o .length - o .start) (drop (o .start) area)
+        ≡ completedBytes s (rowsFit (s .«row_count») (s .«row_bytes») (length w) && areaFits (s .«row_count») (s .«row_bytes») (length area)) id (rowsOf w) area
+    unfolding completedBytes
+    part-of = let z : o .start + o .length - o .start ≡ o .length = omega arith in rw (z, eo)

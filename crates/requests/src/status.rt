@@ -1,6 +1,7 @@
 // Reports, completed bytes and tallies. All are allowed while something is in flight; a submission in flight has no report yet.
 use crate::NextReport;
 use crate::OptionId;
+use crate::Part;
 use crate::ReportAnswer;
 use crate::Tally;
 use chain::Found;
@@ -21,7 +22,7 @@ ghost use Rattle.chain.specs.Lists.{count};
 ghost use Rattle.requests.specs.declared.NextReport.the-variants as NextReport;
 ghost use Prim.Native.Nat.{_+_, _<_, min};
 ghost use Rattle.session.specs.Sizes.{rowsFit, areaFits};
-ghost use Rattle.requests.specs.Status.{isSubmitting, statusOf, isShown, comesAfter, beats, better, bestFrom, nextOf, shownCount, completedLength, completedBytes, heldCountOf, heldBytesOf};
+ghost use Rattle.requests.specs.Status.{isSubmitting, statusOf, isShown, comesAfter, beats, better, bestFrom, nextOf, shownCount, completedLength, completedPart, completedBytes, heldCountOf, heldBytesOf};
 
 // The id's submission is in flight.
 fn is_submitting(flight: InFlight, id: RequestId) -> bool
@@ -191,16 +192,42 @@ fn completed_length(state: RequestState) -> u64
     }
 }
 
-fn cut(length: u64, room: usize) -> usize
+fn cut(length: u64, room: u64) -> u64
     ensures { λ r. ⌜ r ≡ min length room ⌝ }
 {
-    if length < room as u64 {
-        return length as usize;
+    if length < room {
+        return length;
     }
     room
 }
 
-// The bytes of a request that is Completed now; an empty part otherwise, so that no bytes of a held row ever come back.
+// Where the bytes of a request that is Completed now stand; an empty part otherwise, so that no bytes of a held row ever come back.
+pub fn completed_part(session: Session, rows: &[u64], bytes: usize, id: RequestId) -> Part
+    ensures { λ r. ⌜ r ≡ completedPart session (rowsFit (session .«row_count») (session .«row_bytes») (length (now (rows .entry))) && areaFits (session .«row_count») (session .«row_bytes») bytes) id (rowsOf (now (rows .entry))) ⌝ }
+{
+    let rows_fit = sizes::rows_fit(session.row_count, session.row_bytes, rows.len());
+    let area_fits = sizes::area_fits(session.row_count, session.row_bytes, bytes);
+    let none = Part {
+        start: 0,
+        length: 0,
+    };
+    if !(rows_fit & area_fits) {
+        return none;
+    }
+    let found = search::find(rows, id);
+    let Found::At(i) = found else {
+        return none;
+    };
+    let row = rows::read_row(rows, i);
+    let state = row.state;
+    let room = session.row_bytes;
+    Part {
+        start: i as u64 * room,
+        length: cut(completed_length(state), room),
+    }
+}
+
+// The bytes of a request that is Completed now, as a part of the area.
 pub fn completed_bytes<'a>(
     session: Session,
     rows: &[u64],
@@ -209,20 +236,9 @@ pub fn completed_bytes<'a>(
 ) -> &'a [u8]
     ensures { λ r. ⌜ now r ≡ completedBytes session (rowsFit (session .«row_count») (session .«row_bytes») (length (now (rows .entry))) && areaFits (session .«row_count») (session .«row_bytes») (length (now (area .entry)))) id (rowsOf (now (rows .entry))) (now (area .entry)) ⌝ }
 {
-    let rows_fit = sizes::rows_fit(session.row_count, session.row_bytes, rows.len());
-    let area_fits = sizes::area_fits(session.row_count, session.row_bytes, area.len());
-    if !(rows_fit & area_fits) {
-        return &area[0..0];
-    }
-    let found = search::find(rows, id);
-    let Found::At(i) = found else {
-        return &area[0..0];
-    };
-    let row = rows::read_row(rows, i);
-    let state = row.state;
-    let room = session.row_bytes as usize;
-    let at = i * room;
-    let end = at + cut(completed_length(state), room);
+    let part = completed_part(session, rows, area.len(), id);
+    let at = part.start as usize;
+    let end = at + part.length as usize;
     &area[at..end]
 }
 
