@@ -13,6 +13,7 @@ use models::PortReading;
 use models::RequestId;
 use models::RequestSpec;
 use models::TransferType;
+use requests::OptionId;
 use requests::PollReply;
 use requests::SubmitReply;
 use requests::Submitted;
@@ -306,12 +307,28 @@ fn show_held(s: Session, rows: &[u64]) {
     show::tally(b"held", status::held_count(s, rows));
 }
 
+// Reports in the order of ids, and one by its id.
+fn show_reports(s: Session, rows: &[u64]) {
+    show::tally(b"reports", status::count_reports(s, rows));
+    show::next(b"first", status::request_reports(s, rows, OptionId::None));
+    show::next(
+        b"next",
+        status::request_reports(s, rows, OptionId::Some(id_of(2))),
+    );
+    show::next(
+        b"next",
+        status::request_reports(s, rows, OptionId::Some(id_of(3))),
+    );
+    show::reported(b"status", status::request_status(s, rows, id_of(3)));
+}
+
 // 5 with no free row.
 fn overfill(s: Session, bus: &mut [u64], rows: &mut [u64], area: &mut [u8]) -> Session {
     let s = fill(s, bus, rows, area);
     let s = ask(s, bus, rows, area, 1);
     show_held(s, rows);
     show::tally(b"held bytes", status::held_bytes(s, rows));
+    show_reports(s, rows);
     s
 }
 

@@ -4,6 +4,7 @@ use models::Refusal;
 use models::RequestReport;
 use models::RequestState;
 use models::Verdict;
+use requests::NextReport;
 use requests::PollAnswer;
 use requests::ReportAnswer;
 use requests::SubmitAnswer;
@@ -91,6 +92,15 @@ pub fn reported(name: &[u8], a: ReportAnswer) {
     match a {
         ReportAnswer::Refused(r) => refused(r),
         ReportAnswer::Report(x) => report(x),
+    }
+}
+
+pub fn next(name: &[u8], a: NextReport) {
+    text(name);
+    match a {
+        NextReport::Refused(r) => refused(r),
+        NextReport::None => text(b" none\n"),
+        NextReport::Report(x) => report(x),
     }
 }
 
