@@ -42,25 +42,17 @@ use Rattle.requests.proofs.Beginning.{found-free}
 module _ (given row at room : ℕ) (k : at + row ≤ room) where
   module _ (q : RequestSpec) (a : Prepared) (m : RequestMetadata) (ea : a ≡ prepared q given row) (e : a ≡ prepare.Ready m) where
     pub ready-length : at + m .«requested_length» ≤ room
-    ready-length =
-        let l : m .«requested_length» ≤ row = ready-fits q given row m (sym ea ∙ e) .0 in
-        omega arith
+    ready-length = omega (arith, ready-fits q given row m (sym ea ∙ e))
 
     pub ready-data : at + given ≤ room
-    ready-data =
-        let l : given ≤ row = ready-fits q given row m (sym ea ∙ e) .1 in
-        omega arith
+    ready-data = omega (arith, ready-fits q given row m (sym ea ∙ e))
 
   module _ (q : ControlPlan) (a : Planned) (p : ValidatedControlPlan) (ea : a ≡ planned q given row) (e : a ≡ plan.Ready p) where
     pub planned-length : at + p .metadata .«requested_length» ≤ room
-    planned-length =
-        let l : p .metadata .«requested_length» ≤ row = planned-fits q given row p (sym ea ∙ e) .0 in
-        omega arith
+    planned-length = omega (arith, planned-fits q given row p (sym ea ∙ e))
 
     pub planned-data : at + given ≤ room
-    planned-data =
-        let l : given ≤ row = planned-fits q given row p (sym ea ∙ e) .1 in
-        omega arith
+    planned-data = omega (arith, planned-fits q given row p (sym ea ∙ e))
 
 -- where the bytes of a row that was found lie: a and b are the tests of the sizes, which came out true
 module _ (count bytes : ℕ) (w area : List ℕ) (a b : Bool) (ea : a ≡ rowsFit count bytes (length w)) (eb : b ≡ areaFits count bytes (length area)) where
