@@ -24,12 +24,12 @@ use Rattle.checks.specs.declared.plan.ValidatedControlPlan.{ValidatedCon
 -- of a chain that passes: its first test fails, and the rest passes
 pub fails : (r : Refusal) (t : Bool) (p : Verdict) → (verdict.Refused r if t else p) ≡ verdict.Pass → t ≡ false
 unfolding _if_else_
-fails r true p e = absurd (let z : _≡_ {A = ℕ} 0 1 = cc in omega arith)
+fails r true p e = cc
 fails r false p e = refl
 
 pub rest : (r : Refusal) (t : Bool) (p : Verdict) → (verdict.Refused r if t else p) ≡ verdict.Pass → p ≡ verdict.Pass
 unfolding _if_else_
-rest r true p e = absurd (let z : _≡_ {A = ℕ} 0 1 = cc in omega arith)
+rest r true p e = cc
 rest r false p e = e
 
 either : {P : Type 0} (t : Bool) (a b : Verdict) → (a ≡ verdict.Pass → P) → (b ≡ verdict.Pass → P) → (a if t else b) ≡ verdict.Pass → P
@@ -64,7 +64,7 @@ module _ (v : SpecFacts) where
 
 ready-spec : (v : Verdict) (q : RequestSpec) (m : RequestMetadata) → preparedBy v q ≡ prepare.Ready m → (v ≡ verdict.Pass) × (m .«requested_length» ≡ q .length)
 unfolding preparedBy
-ready-spec (verdict.Refused r) q m e = absurd (let z : _≡_ {A = ℕ} 0 1 = cc in omega arith)
+ready-spec (verdict.Refused r) q m e = (cc, cc)
 ready-spec verdict.Pass q m e = (refl, let z : metadataOf q ≡ m = cc in ap (λ (x : RequestMetadata). x .«requested_length») (sym z))
 
 pub ready-fits : (q : RequestSpec) (given row : ℕ) (m : RequestMetadata) → prepared q given row ≡ prepare.Ready m → (m .«requested_length» ≤ row) × (given ≤ row)
@@ -97,7 +97,7 @@ module _ (v : PlanFacts) where
 ready-plan : (v : Verdict) (q : ControlPlan) (p : ValidatedControlPlan) → plannedBy v q ≡ plan.Ready p
     → (v ≡ verdict.Pass) × (p .metadata .«requested_length» ≡ planOf q .metadata .«requested_length»)
 unfolding plannedBy
-ready-plan (verdict.Refused r) q p e = absurd (let z : _≡_ {A = ℕ} 0 1 = cc in omega arith)
+ready-plan (verdict.Refused r) q p e = (cc, cc)
 ready-plan verdict.Pass q p e = (refl, let z : planOf q ≡ p = cc in ap (λ (x : ValidatedControlPlan). x .metadata .«requested_length») (sym z))
 
 pub planned-fits : (q : ControlPlan) (given row : ℕ) (p : ValidatedControlPlan) → planned q given row ≡ plan.Ready p
