@@ -4,31 +4,34 @@ use mathlib.Core.Path.{_≡_, sym, _∙_}
 use mathlib.Core.Bool.{Bool, true, false}
 use mathlib.Core.List.{List, []}
 use native.Mathlib.Omega.{arith}
-use lib.ListN.{length, getD, take, drop, length-take, length-drop, length-map, List·getD-map}
+use lib.ListN.{length, getD, set, take, drop, length-take, length-drop, length-map, List·getD-map}
 use lib.Seq.{getD-take, getD-drop}
 use borrow.Author.Tests.{lt-ltb, le-ltb}
 use Rattle.chain.specs.Lists.{find, anyIn}
 use Rattle.chain.proofs.Chain.{takes, passes}
 use Rattle.chain.proofs.Lists.{find-on, find-here}
-use Rattle.words.specs.Records.{part}
-use Rattle.words.proofs.Records.{part-getD, part-length, chunks-at}
+use Rattle.words.specs.Records.{splice, part}
+use Rattle.words.proofs.Records.{part-getD, part-first, part-length, chunks-at}
 use Rattle.models.specs.Refusals.{validation}
 use Rattle.models.specs.declared.Refusal.{Refusal}
 use Rattle.models.specs.declared.TransferType.{TransferType}
 use Rattle.models.specs.declared.Verdict.the-variants as verdict
 use Rattle.bus.specs.Layout.{listsAt, busWords, endpointOf, endpointsOf}
-use Rattle.bus.specs.Tables.{Bus, busOf, endpointsAt, putEndpoints}
+use Rattle.bus.specs.Tables.{Bus, busOf, endpointsAt}
 use Rattle.bus.specs.Ports.{VerdictTo, verdictTo}
 use Rattle.bus.specs.Endpoints.{isEndpoint, setEndpoints}
+use Rattle.bus.proofs.Tabled.{put-endpoints}
 
-module _ (slot : ℕ) (e : List ℕ) (b : Bus) where
-  pub endpoints-over : (r : Refusal) → 30 < length e → r ≡ validation 53 → verdictTo (verdict.Refused r) b ≡ setEndpoints slot e b
-  unfolding setEndpoints
-  endpoints-over r h f = takes VerdictTo _ _ _ _ (lt-ltb _ _ h) (rw f)
+pub endpoints-over : (slot : ℕ) (e : List ℕ) (b : Bus) (r : Refusal) → 30 < length e → r ≡ validation 53
+    → verdictTo (verdict.Refused r) b ≡ setEndpoints slot e b
+unfolding setEndpoints
+endpoints-over slot e b r h f = takes VerdictTo _ _ _ _ (lt-ltb _ _ h) (rw f)
 
-  pub endpoints-set : (after : Bus) → length e ≤ 30 → after ≡ putEndpoints b slot e → verdictTo verdict.Pass after ≡ setEndpoints slot e b
-  unfolding setEndpoints
-  endpoints-set after h f = passes VerdictTo _ _ _ _ (le-ltb _ _ h) (rw f)
+pub endpoints-set : (slot : ℕ) (e l x : List ℕ) → length l ≡ busWords → slot < 256 → length e ≤ 30
+    → x ≡ splice (listsAt + slot * 31 + 1) (take (length e) e) (set l (listsAt + slot * 31) (length e))
+    → verdictTo verdict.Pass (busOf x) ≡ setEndpoints slot e (busOf l)
+unfolding setEndpoints
+endpoints-set slot e l x sized h few f = passes VerdictTo _ _ _ _ (le-ltb _ _ few) (rw (put-endpoints l x slot e sized h few f))
 
 -- what the words of a list say: as many as the count, 30 at the most
 listed-length : (q : List ℕ) → length q ≡ 31 → length (endpointsOf q) ≡ min (getD q 0 0) 30
@@ -53,7 +56,7 @@ module _ (l : List ℕ) (slot : ℕ) (sized : length l ≡ busWords) (h : slot <
   endpoints-are = chunks-at listsAt 31 endpointsOf 256 l slot [] h
 
   count-is : getD (part at 31 l) 0 0 ≡ getD l at 0
-  count-is = let z : at + 0 ≡ at = omega arith in rw z at (part-getD 0 at 31 l 0 (omega arith))
+  count-is = part-first 0 at 31 l (omega arith)
 
   pub endpoints-length : length (endpointsAt (busOf l) slot) ≡ min (getD l at 0) 30
   endpoints-length = rw (endpoints-are, ← count-is) (listed-length (part at 31 l) (part-length at 31 l (omega arith)))

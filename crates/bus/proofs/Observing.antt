@@ -1,12 +1,10 @@
 -- One law for each way out of the functions on ports: its premises are the facts in hand there. Assumes nothing.
-use Prim.Native.Nat.{ℕ, zero, suc, _+_, _-_, _<_, _≤_}
+use Prim.Native.Nat.{ℕ, _+_}
 use mathlib.Core.Path.{_≡_, refl, sym, ap, _∙_}
 use mathlib.Core.Bool.{Bool, true, false, not, _||_, Bool·beq}
-use native.Mathlib.Omega.{arith}
 use lib.Dec.{eqb, ltb}
 use borrow.Author.Tests.{eq-eqb, ne-eqb}
-use Rattle.chain.specs.Chain.{_if_else_}
-use Rattle.chain.proofs.Chain.{caseB, takes, passes, eq-not, ne-not}
+use Rattle.chain.proofs.Chain.{takes, passes, eq-not, ne-not}
 use Rattle.words.specs.declared.OptionU32.{OptionU32}
 use Rattle.words.specs.declared.OptionU32.the-variants as u32
 use Rattle.models.specs.Refusals.{validation, fromBackend}
@@ -18,47 +16,31 @@ use Rattle.models.specs.declared.PortReading.{PortReading}
 use Rattle.models.specs.declared.PortReading.the-variants.{Word, Error}
 use Rattle.models.specs.declared.Ports.{Ports}
 use Rattle.models.specs.declared.Refusal.{Refusal}
+use Rattle.models.specs.declared.Verdict.{Verdict}
 use Rattle.models.specs.declared.Verdict.the-variants as verdict
 use Rattle.standards.specs.Ports.{portConnected}
 use Rattle.bus.specs.Tables.{Bus, portAt, putPort}
-use Rattle.bus.specs.Ports.{portIndex, verdictTo, setPortAt, setPort, readingOf, isSession, validatedRow, validatedAt, validated, raised, observedBy, observedRow, observedTo, observePortBy, observePort, freshTo, freshObserved, freshWord, freshReading, freshBy, freshPort}
+use Rattle.bus.specs.Ports.{numberChecked, verdictTo, setPortBy, setPort, readingOf, isSession, validatedRow, validatedBy, validated, raised, observedBy, observedRow, observedTo, observePortBy, observePort, freshTo, freshObserved, freshWord, freshReading, freshBy, freshPort}
 use Rattle.bus.specs.declared.PortRow.{PortRow}
-use Rattle.bus.specs.declared.ports.PortIndex.{PortIndex}
-use Rattle.bus.specs.declared.ports.PortIndex.the-variants as index
 use Rattle.bus.specs.declared.ports.PortChecked.{PortChecked}
 use Rattle.bus.specs.declared.ports.PortChecked.the-variants as checked
 use Rattle.bus.specs.declared.ports.Observed.{Observed}
 use Rattle.bus.specs.declared.ports.Observed.the-variants as observed
 
--- the row of a port number
+-- a port number against the ports
 module _ (o : OptionPorts) (number : ℕ) where
-  pub index-none : (r : Refusal) → o ≡ ports.None → r ≡ validation 29 → index.Refused r ≡ portIndex o number
-  unfolding portIndex
-  index-none r e f = rw (e, f)
+  pub number-none : (r : Refusal) → o ≡ ports.None → r ≡ validation 29 → verdict.Refused r ≡ numberChecked o number
+  unfolding numberChecked
+  number-none r e f = rw (e, f)
 
   module _ (p : Ports) (e : o ≡ ports.Some p) where
-    pub index-out : (r : Refusal) → (eqb number 0 || ltb (p .count) number) ≡ true → r ≡ validation 30 → index.Refused r ≡ portIndex o number
-    unfolding portIndex
-    index-out r t f = rw (e, f) (takes PortIndex _ _ _ _ t refl)
+    pub number-out : (r : Refusal) → (eqb number 0 || ltb (p .count) number) ≡ true → r ≡ validation 30 → verdict.Refused r ≡ numberChecked o number
+    unfolding numberChecked
+    number-out r t f = rw (e, f) (takes Verdict _ _ _ _ t refl)
 
-    pub index-in : (eqb number 0 || ltb (p .count) number) ≡ false → index.At (number - 1) ≡ portIndex o number
-    unfolding portIndex
-    index-in t = rw e (passes PortIndex _ _ _ _ t refl)
-
--- a row stands only for a number from 1 on, and that of a byte is inside
-pub not-zero : (n : ℕ) (t : Bool) → (eqb n 0 || t) ≡ false → 1 ≤ n
-not-zero zero t = λ e. let z : _≡_ {A = ℕ} 0 1 = cc in absurd (omega arith)
-not-zero (suc n) t = λ e. omega arith
-
-below : (o : OptionPorts) (number i : ℕ) → number < 256 → portIndex o number ≡ index.At i → i < 255
-unfolding portIndex _if_else_
-below ports.None number i h = λ e. let z : _≡_ {A = ℕ} 0 1 = cc in absurd (omega arith)
-below (ports.Some p) number i h =
-    caseB (eqb number 0 || ltb (p .count) number) (λ t. rw t λ e. let z : _≡_ {A = ℕ} 0 1 = cc in absurd (omega arith))
-    (λ t. rw t λ e. let z : number - 1 ≡ i = cc in omega arith)
-
-pub index-below : (o : OptionPorts) (number i : ℕ) (x : PortIndex) → number < 256 → x ≡ portIndex o number → x ≡ index.At i → i < 255
-index-below o number i x h e f = below o number i h (sym e ∙ f)
+    pub number-in : (eqb number 0 || ltb (p .count) number) ≡ false → verdict.Pass ≡ numberChecked o number
+    unfolding numberChecked
+    number-in t = rw e (passes Verdict _ _ _ _ t refl)
 
 -- the session and the reading
 pub session-is : (o : OptionPorts) (p : Ports) (session : ℕ) → o ≡ ports.Some p → eqb session (p .session) ≡ isSession o session
@@ -85,24 +67,24 @@ module _ (o : OptionPorts) (id : PortId) where
     unfolding validatedRow
     row-read v t f = passes PortChecked _ _ _ _ (rw s at t) f
 
-  module _ (b : Bus) (x : PortIndex) (e : x ≡ portIndex o (id .number)) where
-    pub validated-out : (r : Refusal) → x ≡ index.Refused r → checked.Refused r ≡ validated o id b
-    unfolding validated validatedAt
+  module _ (b : Bus) (x : Verdict) (e : x ≡ numberChecked o (id .number)) where
+    pub validated-out : (r : Refusal) → x ≡ verdict.Refused r → checked.Refused r ≡ validated o id b
+    unfolding validated validatedBy
     validated-out r f = rw (← e, f)
 
-    pub validated-in : (i : ℕ) (row : PortRow) (v : PortChecked) → x ≡ index.At i → row ≡ portAt b i → v ≡ validatedRow o id row → v ≡ validated o id b
-    unfolding validated validatedAt
-    validated-in i row v f g h = h ∙ rw (← e, f, g)
+    pub validated-in : (row : PortRow) (v : PortChecked) → x ≡ verdict.Pass → row ≡ portAt b (id .number) → v ≡ validatedRow o id row → v ≡ validated o id b
+    unfolding validated validatedBy
+    validated-in row v f g h = h ∙ rw (← e, f, g)
 
 -- a row put, whatever its old words
-module _ (o : OptionPorts) (number : ℕ) (row : PortRow) (b : Bus) (x : PortIndex) (e : x ≡ portIndex o number) where
-  pub set-out : (r : Refusal) → x ≡ index.Refused r → verdictTo (verdict.Refused r) b ≡ setPort o number row b
-  unfolding setPort setPortAt
+module _ (o : OptionPorts) (number : ℕ) (row : PortRow) (b : Bus) (x : Verdict) (e : x ≡ numberChecked o number) where
+  pub set-out : (r : Refusal) → x ≡ verdict.Refused r → verdictTo x b ≡ setPort o number row b
+  unfolding setPort setPortBy
   set-out r f = rw (← e, f)
 
-  pub set-in : (i : ℕ) (after : Bus) → x ≡ index.At i → after ≡ putPort b i row → verdictTo verdict.Pass after ≡ setPort o number row b
-  unfolding setPort setPortAt
-  set-in i after f g = rw (← e, f, g)
+  pub set-in : (after : Bus) → x ≡ verdict.Pass → after ≡ putPort b number row → verdictTo verdict.Pass after ≡ setPort o number row b
+  unfolding setPort setPortBy
+  set-in after f g = rw (← e, f, g)
 
 -- a row after a reading
 module _ (row : PortRow) (raw : ℕ) where
@@ -128,29 +110,29 @@ module _ (row : PortRow) (raw : ℕ) where
     unfolding observedRow observedBy
     observed-kept h = passes Observed _ _ _ _ (rw (es, et) at h) refl ∙ sym (ap (λ (o : OptionU32). observedBy o row raw) e)
 
-module _ (i raw : ℕ) (b : Bus) (row : PortRow) (v : Observed) (e : row ≡ portAt b i) (f : v ≡ observedRow row raw) where
-  pub observe-full : (r : Refusal) → v ≡ observed.Refused r → observedTo (observed.Refused r) b ≡ observePort i raw b
+module _ (number raw : ℕ) (b : Bus) (row : PortRow) (v : Observed) (e : row ≡ portAt b number) (f : v ≡ observedRow row raw) where
+  pub observe-full : (r : Refusal) → v ≡ observed.Refused r → observedTo (observed.Refused r) b ≡ observePort number raw b
   unfolding observePort observePortBy
   observe-full r g = rw (← e, ← f, g)
 
-  pub observe-on : (w : PortRow) (after : Bus) → v ≡ observed.To w → after ≡ putPort b i w → observedTo (observed.To w) after ≡ observePort i raw b
+  pub observe-on : (w : PortRow) (after : Bus) → v ≡ observed.To w → after ≡ putPort b number w → observedTo (observed.To w) after ≡ observePort number raw b
   unfolding observePort observePortBy
   observe-on w after g h = rw (← e, ← f, g, h)
 
 -- a fresh reading
-module _ (id : PortId) (raw i : ℕ) (b after : Bus) (v : Observed) (e : i ≡ id .number - 1) (f : observedTo v after ≡ observePort i raw b) where
+module _ (id : PortId) (raw : ℕ) (b after : Bus) (v : Observed) (f : observedTo v after ≡ observePort (id .number) raw b) where
   pub fresh-full : (r : Refusal) → v ≡ observed.Refused r → freshTo (checked.Refused r) after ≡ freshWord raw id b
   unfolding freshWord freshObserved
-  fresh-full r g = rw (← e, ← f, g)
+  fresh-full r g = rw (← f, g)
 
   module _ (w : PortRow) (g : v ≡ observed.To w) where
     pub fresh-stale : (r : Refusal) → (id .generation ≡ w .generation → ⊥) → r ≡ validation 31 → freshTo (checked.Refused r) after ≡ freshWord raw id b
     unfolding freshWord freshObserved
-    fresh-stale r ne h = rw (← e, ← f, g) (ap (λ (c : PortChecked). freshTo c after) (takes PortChecked _ _ _ _ (ne-not _ _ ne) (ap checked.Refused h)))
+    fresh-stale r ne h = rw (← f, g) (ap (λ (c : PortChecked). freshTo c after) (takes PortChecked _ _ _ _ (ne-not _ _ ne) (ap checked.Refused h)))
 
     pub fresh-on : id .generation ≡ w .generation → freshTo (checked.Read raw) after ≡ freshWord raw id b
     unfolding freshWord freshObserved
-    fresh-on h = rw (← e, ← f, g) (ap (λ (c : PortChecked). freshTo c after) (passes PortChecked _ _ _ _ (eq-not _ _ h) refl))
+    fresh-on h = rw (← f, g) (ap (λ (c : PortChecked). freshTo c after) (passes PortChecked _ _ _ _ (eq-not _ _ h) refl))
 
 module _ (id : PortId) (b : Bus) (reading : PortReading) where
   pub reading-failed : (x : OperationError) (r : Refusal) → reading ≡ Error x → r ≡ fromBackend 33 x → freshTo (checked.Refused r) b ≡ freshReading reading id b

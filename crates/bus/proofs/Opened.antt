@@ -9,7 +9,7 @@ use native.Mathlib.Nat.{le-of-suc-le-suc, not-suc-le-zero}
 use lib.ListN.{length, getD, set, take, drop, replicate, length-append, length-set, length-replicate, drop-of-length-le}
 use lib.Seq.{take-at, drop-at, drop-drop, getD-append-add, length-take-le}
 use Rattle.words.specs.Records.{splice, part, chunks}
-use Rattle.words.proofs.Records.{splice-set, tab-all, chunks-all}
+use Rattle.words.proofs.Records.{splice-set, tab-all, chunks-all, zero-at}
 use Rattle.models.specs.declared.OptionDevice.the-variants as device
 use Rattle.bus.specs.Layout.{devicesAt, listsAt, marksAt, busWords, portOf, deviceOf, endpointsOf, markOf}
 use Rattle.bus.specs.Tables.{Bus, busOf, newPort, newPorts, cleared}
@@ -54,11 +54,6 @@ unfolding part
 port-words zero j z h = absurd (not-suc-le-zero h)
 port-words (suc n) zero z h = refl
 port-words (suc n) (suc j) z h = let e : suc j * 2 ≡ suc (suc (j * 2)) = omega arith in rw e (port-words n j z (le-of-suc-le-suc h))
-
-zero-at : (n k : ℕ) → _≡_ {A = ℕ} (getD (replicate n 0) k 0) 0
-zero-at zero k = refl
-zero-at (suc n) zero = refl
-zero-at (suc n) (suc k) = zero-at n k
 
 -- the bus of words l, at opening
 abbrev openedBus : List ℕ → Bus

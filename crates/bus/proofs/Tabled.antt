@@ -1,5 +1,5 @@
 -- The four tables of the bus: what a row reads, and one row put, which keeps the other tables. Assumes nothing.
-use Prim.Native.Nat.{ℕ, suc, _+_, _-_, _*_, _<_, _≤_}
+use Prim.Native.Nat.{ℕ, suc, _+_, _*_, _%_, _<_, _≤_}
 use mathlib.Core.Path.{_≡_, refl, sym, ap, _∙_}
 use mathlib.Core.Bool.{Bool, false}
 use mathlib.Core.List.{List, [], _∷_, _++_, map, append-assoc}
@@ -8,15 +8,17 @@ use native.Mathlib.Omega.{arith}
 use native.Mathlib.Numerals.{add-one}
 use lib.ListN.{length, getD, set, take, drop, length-append, length-drop, length-set, take-append-drop}
 use lib.Seq.{take-all, take-at, take-take, take-suc-set, drop-set-lt, drop-drop, drop-append-le}
+use borrow.Author.Tests.{ne-eqb}
 use Rattle.words.specs.Words.{flagOf, flagWord, optionU32Of, optionU32Word}
 use Rattle.words.specs.Records.{splice, part, chunks}
 use Rattle.words.specs.declared.OptionU32.{OptionU32}
-use Rattle.words.proofs.Records.{part-getD, part-length, splice-length, splice-set, length-chunks, chunks-at, chunks-put, chunks-kept}
+use Rattle.words.proofs.Records.{part-getD, part-first, part-length, splice-length, splice-set, length-chunks, chunks-at, chunks-put, chunks-kept}
+use Rattle.models.specs.Codes.{deviceStateOf}
 use Rattle.models.specs.declared.DeviceSnapshot.{DeviceSnapshot}
-use Rattle.models.specs.declared.OptionDevice.{OptionDevice}
+use Rattle.models.specs.declared.DeviceState.{DeviceState}
 use Rattle.models.specs.declared.OptionDevice.the-variants as device
 use Rattle.bus.specs.Layout.{devicesAt, listsAt, marksAt, busWords, portOf, portRecord, deviceOf, deviceRecord, endpointOf, endpointsOf, markOf}
-use Rattle.bus.specs.Tables.{Bus, busOf, newPort, portAt, deviceAt, markAt, putPort, putDevice, putEndpoints, putMark}
+use Rattle.bus.specs.Tables.{Bus, busOf, newPort, rowOf, portAt, deviceAt, markAt, putPort, putDevice, putEndpoints, putMark}
 use Rattle.bus.specs.declared.PortRow.{PortRow}
 
 -- words put inside one table keep each other table
@@ -38,24 +40,24 @@ module _ (l : List ℕ) (at : ℕ) (p : List ℕ) (sized : length l ≡ busWords
   keeps-marks h = chunks-kept marksAt 1 markOf 256 l at p (omega arith) (inl h)
 
 -- a port row
-pub port-is : (l : List ℕ) (i : ℕ) (r : OptionU32) → i < 255 → r ≡ optionU32Of (getD l (i * 2 + 1) 0)
-    → _≡_ {A = PortRow} (record { generation = getD l (i * 2) 0; reading = r }) (portAt (busOf l) i)
+pub port-is : (l : List ℕ) (number i : ℕ) (r : OptionU32) → i ≡ rowOf number → i < 255 → r ≡ optionU32Of (getD l (i * 2 + 1) 0)
+    → _≡_ {A = PortRow} (record { generation = getD l (i * 2) 0; reading = r }) (portAt (busOf l) number)
 unfolding busOf
-port-is l i r h e =
+port-is l number i r ei h e =
     let z : 0 + i * 2 ≡ i * 2 = omega arith in
-    let z0 : i * 2 + 0 ≡ i * 2 = omega arith in
-    rw (chunks-at 0 2 portOf 255 l i newPort h, e, z, part-getD 0 (i * 2) 2 l 0 (omega arith), part-getD 0 (i * 2) 2 l 1 (omega arith), z0)
+    rw (← ei, chunks-at 0 2 portOf 255 l i newPort h, e, z, part-first 0 (i * 2) 2 l (omega arith), part-getD 0 (i * 2) 2 l 1 (omega arith))
 
-pub put-port : (l x : List ℕ) (i w : ℕ) (r : PortRow) → length l ≡ busWords → i < 255 → optionU32Of w ≡ r .reading → w ≡ optionU32Word (r .reading)
-    → x ≡ splice (i * 2) (r .generation ∷ w ∷ []) l → busOf x ≡ putPort (busOf l) i r
+pub put-port : (l x : List ℕ) (number i w : ℕ) (r : PortRow) → length l ≡ busWords → i ≡ rowOf number → i < 255 → optionU32Of w ≡ r .reading
+    → w ≡ optionU32Word (r .reading) → x ≡ splice (i * 2) (r .generation ∷ w ∷ []) l → busOf x ≡ putPort (busOf l) number r
 unfolding busOf putPort
-put-port l x i w r sized h e f ex =
+put-port l x number i w r sized ei h e f ex =
     let p : List ℕ = r .generation ∷ w ∷ [] in
     let fits : i * 2 + 2 ≤ devicesAt = omega arith in
     let row : portOf p ≡ r = ap (λ (o : OptionU32). record { generation = r .generation; reading = o }) e in
     let z : 0 + i * 2 ≡ i * 2 = omega arith in
     let rows = rw z at (chunks-put 0 2 portOf 255 l i p h (omega arith) refl) in
     rw (
+      ← ei,
       ex,
       keeps-devices l (i * 2) p sized (omega arith) (inl fits),
       keeps-lists l (i * 2) p sized (omega arith) (inl (omega arith)),
@@ -66,12 +68,42 @@ put-port l x i w r sized h e f ex =
     )
 
 -- a device row
-pub device-is : (l : List ℕ) (slot : ℕ) (r : OptionDevice) → slot < 256
-    → r ≡ deviceOf (take (devicesAt + slot * 8 + 8 - (devicesAt + slot * 8)) (drop (devicesAt + slot * 8) l)) → r ≡ deviceAt (busOf l) slot
-unfolding busOf part
-device-is l slot r h e =
-    let w : devicesAt + slot * 8 + 8 - (devicesAt + slot * 8) ≡ 8 = omega arith in
-    e ∙ rw (w, chunks-at devicesAt 8 deviceOf 256 l slot device.None h)
+module _ (l : List ℕ) (slot : ℕ) (h : slot < 256) where
+  abbrev at : ℕ
+  at = devicesAt + slot * 8
+
+  device-row : deviceAt (busOf l) slot ≡ deviceOf (part at 8 l)
+  unfolding busOf
+  device-row = chunks-at devicesAt 8 deviceOf 256 l slot device.None h
+
+  word : (k : ℕ) → k < 8 → getD (part at 8 l) k 0 ≡ getD l (at + k) 0
+  word k g = part-getD 0 at 8 l k g
+
+  pub device-none : getD l at 0 ≡ 0 → device.None ≡ deviceAt (busOf l) slot
+  unfolding deviceOf
+  device-none e = rw (device-row, part-first 0 at 8 l (omega arith), e)
+
+  pub device-some : (s : DeviceState) → (getD l at 0 ≡ 0 → ⊥) → s ≡ deviceStateOf (getD l (at + 7) 0)
+      → device.Some (record {
+        id = record { session = getD l (at + 1) 0; generation = getD l (at + 2) 0; slot = getD l (at + 3) 0 % 256 };
+        port = record { session = getD l (at + 4) 0; generation = getD l (at + 5) 0; number = getD l (at + 6) 0 % 256 };
+        state = s;
+      }) ≡ deviceAt (busOf l) slot
+  unfolding deviceOf
+  device-some s ne es =
+      rw (
+        device-row,
+        part-first 0 at 8 l (omega arith),
+        ne-eqb _ _ ne,
+        word 1 (omega arith),
+        word 2 (omega arith),
+        word 3 (omega arith),
+        word 4 (omega arith),
+        word 5 (omega arith),
+        word 6 (omega arith),
+        word 7 (omega arith),
+        es,
+      )
 
 record-length : (d : DeviceSnapshot) → length (deviceRecord d) ≡ 8
 unfolding deviceRecord
@@ -99,8 +131,8 @@ put-device l x w d sized h e f ex =
 pub mark-is : (l : List ℕ) (slot : ℕ) (r : Bool) → slot < 256 → r ≡ flagOf (getD l (marksAt + slot) 0) → r ≡ markAt (busOf l) slot
 unfolding busOf
 mark-is l slot r h e =
-    let z : marksAt + slot * 1 + 0 ≡ marksAt + slot = omega arith in
-    e ∙ rw (chunks-at marksAt 1 markOf 256 l slot false h, part-getD 0 (marksAt + slot * 1) 1 l 0 (omega arith), z)
+    let z : marksAt + slot * 1 ≡ marksAt + slot = omega arith in
+    e ∙ rw (chunks-at marksAt 1 markOf 256 l slot false h, part-first 0 (marksAt + slot * 1) 1 l (omega arith), z)
 
 pub put-mark : (l : List ℕ) (slot w : ℕ) (m : Bool) → length l ≡ busWords → slot < 256 → flagOf w ≡ m → w ≡ flagWord m
     → busOf (set l (marksAt + slot) w) ≡ putMark (busOf l) slot m
@@ -173,9 +205,10 @@ put-endpoints l x slot e sized h few ex =
     )
 
 -- a put keeps the number of words
-pub put-port-length : (b : Bus) (i : ℕ) (r : PortRow) → length (b .words) ≡ busWords → i < 255 → length (putPort b i r .words) ≡ length (b .words)
+pub put-port-length : (b : Bus) (number : ℕ) (r : PortRow) → length (b .words) ≡ busWords → number < 256
+    → length (putPort b number r .words) ≡ length (b .words)
 unfolding putPort
-put-port-length b i r sized h = splice-length (i * 2) (portRecord r) (b .words) (omega arith)
+put-port-length b number r sized h = splice-length (rowOf number * 2) (portRecord r) (b .words) (omega arith)
 
 pub put-device-length : (b : Bus) (d : DeviceSnapshot) → length (b .words) ≡ busWords → d .id .slot < 256 → length (putDevice b d .words) ≡ length (b .words)
 unfolding putDevice

@@ -16,17 +16,15 @@ use Rattle.models.specs.declared.Verdict.the-variants as verdict
 use Rattle.standards.specs.Ports.{portConnected}
 use Rattle.bus.specs.Tables.{Bus, portAt, putPort}
 use Rattle.bus.specs.declared.PortRow.{PortRow}
-use Rattle.bus.specs.declared.ports.PortIndex.{PortIndex}
-use Rattle.bus.specs.declared.ports.PortIndex.the-variants as index
 use Rattle.bus.specs.declared.ports.PortChecked.{PortChecked}
 use Rattle.bus.specs.declared.ports.PortChecked.the-variants as checked
 use Rattle.bus.specs.declared.ports.Observed.{Observed}
 use Rattle.bus.specs.declared.ports.Observed.the-variants as observed
 
 -- 29: no ports; 30: the number is 0 or above the count
-unfoldable pub portIndex : OptionPorts → ℕ → PortIndex
-portIndex ports.None number = index.Refused (validation 29)
-portIndex (ports.Some p) number = index.Refused (validation 30) if eqb number 0 || ltb (p .count) number else index.At (number - 1)
+unfoldable pub numberChecked : OptionPorts → ℕ → Verdict
+numberChecked ports.None number = verdict.Refused (validation 29)
+numberChecked (ports.Some p) number = verdict.Refused (validation 30) if eqb number 0 || ltb (p .count) number else verdict.Pass
 
 -- a verdict and the bus after it
 pub record VerdictTo : Type 0 where
@@ -36,12 +34,12 @@ pub record VerdictTo : Type 0 where
 abbrev pub verdictTo : Verdict → Bus → VerdictTo
 verdictTo v b = record { answer = v; bus = b }
 
-unfoldable pub setPortAt : PortIndex → PortRow → Bus → VerdictTo
-setPortAt (index.Refused r) row b = verdictTo (verdict.Refused r) b
-setPortAt (index.At i) row b = verdictTo verdict.Pass (putPort b i row)
+unfoldable pub setPortBy : Verdict → ℕ → PortRow → Bus → VerdictTo
+setPortBy (verdict.Refused r) number row b = verdictTo (verdict.Refused r) b
+setPortBy verdict.Pass number row b = verdictTo verdict.Pass (putPort b number row)
 
 unfoldable pub setPort : OptionPorts → ℕ → PortRow → Bus → VerdictTo
-setPort ports number row b = setPortAt (portIndex ports number) row b
+setPort ports number row b = setPortBy (numberChecked ports number) number row b
 
 -- 32: no reading
 unfoldable pub readingOf : OptionU32 → PortChecked
@@ -59,13 +57,13 @@ validatedRow ports id row =
     checked.Refused (validation 31) if not (isSession ports (id .session)) || not (eqb (id .generation) (row .generation)) else
     readingOf (row .reading)
 
-unfoldable pub validatedAt : PortIndex → OptionPorts → PortId → Bus → PortChecked
-validatedAt (index.Refused r) ports id b = checked.Refused r
-validatedAt (index.At i) ports id b = validatedRow ports id (portAt b i)
+unfoldable pub validatedBy : Verdict → OptionPorts → PortId → Bus → PortChecked
+validatedBy (verdict.Refused r) ports id b = checked.Refused r
+validatedBy verdict.Pass ports id b = validatedRow ports id (portAt b (id .number))
 
 -- 29, 30, 31, 32
 unfoldable pub validated : OptionPorts → PortId → Bus → PortChecked
-validated ports id b = validatedAt (portIndex ports (id .number)) ports id b
+validated ports id b = validatedBy (numberChecked ports (id .number)) ports id b
 
 -- if the reading's connected bit differs from the row's, the generation rises by one; 34: it is at its maximum
 unfoldable pub raised : PortRow → ℕ → Observed
@@ -91,11 +89,11 @@ abbrev pub observedTo : Observed → Bus → ObservedTo
 observedTo o b = record { answer = o; bus = b }
 
 unfoldable pub observePortBy : Observed → ℕ → Bus → ObservedTo
-observePortBy (observed.Refused r) i b = observedTo (observed.Refused r) b
-observePortBy (observed.To row) i b = observedTo (observed.To row) (putPort b i row)
+observePortBy (observed.Refused r) number b = observedTo (observed.Refused r) b
+observePortBy (observed.To row) number b = observedTo (observed.To row) (putPort b number row)
 
 unfoldable pub observePort : ℕ → ℕ → Bus → ObservedTo
-observePort i raw b = observePortBy (observedRow (portAt b i) raw) i b
+observePort number raw b = observePortBy (observedRow (portAt b number) raw) number b
 
 -- a port with a fresh reading, and the bus after it
 pub record FreshTo : Type 0 where
@@ -113,7 +111,7 @@ freshObserved (observed.To row) id raw = checked.Refused (validation 31) if not 
 -- 34 with nothing written, or the row written
 unfoldable pub freshWord : ℕ → PortId → Bus → FreshTo
 freshWord raw id b =
-    freshTo (freshObserved (observePort (id .number - 1) raw b .answer) id raw) (observePort (id .number - 1) raw b .bus)
+    freshTo (freshObserved (observePort (id .number) raw b .answer) id raw) (observePort (id .number) raw b .bus)
 
 -- 33: the reading failed, with the backend's error
 unfoldable pub freshReading : PortReading → PortId → Bus → FreshTo

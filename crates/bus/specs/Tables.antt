@@ -33,9 +33,13 @@ busOf l = record {
 abbrev pub newPort : PortRow
 newPort = record { generation = 1; reading = u32.None }
 
--- row i of each table
+-- ports are numbered from 1
+abbrev pub rowOf : ℕ → ℕ
+rowOf number = number - 1
+
+-- a port by its number, and what stands at a slot
 abbrev pub portAt : Bus → ℕ → PortRow
-portAt b i = getD (b .ports) i newPort
+portAt b number = getD (b .ports) (rowOf number) newPort
 
 abbrev pub deviceAt : Bus → ℕ → OptionDevice
 deviceAt b slot = getD (b .devices) slot device.None
@@ -47,9 +51,9 @@ abbrev pub markAt : Bus → ℕ → Bool
 markAt b slot = getD (b .marks) slot false
 
 unfoldable pub putPort : Bus → ℕ → PortRow → Bus
-putPort b i r = record {
-  words = splice (i * portWords) (portRecord r) (b .words);
-  ports = set (b .ports) i r;
+putPort b number r = record {
+  words = splice (rowOf number * portWords) (portRecord r) (b .words);
+  ports = set (b .ports) (rowOf number) r;
   devices = b .devices;
   lists = b .lists;
   marks = b .marks;

@@ -13,27 +13,6 @@ ghost use Rattle.models.specs.declared.OptionDevice.the-variants as device;
 ghost use Rattle.bus.specs.Layout.{busWords, deviceOf, deviceRecord};
 ghost use Rattle.bus.specs.Tables.{busOf, deviceAt, putDevice, markAt, putMark};
 
-fn decode_device(w: &[u64]) -> OptionDevice
-    requires { ⌜ length (now w) ≡ 8 ⌝ }
-    ensures { λ r. ⌜ r ≡ deviceOf (now (w .entry)) ⌝ }
-{
-    if w[0] == 0 {
-        return OptionDevice::None;
-    }
-    let id = DeviceId {
-        session: w[1],
-        generation: w[2],
-        slot: (w[3] % 256) as u8,
-    };
-    let port = PortId {
-        session: w[4],
-        generation: w[5],
-        number: (w[6] % 256) as u8,
-    };
-    let state = codes::to_device_state(w[7]);
-    OptionDevice::Some(DeviceSnapshot { id, port, state })
-}
-
 fn encode_device(d: DeviceSnapshot) -> [u64; 8]
     ensures { λ w. ⌜ (deviceOf w ≡ device.Some d) × (w ≡ deviceRecord d) ⌝ }
 {
@@ -55,8 +34,21 @@ pub fn read_device(bus: &[u64], slot: u8) -> OptionDevice
     ensures { λ r. ⌜ r ≡ deviceAt (busOf (now (bus .entry))) slot ⌝ }
 {
     let at = DEVICES + slot as usize * 8;
-    let end = at + 8;
-    decode_device(&bus[at..end])
+    if bus[at] == 0 {
+        return OptionDevice::None;
+    }
+    let id = DeviceId {
+        session: bus[at + 1],
+        generation: bus[at + 2],
+        slot: (bus[at + 3] % 256) as u8,
+    };
+    let port = PortId {
+        session: bus[at + 4],
+        generation: bus[at + 5],
+        number: (bus[at + 6] % 256) as u8,
+    };
+    let state = codes::to_device_state(bus[at + 7]);
+    OptionDevice::Some(DeviceSnapshot { id, port, state })
 }
 
 // The device takes the place of its slot's.

@@ -6,23 +6,13 @@ use models::codes;
 use models::kinds;
 use words::slices;
 ghost use mathlib.Core.Path.{_≡_};
-ghost use Prim.Native.Nat.{_≤_, min};
+ghost use Prim.Native.Nat.{min};
 ghost use lib.ListN.{length};
 ghost use Rattle.chain.specs.Lists.{anyIn};
 ghost use Rattle.bus.specs.Layout.{busWords, endpointOf};
-ghost use Rattle.bus.specs.Tables.{busOf, endpointsAt, putEndpoints};
+ghost use Rattle.bus.specs.Tables.{busOf, endpointsAt};
 ghost use Rattle.bus.specs.Ports.{verdictTo};
 ghost use Rattle.bus.specs.Endpoints.{isEndpoint, setEndpoints};
-
-fn write_endpoints(bus: &mut [u64], slot: u8, list: &[u64])
-    requires { ⌜ (length (now bus) ≡ busWords) × (length (now list) ≤ 30) ⌝ }
-    ensures { λ _. ⌜ busOf (now (bus .exit)) ≡ putEndpoints (busOf (now (bus .entry))) slot (now (list .entry)) ⌝ }
-{
-    let at = ENDPOINTS + slot as usize * 31;
-    let n = list.len();
-    bus[at] = n as u64;
-    slices::copy_words(bus, at + 1, list, n);
-}
 
 // The list takes the place of the slot's; 53: it has more than 30.
 pub fn set_endpoints(bus: &mut [u64], slot: u8, list: &[u64]) -> Verdict
@@ -32,7 +22,10 @@ pub fn set_endpoints(bus: &mut [u64], slot: u8, list: &[u64]) -> Verdict
     if list.len() > 30 {
         return Verdict::Refused(models::refuse_validation(53));
     }
-    write_endpoints(bus, slot, list);
+    let at = ENDPOINTS + slot as usize * 31;
+    let n = list.len();
+    bus[at] = n as u64;
+    slices::copy_words(bus, at + 1, list, n);
     Verdict::Pass
 }
 

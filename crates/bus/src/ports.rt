@@ -9,17 +9,11 @@ use standards::ports::port_connected;
 use words::OptionU32;
 use words::slices;
 ghost use mathlib.Core.Path.{_≡_};
-ghost use Prim.Native.Nat.{_-_, _<_};
+ghost use Prim.Native.Nat.{_<_};
 ghost use lib.ListN.{length};
 ghost use Rattle.bus.specs.Layout.{busWords};
-ghost use Rattle.bus.specs.Tables.{busOf, portAt, putPort};
-ghost use Rattle.bus.specs.Ports.{portIndex, verdictTo, setPort, readingOf, isSession, validatedRow, validated, raised, observedRow, observedTo, observePort, freshTo, freshWord, freshReading, freshPort};
-
-// The row of a port number.
-pub enum PortIndex {
-    Refused(Refusal),
-    At(usize),
-}
+ghost use Rattle.bus.specs.Tables.{busOf, rowOf, portAt, putPort};
+ghost use Rattle.bus.specs.Ports.{numberChecked, verdictTo, setPort, readingOf, isSession, validatedRow, validated, raised, observedRow, observedTo, observePort, freshTo, freshWord, freshReading, freshPort};
 
 // A port that was validated, with its reading.
 pub enum PortChecked {
@@ -33,11 +27,22 @@ pub enum Observed {
     To(PortRow),
 }
 
-pub fn read_port(bus: &[u64], i: usize) -> PortRow
-    requires { ⌜ (length (now bus) ≡ busWords) × (i < 255) ⌝ }
-    ensures { λ r. ⌜ r ≡ portAt (busOf (now (bus .entry))) i ⌝ }
+// Ports are numbered from 1; number 0, which no port has, is given port 1's row.
+fn row_of(number: u8) -> usize
+    ensures { λ r. ⌜ (r ≡ rowOf number) × (r < 255) ⌝ }
 {
-    let at = i * 2;
+    if number == 0 {
+        0
+    } else {
+        (number - 1) as usize
+    }
+}
+
+pub fn read_port(bus: &[u64], number: u8) -> PortRow
+    requires { ⌜ length (now bus) ≡ busWords ⌝ }
+    ensures { λ r. ⌜ r ≡ portAt (busOf (now (bus .entry))) number ⌝ }
+{
+    let at = row_of(number) * 2;
     let reading = words::to_option_u32(bus[at + 1]);
     PortRow {
         generation: bus[at],
@@ -45,26 +50,27 @@ pub fn read_port(bus: &[u64], i: usize) -> PortRow
     }
 }
 
-pub fn write_port(bus: &mut [u64], i: usize, row: PortRow)
-    requires { ⌜ (length (now bus) ≡ busWords) × (i < 255) ⌝ }
-    ensures { λ _. ⌜ busOf (now (bus .exit)) ≡ putPort (busOf (now (bus .entry))) i row ⌝ }
+pub fn write_port(bus: &mut [u64], number: u8, row: PortRow)
+    requires { ⌜ length (now bus) ≡ busWords ⌝ }
+    ensures { λ _. ⌜ busOf (now (bus .exit)) ≡ putPort (busOf (now (bus .entry))) number row ⌝ }
 {
+    let at = row_of(number) * 2;
     let reading = row.reading;
     let w = [row.generation, words::option_u32_word(reading)];
-    slices::copy_words(bus, i * 2, &w, 2);
+    slices::copy_words(bus, at, &w, 2);
 }
 
 // 29: no ports; 30: the number is 0 or above the count.
-pub fn port_index(ports: OptionPorts, number: u8) -> PortIndex
-    ensures { λ r. ⌜ r ≡ portIndex ports number ⌝ }
+fn check_number(ports: OptionPorts, number: u8) -> Verdict
+    ensures { λ r. ⌜ r ≡ numberChecked ports number ⌝ }
 {
     let OptionPorts::Some(p) = ports else {
-        return PortIndex::Refused(models::refuse_validation(29));
+        return Verdict::Refused(models::refuse_validation(29));
     };
     if (number == 0) | (number > p.count) {
-        return PortIndex::Refused(models::refuse_validation(30));
+        return Verdict::Refused(models::refuse_validation(30));
     }
-    PortIndex::At((number - 1) as usize)
+    Verdict::Pass
 }
 
 // Puts a port row, whatever its old words.
@@ -72,14 +78,12 @@ pub fn set_port(bus: &mut [u64], ports: OptionPorts, number: u8, row: PortRow) -
     requires { ⌜ length (now bus) ≡ busWords ⌝ }
     ensures { λ r. ⌜ verdictTo r (busOf (now (bus .exit))) ≡ setPort ports number row (busOf (now (bus .entry))) ⌝ }
 {
-    let index = port_index(ports, number);
-    match index {
-        PortIndex::Refused(refusal) => Verdict::Refused(refusal),
-        PortIndex::At(i) => {
-            write_port(bus, i, row);
-            Verdict::Pass
-        }
-    }
+    let checked = check_number(ports, number);
+    let Verdict::Pass = checked else {
+        return checked;
+    };
+    write_port(bus, number, row);
+    Verdict::Pass
 }
 
 // The session number that port ids carry is the opening's.
@@ -119,11 +123,11 @@ pub fn validate(bus: &[u64], ports: OptionPorts, id: PortId) -> PortChecked
     requires { ⌜ length (now bus) ≡ busWords ⌝ }
     ensures { λ r. ⌜ r ≡ validated ports id (busOf (now (bus .entry))) ⌝ }
 {
-    let index = port_index(ports, id.number);
-    match index {
-        PortIndex::Refused(refusal) => PortChecked::Refused(refusal),
-        PortIndex::At(i) => {
-            let row = read_port(bus, i);
+    let checked = check_number(ports, id.number);
+    match checked {
+        Verdict::Refused(refusal) => PortChecked::Refused(refusal),
+        Verdict::Pass => {
+            let row = read_port(bus, id.number);
             validate_row(ports, id, row)
         }
     }
@@ -160,30 +164,19 @@ pub fn observe_row(row: PortRow, raw: u32) -> Observed
     Observed::To(next)
 }
 
-// Observes port row i, and writes it unless 34.
-pub fn observe(bus: &mut [u64], i: usize, raw: u32) -> Observed
-    requires { ⌜ (length (now bus) ≡ busWords) × (i < 255) ⌝ }
-    ensures { λ r. ⌜ observedTo r (busOf (now (bus .exit))) ≡ observePort i raw (busOf (now (bus .entry))) ⌝ }
+// Observes a port, and writes its row unless 34.
+pub fn observe(bus: &mut [u64], number: u8, raw: u32) -> Observed
+    requires { ⌜ length (now bus) ≡ busWords ⌝ }
+    ensures { λ r. ⌜ observedTo r (busOf (now (bus .exit))) ≡ observePort number raw (busOf (now (bus .entry))) ⌝ }
 {
-    let row = read_port(bus, i);
+    let row = read_port(bus, number);
     let next = observe_row(row, raw);
     match next {
         Observed::Refused(refusal) => Observed::Refused(refusal),
         Observed::To(written) => {
-            write_port(bus, i, written);
+            write_port(bus, number, written);
             Observed::To(written)
         }
-    }
-}
-
-// The row of a port number, which is not 0 where it was validated.
-fn row_of(number: u8) -> usize
-    ensures { λ r. ⌜ (r ≡ number - 1) × (r < 255) ⌝ }
-{
-    if number == 0 {
-        0
-    } else {
-        (number - 1) as usize
     }
 }
 
@@ -192,8 +185,7 @@ fn observe_word(bus: &mut [u64], id: PortId, raw: u32) -> PortChecked
     requires { ⌜ length (now bus) ≡ busWords ⌝ }
     ensures { λ r. ⌜ freshTo r (busOf (now (bus .exit))) ≡ freshWord raw id (busOf (now (bus .entry))) ⌝ }
 {
-    let i = row_of(id.number);
-    let next = observe(bus, i, raw);
+    let next = observe(bus, id.number, raw);
     match next {
         Observed::Refused(refusal) => PortChecked::Refused(refusal),
         Observed::To(row) => {

@@ -41,6 +41,19 @@ not-through s t b e f = ap not (sym e) ∙ f
 pub fits-told : (s t : Bool) → s ≡ t → not s ≡ false → t ≡ true
 fits-told s t e f = sym e ∙ not-false s f
 
+-- of two tests by `&&`, and of a negation
+pub both : (a b : Bool) → (a && b) ≡ true → (a ≡ true) × (b ≡ true)
+both true b e = (refl, e)
+both false b e = (e, cc)
+
+pub and-false : (a : Bool) → (a && false) ≡ false
+and-false true = refl
+and-false false = refl
+
+pub not-not : (a : Bool) → not (not a) ≡ a
+not-not true = refl
+not-not false = refl
+
 pub and-left : (a b : Bool) → (a && b) ≡ false → a ≡ true → b ≡ false
 and-left true b e f = e
 and-left false b e f = cc

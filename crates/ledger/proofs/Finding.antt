@@ -1,6 +1,6 @@
 -- Laws of the searches: what a row's words say of the test, and where the loop stops. Assumes nothing.
 use Prim.Native.Nat.{ℕ, _+_, _<_, _≤_}
-use mathlib.Core.Path.{_≡_, refl, sym}
+use mathlib.Core.Path.{_≡_, sym}
 use mathlib.Core.Bool.{Bool, true, false, _&&_}
 use mathlib.Core.List.{List}
 use native.Mathlib.Omega.{arith}
@@ -8,6 +8,7 @@ use lib.ListN.{length, getD}
 use borrow.Author.Tests.{ne-eqb, lt-ltb, le-ltb}
 use Rattle.chain.specs.Lists.{find, anyIn, foundIn}
 use Rattle.chain.specs.declared.Found.the-variants.{At, Nothing}
+use Rattle.chain.proofs.Chain.{and-false}
 use Rattle.chain.proofs.Lists.{find-on, find-here, found-at, found-none}
 use Rattle.models.specs.Requests.{sameRequest}
 use Rattle.models.specs.declared.RequestId.{RequestId}
@@ -23,15 +24,9 @@ at-is r id b e = rw e
 pub at-row : (id : RequestId) (r s : Row) (b : Bool) → r ≡ s → b ≡ isAt id r → b ≡ isAt id s
 at-row id r s b e f = rw e at f
 
-and-false : (a b c : Bool) → (a && (b && c && false)) ≡ false
-and-false true true true = refl
-and-false true true false = refl
-and-false true false c = refl
-and-false false b c = refl
-
 pub other-sequence : (id : RequestId) (r : Row) (own : ℕ) → own ≡ r .id .sequence → (own ≡ id .sequence → ⊥) → false ≡ isAt id r
 unfolding isAt
-other-sequence id r own e h = rw (← e, ne-eqb own (id .sequence) h, and-false)
+other-sequence id r own e h = rw (← e, ne-eqb own (id .sequence) h, and-false, and-false)
 
 -- a search for p that has come to row i of n
 abbrev pub Sought : (Row → Bool) → List Row → ℕ → ℕ → Type 0

@@ -1,6 +1,6 @@
 -- Laws of numbers that stop at the maximum of their w bits, and of the tallies that are such numbers. Assumes nothing.
 use Prim.Native.Nat.{ℕ, _+_, _-_, _^_, _<_, _≤_}
-use mathlib.Core.Path.{_≡_, refl, sym, _∙_}
+use mathlib.Core.Path.{_≡_, sym, _∙_}
 use mathlib.Core.Bool.{Bool, true, false, cond, not, _&&_}
 use mathlib.Core.List.{List}
 use native.Mathlib.Omega.{arith}
@@ -11,15 +11,11 @@ use lib.Pow.{pow-pos}
 use lib.Seq.{take-all}
 use borrow.Author.Tests.{lt-ltb, ltb-true, ltb-false, not-true, not-false}
 use Rattle.chain.specs.Lists.{sumBy, only, count}
-use Rattle.chain.proofs.Chain.{caseB}
+use Rattle.chain.proofs.Chain.{caseB, both}
 use Rattle.chain.proofs.Lists.{sum-suc}
 use Rattle.rows.specs.Table.{emptyRow, isHeld}
 use Rattle.rows.specs.declared.Row.{Row}
 use Rattle.ledger.specs.Tally.{saturate, heldLength, heldCount, heldBytes}
-
-both : (a b : Bool) → (a && b) ≡ true → (a ≡ true) × (b ≡ true)
-both true b e = (refl, e)
-both false b e = (e, cc)
 
 module _ (w : ℕ) where
   pub saturate-plain : (n : ℕ) → n < 2 ^ w → saturate w n ≡ n

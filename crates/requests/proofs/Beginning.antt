@@ -67,7 +67,7 @@ module _ (rows : List Row) (n : ℕ) (e : n ≡ heldCount 16 rows) where
       let z : n ≡ saturate 16 (count isHeld rows) = e in
       passes Found _ _ _ _ (lt-leb 128 (count isHeld rows) (below-128 (count isHeld rows) (omega arith))) ef
 
-found-free : (rows : List Row) (i : ℕ) → roomIn rows ≡ found.At i → foundIn isFree rows ≡ found.At i
+pub found-free : (rows : List Row) (i : ℕ) → roomIn rows ≡ found.At i → foundIn isFree rows ≡ found.At i
 unfolding roomIn _if_else_
 found-free rows i =
     caseB (leb 128 (count isHeld rows)) (λ t. rw t λ e. let z : _≡_ {A = ℕ} 0 1 = cc in absurd (omega arith)) (λ t. rw t λ e. e)

@@ -1,13 +1,9 @@
 -- One law for each way out of a poll's reply: its premises are the facts in hand there. Assumes nothing.
-use Prim.Native.Nat.{ℕ, _+_, _*_, _<_, _≤_, min}
+use Prim.Native.Nat.{ℕ, _*_, min}
 use mathlib.Core.Bool.{Bool, true, false, not, _&&_}
 use mathlib.Core.List.{List}
 use mathlib.Core.Path.{_≡_, refl, sym, ap, _∙_}
-use native.Mathlib.Nat.{min-le-right}
-use native.Mathlib.Omega.{arith}
 use borrow.Author.Tests.{not-true, not-false}
-use mir.Syntax.{w64}
-use mir.Val.{Fits}
 use lib.ListN.{length, getD, take}
 use Rattle.chain.specs.Lists.{foundIn}
 use Rattle.chain.specs.declared.Found.{Found}
@@ -28,7 +24,7 @@ use Rattle.models.specs.declared.RequestId.{RequestId}
 use Rattle.models.specs.declared.RequestMetadata.{RequestMetadata}
 use Rattle.models.specs.declared.RequestReport.{RequestReport}
 use Rattle.standards.specs.Completion.{isStall}
-use Rattle.rows.specs.Table.{emptyRow, rowsOf}
+use Rattle.rows.specs.Table.{emptyRow}
 use Rattle.rows.specs.Store.{Store, putIn}
 use Rattle.rows.specs.declared.Row.{Row}
 use Rattle.ledger.specs.Rules.{changeRow, reportOf}
@@ -37,7 +33,6 @@ use Rattle.ledger.specs.declared.rules.Change.{Change}
 use Rattle.ledger.specs.declared.rules.Change.the-variants as change
 use Rattle.ledger.specs.declared.rules.Step.{Step}
 use Rattle.ledger.specs.declared.rules.Step.the-variants as step
-use Rattle.ledger.proofs.Placing.{found-in}
 use Rattle.checks.specs.Completion.{testCompletion}
 use Rattle.checks.specs.declared.completion.CompletionTest.{CompletionTest}
 use Rattle.checks.specs.declared.completion.CompletionTest.the-variants as test
@@ -49,8 +44,6 @@ use Rattle.session.specs.declared.OptionStall.the-variants as stall
 use Rattle.session.specs.declared.RecoveryKind.{RecoveryKind}
 use Rattle.models.specs.declared.DeviceId.{DeviceId}
 use Rattle.session.specs.declared.Session.{Session}
-use Rattle.session.specs.Sizes.{rowsFit, areaFits}
-use Rattle.session.proofs.Sized.{row-below, area-in, place-small}
 use Rattle.requests.specs.Answers.{effect, reportRefused}
 use Rattle.requests.specs.Finish.{isRecovery, codeIsStall, isScopedStall, stallOf, failedAs, invalidAs, judgedTest, judgedBy, judged, FinishTo, finishTo, storedIn, settled, finishAt, finishBy, finishFound, finishIn, finishOf}
 use Rattle.requests.specs.declared.PollReply.{PollReply}
@@ -186,32 +179,6 @@ module _ (s : Session) (p q : Bool) (id : RequestId) (r : PollReply) (bytes : Li
         → y ≡ finishAt r idle i (i * s .«row_bytes») (s .«row_bytes») bytes store area → y ≡ finishFound s (p && q) id r bytes store area
     unfolding finishFound finishBy
     finish-found i idle y e ei ey = passes FinishTo _ _ _ _ (rw (ea, eb) at t) (ey ∙ rw (sym eg ∙ e, ei))
-
--- both sizes were found to fit
-both-first : (a b : Bool) → not (a && b) ≡ false → not a ≡ false
-both-first true b t = refl
-both-first false b t = t
-
-both-second : (a b : Bool) → not (a && b) ≡ false → not b ≡ false
-both-second true b t = t
-both-second false b t = let z : _≡_ {A = ℕ} 0 1 = cc in absurd (omega arith)
-
--- where the bytes of a row that was found lie
-module _ (count bytes : ℕ) (w : List ℕ) (size : ℕ) (a b : Bool) (ea : a ≡ rowsFit count bytes (length w)) (eb : b ≡ areaFits count bytes size) where
-  module _ (t : not (a && b) ≡ false) (id : RequestId) (g : Found) (i : ℕ) (eg : g ≡ foundIn (isAt id) (rowsOf w)) (e : g ≡ found.At i) where
-    found-below : i < count
-    found-below = row-below count bytes w a i ea (both-first a b t) (found-in (isAt id) (rowsOf w) g i eg e)
-
-    pub found-fits : Fits w64 (i * bytes)
-    found-fits = omega (arith, place-small count bytes size b eb (both-second a b t) i found-below)
-
-    pub found-room : i * bytes + bytes ≤ size
-    found-room = area-in count bytes size b eb (both-second a b t) i found-below
-
-    -- and those of them that are filled
-    module _ (len n : ℕ) (en : n ≡ min len bytes) where
-      pub part-end : i * bytes + n ≤ size
-      part-end = omega (arith, found-room, min-le-right len bytes)
 
 -- by what is in flight
 module _ (s : Session) (fits : Bool) (r : PollReply) (bytes : List ℕ) (store : Store) (area : List ℕ) where

@@ -6,7 +6,6 @@ use ledger::rules;
 use ledger::rules::Spent;
 use ledger::search;
 use ledger::tally;
-use models::OptionPorts;
 use models::PortReading;
 use models::Refusal;
 use models::RequestId;
@@ -35,7 +34,7 @@ pub struct Started {
     pub session: Session,
 }
 
-pub fn start_refused(session: Session, refusal: Refusal) -> Started
+pub(crate) fn start_refused(session: Session, refusal: Refusal) -> Started
     ensures { λ r. ⌜ r ≡ startRefused session refusal ⌝ }
 {
     Started {
@@ -45,7 +44,7 @@ pub fn start_refused(session: Session, refusal: Refusal) -> Started
 }
 
 // The row for a new request; 5: all rows are used, or 128 are held.
-pub fn find_room(rows: &[u64]) -> Found
+pub(crate) fn find_room(rows: &[u64]) -> Found
     ensures { λ r. ⌜ r ≡ roomIn (rowsOf (now (rows .entry))) ⌝ }
 {
     if tally::held_count(rows) >= 128 {
@@ -108,7 +107,7 @@ fn begin(
 }
 
 // 26 to 38, then 39.
-pub fn begin_target(
+pub(crate) fn begin_target(
     session: Session,
     bus: &mut [u64],
     rows: &mut [u64],

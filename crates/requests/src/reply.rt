@@ -23,12 +23,12 @@ ghost use Rattle.requests.specs.Reply.{acceptedBy, discardedBy, submitRe
 fn accepted(applied: Applied, session: Session) -> Reported
     ensures { λ r. ⌜ r ≡ acceptedBy applied session ⌝ }
 {
-    match applied {
-        Applied::Refused(_) => refused_by(session, 2),
-        Applied::Done(report) => Reported {
-            answer: ReportAnswer::Report(report),
-            session: session::with_flight(session, InFlight::Nothing),
-        },
+    let Applied::Done(report) = applied else {
+        return refused_by(session, 2);
+    };
+    Reported {
+        answer: ReportAnswer::Report(report),
+        session: session::with_flight(session, InFlight::Nothing),
     }
 }
 
@@ -36,14 +36,12 @@ fn accepted(applied: Applied, session: Session) -> Reported
 fn discarded(applied: Applied, error: OperationError, session: Session) -> Reported
     ensures { λ r. ⌜ r ≡ discardedBy applied error session ⌝ }
 {
-    match applied {
-        Applied::Refused(_) => refused_by(session, 2),
-        Applied::Done(_) => {
-            let marked = take_effect(session, error);
-            let ended = session::with_flight(marked, InFlight::Nothing);
-            refused(ended, models::refuse_backend(45, error))
-        }
-    }
+    let Applied::Done(_) = applied else {
+        return refused_by(session, 2);
+    };
+    let marked = take_effect(session, error);
+    let ended = session::with_flight(marked, InFlight::Nothing);
+    refused(ended, models::refuse_backend(45, error))
 }
 
 fn reply_to(session: Session, rows: &mut [u64], id: RequestId, reply: SubmitReply) -> Reported

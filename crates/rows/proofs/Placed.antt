@@ -7,7 +7,7 @@ use lib.ListN.{length, getD, set, take, drop, replicate, length-replicate, drop-
 use lib.Seq.{getD-append-add, take-all}
 use Rattle.words.specs.Words.{flagWord}
 use Rattle.words.specs.Records.{splice, part}
-use Rattle.words.proofs.Records.{length-tab, getD-tab, set-tab, tab-all, part-getD, part-all}
+use Rattle.words.proofs.Records.{length-tab, getD-tab, set-tab, tab-all, part-getD, part-all, zero-at}
 use Rattle.rows.specs.Codec.{rowOf, metadataOf, recordOf, stateWords}
 use Rattle.rows.specs.Table.{recordWords, rowWords, rowCount, recordAt, wordsAt, putWords, putRow, rowsOf, emptyRow, rowAt, wordAt}
 use Rattle.rows.specs.Store.{storeOf, putIn, emptied}
@@ -102,11 +102,6 @@ put-row l m x i u at z w r h ea hu hz d hw em ex =
     rw (e3, e1 ∙ e2)
 
 -- every word 0: every row free
-zero-at : (n m : ℕ) → _≡_ {A = ℕ} (getD (replicate n 0) m 0) 0
-zero-at zero m = refl
-zero-at (suc n) zero = refl
-zero-at (suc n) (suc m) = zero-at n m
-
 free-row : (n w i : ℕ) → i < n → n * rowWords ≤ w → rowOf (wordsAt n (replicate w 0) i) ≡ emptyRow
 unfolding rowOf metadataOf wordsAt emptyRow
 free-row n w i h room =

@@ -1,14 +1,14 @@
 -- What a few words of a row say of it: the laws of the column readers. Assumes nothing.
 use Prim.Native.Nat.{ℕ, _<_}
-use mathlib.Core.Path.{_≡_, refl, sym, ap, _∙_}
-use mathlib.Core.Bool.{Bool, true, false, not, _&&_}
+use mathlib.Core.Path.{_≡_, sym, ap, _∙_}
+use mathlib.Core.Bool.{Bool, true, false}
 use mathlib.Core.List.{List}
 use native.Mathlib.Omega.{arith}
 use lib.ListN.{length, drop}
 use lib.Seq.{getD-take, getD-drop}
 use lib.Dec.{eqb}
 use borrow.Author.Tests.{ne-eqb}
-use Rattle.chain.proofs.Chain.{caseB}
+use Rattle.chain.proofs.Chain.{caseB, and-false, not-not}
 use Rattle.words.specs.Words.{flagOf}
 use Rattle.models.specs.Requests.{deviceMayAccess, isUncertainFailure}
 use Rattle.rows.specs.Codec.{rowOf, metadataOf, stateOf}
@@ -36,14 +36,6 @@ unfolding rowOf
 token-is l i w h e = e ∙ ap (λ (r : Row). r .token) (row-is l i h)
 
 -- of a row by its words: free, or with a tag
-and-false : (b : Bool) → (b && false) ≡ false
-and-false true = refl
-and-false false = refl
-
-not-not : (b : Bool) → not (not b) ≡ b
-not-not true = refl
-not-not false = refl
-
 no-failure : (tag a b c d e f : ℕ) → (tag ≡ 2 → ⊥) → isUncertainFailure (stateOf tag a b c d e f) ≡ false
 no-failure tag a b c d e f h =
     rw (ne-eqb tag 2 h) (caseB (eqb tag 0) (λ y. rw y) (λ y. rw y (caseB (eqb tag 1) (λ z. rw z) (λ z. rw z))))

@@ -2,7 +2,7 @@
 use Prim.Native.Nat.{ℕ, _+_, _*_, _<_, _≤_}
 use mathlib.Core.Bool.{Bool, true, false, not, _&&_}
 use mathlib.Core.List.{List}
-use mathlib.Core.Path.{_≡_, refl}
+use mathlib.Core.Path.{_≡_}
 use native.Mathlib.Nat.{mul-le-mul}
 use native.Mathlib.Omega.{arith}
 use borrow.Author.Tests.{leb-true, eqb-true, not-true, not-false}
@@ -10,17 +10,13 @@ use lib.ListN.{length}
 use lib.Dec.{eqb}
 use mir.Syntax.{w64}
 use mir.Val.{Fits}
-use Rattle.chain.proofs.Chain.{fits-told}
+use Rattle.chain.proofs.Chain.{both, fits-told}
 use Rattle.words.proofs.Records.{record-in}
 use Rattle.rows.specs.Table.{rowWords, rowCount, rowsOf}
 use Rattle.rows.proofs.Placed.{length-rowsOf}
 use Rattle.bus.specs.Layout.{busWords}
 use Rattle.session.specs.Sizes.{sized, rowsFit, areaFits, busFits, openFits}
 use Rattle.session.specs.declared.lifecycle.Opening.{Opening}
-
-both : (a b : Bool) → (a && b) ≡ true → (a ≡ true) × (b ≡ true)
-both true b e = (refl, e)
-both false b e = let z : _≡_ {A = ℕ} 0 1 = cc in absurd (omega arith)
 
 pub product-small : (n b : ℕ) → n ≤ 1024 → b ≤ 65536 → n * b ≤ 67108864
 product-small n b h k = mul-le-mul h k

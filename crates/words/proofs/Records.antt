@@ -58,6 +58,9 @@ module _ {A : Type 0} where
   unfolding part
   part-getD d at w l k h = rw (getD-take, getD-drop)
 
+  pub part-first : (d : A) (at w : ℕ) (l : List A) → 0 < w → getD (part at w l) 0 d ≡ getD l at d
+  part-first d at w l h = let z : at + 0 ≡ at = omega arith in rw z at (part-getD d at w l 0 h)
+
   pub part-is : (d : A) (at w : ℕ) (l q : List A) → at + w ≤ length l → length q ≡ w
       → ((i : ℕ) → i < w → getD l (at + i) d ≡ getD q i d) → part at w l ≡ q
   part-is d at w l q h e same =
@@ -191,3 +194,9 @@ module _ {A : Type 0} (base w : ℕ) (f : List ℕ → A) (n : ℕ) where
       let room : at + length zeros ≤ length l = omega arith in
       chunks-all (splice at zeros l) (rw (splice-length at zeros l room) (omega arith))
       (λ k a b. splice-in 0 at zeros l room k (omega arith) (omega arith) ∙ getD-replicate m (k - at) 0 0 (omega arith))
+
+-- every word of zeros is 0, and so is every word past them
+pub zero-at : (n k : ℕ) → _≡_ {A = ℕ} (getD (replicate n 0) k 0) 0
+zero-at zero k = refl
+zero-at (suc n) zero = refl
+zero-at (suc n) (suc k) = zero-at n k

@@ -1,10 +1,13 @@
-use Rattle.bus.proofs.Tabled.{device-is}
+use Rattle.bus.proofs.Tabled.{device-none, device-some}
 use borrow.Author.Needs.{needs}
 use Rattle.bus.proofs.devices.read_device.Statement.{statement}
 use Rattle.bus.proofs.devices.read_device.Tie as tie
 
 returns : tie.Need-returns
-returns c = search device-is
+returns c = search device-none
+
+returns-2 : tie.Need-returns-2
+returns-2 c = search device-some
 
 pub read-device-spec : {M : Type 1} → statement M
 read-device-spec =
@@ -14,8 +17,29 @@ read-device-spec =
     (λ c. search needs)
     (λ c. search needs)
     (λ c. search needs)
+    returns
+    (λ c. search needs)
+    (λ c. search needs)
+    (λ c. search needs)
+    (λ c. search needs)
+    (λ c. search needs)
+    (λ c. search needs)
+    (λ c. search needs)
+    (λ c. search needs)
+    (λ c. search needs)
+    (λ c. search needs)
+    (λ c. search needs)
+    (λ c. search needs)
+    (λ c. search needs)
+    (λ c. search needs)
+    (λ c. search needs)
+    (λ c. search needs)
+    (λ c. search needs)
+    (λ c. search needs)
+    (λ c. search needs)
+    (λ c. search needs)
     (λ c. search needs)
     (λ c. search needs)
     (λ c. search needs)
     (λ c κs. search needs)
-    returns)
+    returns-2)

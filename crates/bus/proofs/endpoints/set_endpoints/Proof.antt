@@ -1,3 +1,6 @@
+use mathlib.Core.Path.{_∙_}
+use native.Mathlib.Omega.{arith}
+use lib.ListN.{length-set}
 use Rattle.bus.proofs.Listed.{endpoints-over, endpoints-set}
 use borrow.Author.Needs.{needs}
 use Rattle.bus.proofs.endpoints.set_endpoints.Statement.{statement}
@@ -6,10 +9,26 @@ use Rattle.bus.proofs.endpoints.set_endpoints.Tie as tie
 returns : tie.Need-returns
 returns c = endpoints-over _ _ _ _ (search needs) (search needs)
 
+copy-words-requires : tie.Need-copy-words-requires
+copy-words-requires c κs = simp length-set (omega arith, omega arith)
+
+same-length : tie.Need-same-length
+same-length c = c .before .bus .given ∙ simp length-set
+
 returns-2 : tie.Need-returns-2
 returns-2 c = search endpoints-set
 
 pub set-endpoints-spec : {M : Type 1} → statement M
 set-endpoints-spec =
     tie.close
-    (tie.spec (λ c κs. search needs) returns (λ c κs. search needs) (λ c. search needs) returns-2)
+    (tie.spec
+    (λ c κs. search needs)
+    returns
+    (λ c. search needs)
+    (λ c. search needs)
+    (λ c. search needs)
+    (λ c. search needs)
+    (λ c. search needs)
+    copy-words-requires
+    same-length
+    returns-2)

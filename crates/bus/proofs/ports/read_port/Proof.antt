@@ -10,6 +10,7 @@ pub read-port-spec : {M : Type 1} → statement M
 read-port-spec =
     tie.close
     (tie.spec
+    (λ c κs. search needs)
     (λ c. search needs)
     (λ c. search needs)
     (λ c. search needs)

@@ -1,10 +1,7 @@
-use Rattle.bus.proofs.Observing.{index-below, set-in, set-out}
+use Rattle.bus.proofs.Observing.{set-in, set-out}
 use borrow.Author.Needs.{needs}
 use Rattle.bus.proofs.ports.set_port.Statement.{statement}
 use Rattle.bus.proofs.ports.set_port.Tie as tie
-
-write-port-requires : tie.Need-write-port-requires
-write-port-requires c κs = (search needs, search index-below)
 
 returns : tie.Need-returns
 returns c = search set-out
@@ -19,7 +16,7 @@ set-port-spec =
     (λ c κs. search needs)
     (λ c. search needs)
     (λ c. search needs)
-    write-port-requires
     returns
+    (λ c κs. search needs)
     (λ c. search needs)
     returns-2)

@@ -1,10 +1,7 @@
-use Rattle.bus.proofs.Observing.{index-below, validated-in, validated-out}
+use Rattle.bus.proofs.Observing.{validated-in, validated-out}
 use borrow.Author.Needs.{needs}
 use Rattle.bus.proofs.ports.validate.Statement.{statement}
 use Rattle.bus.proofs.ports.validate.Tie as tie
-
-read-port-requires : tie.Need-read-port-requires
-read-port-requires c κs = (search needs, search index-below)
 
 returns : tie.Need-returns
 returns c = search validated-out
@@ -19,7 +16,7 @@ validate-spec =
     (λ c κs. search needs)
     (λ c. search needs)
     (λ c. search needs)
-    read-port-requires
+    (λ c κs. search needs)
     (λ c κs. search needs)
     returns
     returns-2)

@@ -1,6 +1,6 @@
 use Rattle.requests.proofs.Beginning.{room-in}
 use Rattle.requests.proofs.Planning.{plan-none, plan-at}
-use Rattle.requests.proofs.Fitting.{bus-fits, place-fits, place-in}
+use Rattle.requests.proofs.Fitting.{bus-fits, room-fits, room-place}
 use borrow.Author.Needs.{needs}
 use Rattle.requests.proofs.submit.plan_room.Statement.{statement}
 use Rattle.requests.proofs.submit.plan_room.Tie as tie
@@ -9,10 +9,10 @@ returns : tie.Need-returns
 returns c = search plan-none
 
 mul-at : tie.Need-mul-at
-mul-at c = search place-fits
+mul-at c = search room-fits
 
 plan-prepared-requires : tie.Need-plan-prepared-requires
-plan-prepared-requires c κs = search (bus-fits, room-in, place-in)
+plan-prepared-requires c κs = search (bus-fits, room-in, room-place)
 
 returns-2 : tie.Need-returns-2
 returns-2 c = search plan-at

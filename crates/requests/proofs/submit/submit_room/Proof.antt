@@ -1,6 +1,6 @@
 use Rattle.requests.proofs.Beginning.{room-in}
 use Rattle.requests.proofs.Submitting.{room-none, room-at}
-use Rattle.requests.proofs.Fitting.{bus-fits, place-fits, place-in}
+use Rattle.requests.proofs.Fitting.{bus-fits, room-fits, room-place}
 use borrow.Author.Needs.{needs}
 use Rattle.requests.proofs.submit.submit_room.Statement.{statement}
 use Rattle.requests.proofs.submit.submit_room.Tie as tie
@@ -9,10 +9,10 @@ returns : tie.Need-returns
 returns c = search room-none
 
 mul-at : tie.Need-mul-at
-mul-at c = search place-fits
+mul-at c = search room-fits
 
 submit-prepared-requires : tie.Need-submit-prepared-requires
-submit-prepared-requires c κs = search (bus-fits, room-in, place-in)
+submit-prepared-requires c κs = search (bus-fits, room-in, room-place)
 
 returns-2 : tie.Need-returns-2
 returns-2 c = search room-at

@@ -1,0 +1,109 @@
+-- What a check that passed says of its request: it fits its row, and so does the data that it brings. Assumes nothing.
+use Prim.Native.Nat.{ℕ, _≤_}
+use mathlib.Core.Bool.{Bool, true, false, not, _&&_, _||_}
+use mathlib.Core.Path.{_≡_, refl, sym, ap}
+use native.Mathlib.Omega.{arith}
+use borrow.Author.Tests.{ltb-false, eqb-true}
+use lib.Dec.{eqb}
+use Rattle.chain.specs.Chain.{_if_else_}
+use Rattle.chain.proofs.Chain.{caseB}
+use Rattle.models.specs.declared.ControlPlan.{ControlPlan}
+use Rattle.models.specs.declared.Refusal.{Refusal}
+use Rattle.models.specs.declared.RequestMetadata.{RequestMetadata}
+use Rattle.models.specs.declared.RequestSpec.{RequestSpec}
+use Rattle.models.specs.declared.Verdict.{Verdict}
+use Rattle.models.specs.declared.Verdict.the-variants as verdict
+use Rattle.checks.specs.Prepare.{specFacts, dataChecked, controlChecked, otherChecked, specChecked, metadataOf, preparedBy, prepared}
+use Rattle.checks.specs.Plan.{planFacts, payloadChecked, stagesChecked, sizeChecked, planChecked, planOf, plannedBy, planned}
+use Rattle.checks.specs.declared.prepare.SpecFacts.{SpecFacts}
+use Rattle.checks.specs.declared.prepare.Prepared.the-variants as prepare
+use Rattle.checks.specs.declared.plan.PlanFacts.{PlanFacts}
+use Rattle.checks.specs.declared.plan.Planned.the-variants as plan
+use Rattle.checks.specs.declared.plan.ValidatedControlPlan.{ValidatedControlPlan}
+
+-- of a chain that passes: its first test fails, and the rest passes
+pub fails : (r : Refusal) (t : Bool) (p : Verdict) → (verdict.Refused r if t else p) ≡ verdict.Pass → t ≡ false
+unfolding _if_else_
+fails r true p e = cc
+fails r false p e = refl
+
+pub rest : (r : Refusal) (t : Bool) (p : Verdict) → (verdict.Refused r if t else p) ≡ verdict.Pass → p ≡ verdict.Pass
+unfolding _if_else_
+rest r true p e = cc
+rest r false p e = e
+
+either : {P : Type 0} (t : Bool) (a b : Verdict) → (a ≡ verdict.Pass → P) → (b ≡ verdict.Pass → P) → (a if t else b) ≡ verdict.Pass → P
+unfolding _if_else_
+either true a b f g e = f e
+either false a b f g e = g e
+
+-- the data of an IN is none, and of an OUT as long as it says
+given-small : (inward : Bool) (given length : ℕ) → (inward && not (eqb given 0) || not inward && not (eqb given length)) ≡ false → given ≤ length
+given-small true g n = caseB (eqb g 0) (λ e. rw e λ h. omega (arith, eqb-true g 0 e)) (λ e. rw e λ h. absurd (let z : _≡_ {A = ℕ} 0 1 = cc in omega arith))
+given-small false g n = caseB (eqb g n) (λ e. rw e λ h. omega (arith, eqb-true g n e)) (λ e. rw e λ h. absurd (let z : _≡_ {A = ℕ} 0 1 = cc in omega arith))
+
+module _ (v : SpecFacts) where
+  data-small : dataChecked v ≡ verdict.Pass → v .«data_length» ≤ v .length
+  unfolding dataChecked
+  data-small e = given-small (v .inward) (v .«data_length») (v .length) (fails _ _ _ e)
+
+  control-small : controlChecked v ≡ verdict.Pass → v .«data_length» ≤ v .length
+  unfolding controlChecked
+  control-small e = data-small (rest _ _ _ (rest _ _ _ (rest _ _ _ (rest _ _ _ (rest _ _ _ (rest _ _ _ e))))))
+
+  other-small : otherChecked v ≡ verdict.Pass → v .«data_length» ≤ v .length
+  unfolding otherChecked
+  other-small e = data-small (rest _ _ _ (rest _ _ _ e))
+
+  spec-fits : specChecked v ≡ verdict.Pass → (v .length ≤ v .«row_bytes») × (v .«data_length» ≤ v .«row_bytes»)
+  unfolding specChecked
+  spec-fits e =
+      let l : v .length ≤ v .«row_bytes» = ltb-false _ _ (fails _ _ _ (rest _ _ _ e)) in
+      let m : v .«data_length» ≤ v .length = either (v .control) (controlChecked v) (otherChecked v) control-small other-small (rest _ _ _ (rest _ _ _ (rest _ _ _ e))) in
+      (l, omega arith)
+
+ready-spec : (v : Verdict) (q : RequestSpec) (m : RequestMetadata) → preparedBy v q ≡ prepare.Ready m → (v ≡ verdict.Pass) × (m .«requested_length» ≡ q .length)
+unfolding preparedBy
+ready-spec (verdict.Refused r) q m e = (cc, cc)
+ready-spec verdict.Pass q m e = (refl, let z : metadataOf q ≡ m = cc in ap (λ (x : RequestMetadata). x .«requested_length») (sym z))
+
+pub ready-fits : (q : RequestSpec) (given row : ℕ) (m : RequestMetadata) → prepared q given row ≡ prepare.Ready m → (m .«requested_length» ≤ row) × (given ≤ row)
+unfolding prepared
+ready-fits q given row m e =
+    let a = ready-spec (specChecked (specFacts q given row)) q m e in
+    let b : (q .length ≤ row) × (given ≤ row) = spec-fits (specFacts q given row) (a .0) in
+    (omega (arith, a .1, b .0), b .1)
+
+module _ (v : PlanFacts) where
+  payload-small : payloadChecked v ≡ verdict.Pass → v .«data_length» ≤ v .length
+  unfolding payloadChecked
+  payload-small e = given-small (v .inward) (v .«data_length») (v .length) (fails _ _ _ e)
+
+  stages-small : stagesChecked v ≡ verdict.Pass → v .«data_length» ≤ v .length
+  unfolding stagesChecked
+  stages-small e = payload-small (rest _ _ _ (rest _ _ _ (rest _ _ _ e)))
+
+  size-fits : sizeChecked v ≡ verdict.Pass → (v .length ≤ v .«row_bytes») × (v .«data_length» ≤ v .«row_bytes»)
+  unfolding sizeChecked
+  size-fits e =
+      let l : v .length ≤ v .«row_bytes» = ltb-false _ _ (fails _ _ _ (rest _ _ _ e)) in
+      let m : v .«data_length» ≤ v .length = either (v .compliant) (stagesChecked v) (payloadChecked v) stages-small payload-small (rest _ _ _ (rest _ _ _ e)) in
+      (l, omega arith)
+
+  plan-fits : planChecked v ≡ verdict.Pass → (v .length ≤ v .«row_bytes») × (v .«data_length» ≤ v .«row_bytes»)
+  unfolding planChecked
+  plan-fits e = size-fits (rest _ _ _ (rest _ _ _ (rest _ _ _ e)))
+
+ready-plan : (v : Verdict) (q : ControlPlan) (p : ValidatedControlPlan) → plannedBy v q ≡ plan.Ready p
+    → (v ≡ verdict.Pass) × (p .metadata .«requested_length» ≡ planOf q .metadata .«requested_length»)
+unfolding plannedBy
+ready-plan (verdict.Refused r) q p e = (cc, cc)
+ready-plan verdict.Pass q p e = (refl, let z : planOf q ≡ p = cc in ap (λ (x : ValidatedControlPlan). x .metadata .«requested_length») (sym z))
+
+pub planned-fits : (q : ControlPlan) (given row : ℕ) (p : ValidatedControlPlan) → planned q given row ≡ plan.Ready p
+    → (p .metadata .«requested_length» ≤ row) × (given ≤ row)
+unfolding planned
+planned-fits q given row p e =
+    let a = ready-plan (planChecked (planFacts q given row)) q p e in
+    let b : (planOf q .metadata .«requested_length» ≤ row) × (given ≤ row) = plan-fits (planFacts q given row) (a .0) in
+    (omega (arith, a .1, b .0), b .1)
