@@ -1,0 +1,123 @@
+-- A call's step: its answer, and the session, the bus, the store and the area after it. One clause a call, by the definitions that
+-- the calls' own contracts cite. Assumes nothing.
+use Prim.Native.Nat.{ℕ}
+use mathlib.Core.Bool.{Bool, _&&_}
+use mathlib.Core.List.{List}
+use lib.ListN.{length}
+use Rattle.rows.specs.Store.{Store}
+use Rattle.ledger.specs.declared.rules.Change.{Change}
+use Rattle.ledger.specs.declared.rules.Change.the-variants as change
+use Rattle.bus.specs.Tables.{Bus}
+use Rattle.bus.specs.Ports.{VerdictTo}
+use Rattle.models.specs.declared.RequestId.{RequestId}
+use Rattle.session.specs.Sizes.{rowsFit, areaFits, busFits, openFits}
+use Rattle.session.specs.Lifecycle.{OpenedTo, CalledTo, openOf, acquireOf, initializeOf, closeOf}
+use Rattle.session.specs.Place.{setDeviceOf, setPortOf, setEndpointsOf, setReconcileOf}
+use Rattle.session.specs.declared.Called.{Called}
+use Rattle.session.specs.declared.Session.{Session}
+use Rattle.requests.specs.Answers.{ReportedTo}
+use Rattle.requests.specs.Submit.{SubmitTo, PlanTo, storeFits, submitOf, submitPlanOf}
+use Rattle.requests.specs.Reply.{submitReplyOf}
+use Rattle.requests.specs.Poll.{pollOf}
+use Rattle.requests.specs.Finish.{FinishTo, finishOf}
+use Rattle.requests.specs.Change.{changeOf}
+use Rattle.requests.specs.Status.{statusOf, nextOf, shownCount, completedPart, heldCountOf, heldBytesOf}
+use Rattle.requests.specs.declared.Polled.{Polled}
+use Rattle.calls.specs.Calls.{Call, Open, SetDevice, SetPort, SetEndpoints, SetReconcile, Acquire, Initialize, Close, Submit, SubmitPlan, ReplySubmit, Poll, ReplyPoll, Cancel, Timeout, Reclaim, Status, Reports, CountReports, CompletedBytes, HeldCount, HeldBytes}
+use Rattle.calls.specs.Answers.{outcome, ofOpened, ofVerdict, ofSubmit, ofPlan, ofReport, ofPoll, ofNext, ofTally}
+use Rattle.calls.specs.declared.Answer.{Answer}
+use Rattle.calls.specs.declared.Answer.the-variants as answer
+use Rattle.calls.specs.declared.Outcome.{Outcome}
+
+-- what a call is handed: the session, and what the lent slices say
+pub record World : Type 0 where
+  pub session : Session
+  pub bus : Bus
+  pub store : Store
+  pub area : List ℕ
+
+abbrev pub world : Session → Bus → Store → List ℕ → World
+world s b store area = record { session = s; bus = b; store = store; area = area }
+
+-- what it leaves
+pub record After : Type 0 where
+  pub result : Outcome
+  pub bus : Bus
+  pub store : Store
+  pub area : List ℕ
+
+abbrev pub after : Outcome → Bus → Store → List ℕ → After
+after r b store area = record { result = r; bus = b; store = store; area = area }
+
+-- whether each lent slice has the size that the session records
+abbrev pub rowsFitIn : World → Bool
+rowsFitIn w = rowsFit (w .session .«row_count») (w .session .«row_bytes») (length (w .store .words))
+
+abbrev pub areaFitsIn : World → Bool
+areaFitsIn w = areaFits (w .session .«row_count») (w .session .«row_bytes») (length (w .area))
+
+abbrev pub busFitsIn : World → Bool
+busFitsIn w = busFits (length (w .bus .words))
+
+abbrev pub storeFitsIn : World → Bool
+storeFitsIn w = storeFits (w .session) (length (w .store .words)) (length (w .area)) (length (w .bus .words))
+
+-- what each kind of call leaves
+abbrev pub opens : OpenedTo → World → After
+opens o w = after (ofOpened (o .answer) (w .session)) (o .bus) (o .store) (w .area)
+
+abbrev pub places : VerdictTo → World → After
+places o w = after (outcome (ofVerdict (o .answer)) (w .session)) (o .bus) (w .store) (w .area)
+
+abbrev pub moves : Called → Store → World → After
+moves c store w = after (outcome (ofVerdict (c .answer)) (c .session)) (w .bus) store (w .area)
+
+abbrev pub submits : SubmitTo → After
+submits o = after (outcome (ofSubmit (o .result .answer)) (o .result .session)) (o .bus) (o .store) (o .area)
+
+abbrev pub plans : PlanTo → After
+plans o = after (outcome (ofPlan (o .result .answer)) (o .result .session)) (o .bus) (o .store) (o .area)
+
+abbrev pub reports : ReportedTo → World → After
+reports o w = after (outcome (ofReport (o .result .answer)) (o .result .session)) (w .bus) (o .store) (w .area)
+
+abbrev pub polls : Polled → World → After
+polls o w = after (outcome (ofPoll (o .answer)) (o .session)) (w .bus) (w .store) (w .area)
+
+abbrev pub finishes : FinishTo → World → After
+finishes o w = after (outcome (ofReport (o .result .answer)) (o .result .session)) (w .bus) (o .store) (o .area)
+
+-- an answer that leaves all as it is
+abbrev pub reads : Answer → World → After
+reads a w = after (outcome a (w .session)) (w .bus) (w .store) (w .area)
+
+abbrev pub changes : RequestId → Change → World → After
+changes id c w = reports (changeOf (w .session) (rowsFitIn w) id c (w .store)) w
+
+abbrev pub closes : CalledTo → World → After
+closes o w = moves (o .result) (o .store) w
+
+unfoldable pub stepOf : Call → World → After
+stepOf (Open o) w = opens (openOf (openFits o (length (w .store .words)) (length (w .area)) (length (w .bus .words))) o (w .store) (w .bus)) w
+stepOf (SetDevice d) w = places (setDeviceOf (w .session) (busFitsIn w) d (w .bus)) w
+stepOf (SetPort number row) w = places (setPortOf (w .session) (busFitsIn w) number row (w .bus)) w
+stepOf (SetEndpoints slot list) w = places (setEndpointsOf (w .session) (busFitsIn w) slot list (w .bus)) w
+stepOf (SetReconcile slot mark) w = places (setReconcileOf (w .session) (busFitsIn w) slot mark (w .bus)) w
+stepOf (Acquire reply) w = moves (acquireOf (w .session) reply) (w .store) w
+stepOf (Initialize reply) w = moves (initializeOf (w .session) reply) (w .store) w
+stepOf (Close fresh reply) w = closes (closeOf (w .session) (rowsFitIn w) fresh reply (w .store)) w
+stepOf (Submit q bytes given packets first second) w =
+    submits (submitOf (w .session) (storeFitsIn w) q bytes given packets first second (w .bus) (w .store) (w .area))
+stepOf (SubmitPlan q bytes first) w = plans (submitPlanOf (w .session) (storeFitsIn w) q bytes first (w .bus) (w .store) (w .area))
+stepOf (ReplySubmit reply) w = reports (submitReplyOf (w .session) (rowsFitIn w) reply (w .store)) w
+stepOf (Poll id) w = polls (pollOf (w .session) (rowsFitIn w) id (w .store .rows)) w
+stepOf (ReplyPoll reply bytes) w = finishes (finishOf (w .session) (rowsFitIn w && areaFitsIn w) reply bytes (w .store) (w .area)) w
+stepOf (Cancel id) w = changes id change.LogicalCancel w
+stepOf (Timeout id) w = changes id change.Timeout w
+stepOf (Reclaim id) w = changes id change.Reclaim w
+stepOf (Status id) w = reads (ofReport (statusOf (w .session) (rowsFitIn w) id (w .store .rows))) w
+stepOf (Reports from) w = reads (ofNext (nextOf (w .session) (rowsFitIn w) from (w .store .rows))) w
+stepOf CountReports w = reads (ofTally (shownCount (w .session) (rowsFitIn w) (w .store .rows))) w
+stepOf (CompletedBytes id) w = reads (answer.Bytes (completedPart (w .session) (rowsFitIn w && areaFitsIn w) id (w .store .rows))) w
+stepOf HeldCount w = reads (ofTally (heldCountOf (rowsFitIn w) (w .store .rows))) w
+stepOf HeldBytes w = reads (ofTally (heldBytesOf (rowsFitIn w) (w .store .rows))) w
