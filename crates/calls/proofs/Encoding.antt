@@ -1,7 +1,7 @@
 -- Laws of answers as words. Assumes nothing.
 use Prim.Native.Nat.{ℕ, _≤_}
 use mathlib.Core.List.{List, [], _∷_}
-use mathlib.Core.Path.{_≡_, refl, sym, ap, _∙_}
+use mathlib.Core.Path.{_≡_, _∙_}
 use lib.ListN.{length, take, replicate, getD}
 use lib.Seq.{take-length}
 use borrow.Author.Tests.{le-ltb}

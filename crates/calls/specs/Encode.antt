@@ -19,7 +19,6 @@ use Rattle.models.specs.declared.SetupPacket.{SetupPacket}
 use Rattle.standards.specs.Setup.{setupBytes}
 use Rattle.rows.specs.Codec.{setupTail, setupWords, stateWords}
 use Rattle.rows.specs.declared.codec.StateWords.{StateWords}
-use Rattle.requests.specs.declared.Part.{Part}
 use Rattle.requests.specs.declared.PlanSubmission.{PlanSubmission}
 use Rattle.requests.specs.declared.Submission.{Submission}
 use Rattle.calls.specs.declared.Answer.{Answer}

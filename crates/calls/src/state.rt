@@ -13,8 +13,7 @@ use session::RecoveryKind;
 use session::Session;
 use words::slices;
 ghost use mathlib.Core.Path.{_≡_};
-ghost use lib.ListN.{length};
-ghost use Rattle.calls.specs.State.{sessionSize, portsOf, portsIn, portsWords, deviceOf, requestOf, stallOf, stallIn, stallWords, kindOf, kindWord, flightOf, flightIn, idFlight, recoveryFlight, flightWords, sessionOf, sessionWords, keptOf, keptAs};
+ghost use Rattle.calls.specs.State.{portsOf, portsIn, portsWords, deviceOf, requestOf, stallOf, stallIn, stallWords, kindOf, kindWord, flightOf, flightIn, idFlight, recoveryFlight, flightWords, sessionOf, sessionWords, keptOf, keptAs};
 
 // How many words a session has.
 pub const WORDS: usize = 26;

@@ -66,6 +66,12 @@ unfolding _if_else_
 if-all P a true p x y = x
 if-all P a false p x y = y
 
+-- and what holds of each way by its test
+pub if-by : {A : Type 0} (P : A → Type 0) (a : A) (t : Bool) (p : A) → (t ≡ true → P a) → (t ≡ false → P p) → P (a if t else p)
+unfolding _if_else_
+if-by P a true p x y = x refl
+if-by P a false p x y = y refl
+
 -- a check list that passes has no test that is met
 pub unmet : {A : Type 0} (cs : List (Check A)) → first cs ≡ pass → Unmet cs
 unmet [] = λ e. tt

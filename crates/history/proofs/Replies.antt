@@ -1,0 +1,265 @@
+-- Polls and the backend's replies keep the invariant. Assumes nothing.
+use Prim.Native.Nat.{ℕ, _*_, _<_}
+use mathlib.Core.Path.{_≡_, refl, sym, ap, _∙_, subst}
+use mathlib.Core.Bool.{Bool, true, false, not, cond, false≢true}
+use mathlib.Core.List.{List}
+use lib.ListN.{length, getD, set}
+use borrow.Author.Tests.{not-false}
+use Rattle.chain.specs.Lists.{count, foundIn}
+use Rattle.chain.specs.declared.Found.{Found}
+use Rattle.chain.specs.declared.Found.the-variants as found
+use Rattle.chain.proofs.Chain.{if-all, if-by}
+use Rattle.words.specs.declared.OptionU32.{OptionU32}
+use Rattle.models.specs.Refusals.{invalidCompletion}
+use Rattle.models.specs.Requests.{isPending}
+use Rattle.models.specs.declared.BackendCompletion.{BackendCompletion}
+use Rattle.models.specs.declared.OperationError.{OperationError}
+use Rattle.models.specs.declared.OptionError.{OptionError}
+use Rattle.models.specs.declared.OptionError.the-variants as error
+use Rattle.models.specs.declared.RequestId.{RequestId}
+use Rattle.models.specs.declared.RequestState.{RequestState}
+use Rattle.models.specs.declared.RequestState.the-variants.{Pending, Completed, Failed, Aborted}
+use Rattle.rows.specs.Store.{Store, putIn}
+use Rattle.rows.specs.Table.{emptyRow, isHeld}
+use Rattle.rows.specs.declared.Row.{Row}
+use Rattle.ledger.specs.Apply.{applyBy, applyAt, applyOf}
+use Rattle.ledger.specs.Rules.{moved, freed, withState, pendingFlags, accepted, completedBy, completed, failedBy, failed, changeRow}
+use Rattle.ledger.specs.Search.{isAt}
+use Rattle.ledger.specs.declared.rules.Change.the-variants as change
+use Rattle.ledger.specs.declared.rules.Step.{Step}
+use Rattle.ledger.proofs.Placing.{found-row}
+use Rattle.checks.specs.Completion.{testCompletion}
+use Rattle.checks.specs.declared.completion.CompletionTest.{CompletionTest}
+use Rattle.checks.specs.declared.completion.CompletionTest.the-variants as test
+use Rattle.session.specs.Session.{marked, withFlight}
+use Rattle.session.specs.declared.InFlight.{InFlight}
+use Rattle.session.specs.declared.InFlight.the-variants as flight
+use Rattle.session.specs.declared.Session.{Session}
+use Rattle.requests.specs.Answers.{effect, ReportedTo, reportedTo}
+use Rattle.requests.specs.Reply.{acceptedBy, discardedBy, submitReplyBy, submitReplyIn, submitReplyOf}
+use Rattle.requests.specs.Poll.{pollRow, pollBy, pollOf}
+use Rattle.requests.specs.Finish.{failedAs, invalidAs, judgedTest, judgedBy, judged, FinishTo, settled, finishAt, finishBy, finishFound, finishIn, finishOf}
+use Rattle.requests.specs.declared.Polled.{Polled}
+use Rattle.requests.specs.declared.PollReply.{PollReply}
+use Rattle.requests.specs.declared.PollReply.the-variants as poll
+use Rattle.requests.specs.declared.SubmitReply.{SubmitReply}
+use Rattle.requests.specs.declared.SubmitReply.the-variants as submit
+use Rattle.requests.specs.declared.finish.Judgement.{Judgement}
+use Rattle.calls.specs.Answers.{ofReport, ofPoll}
+use Rattle.history.specs.Journal.{Entry, Journal, entryOf, atEntry, release, markFailed, acceptedAs, testedAs, settledBy, isAsked, endsBy, atWaiting, endedWith, idle, polledBy, pollWaits}
+use Rattle.history.specs.Claim.{View}
+use Rattle.history.proofs.Led.{rowW, entryW, lengthOf, Changed, lone, entry-is}
+use Rattle.history.proofs.Changes.{pending-held, view-is, discard-change, token-change, settle-change, fail-change}
+use Rattle.history.proofs.Inv.{Inv, Live, stray, marks, stalls, effects, ends-idle, ends-at, poll-opens, live-pending, pending-live}
+
+-- the row of an operation that waits is held
+waiting-held : (id : RequestId) (rows : List Row) (i : ℕ) → i < length rows → isAt id (getD rows i emptyRow) ≡ true → count (stray id) rows ≡ 0
+    → isHeld (getD rows i emptyRow) ≡ true
+waiting-held id rows i lt hit live = pending-held id (getD rows i emptyRow) hit (live-pending id rows i lt hit live)
+
+module _ (s : Session) (j : Journal) (seen : List ℕ) (store : Store) (k : Inv s (store .rows) j seen) where
+  -- ---- the reply to a submission
+  abbrev Reply-kept : SubmitReply → ReportedTo → Type 0
+  Reply-kept x o = Inv (o .result .session) (o .store .rows) (cond (endsBy (ofReport (o .result .answer))) (endedWith (acceptedAs x) j) j) seen
+
+  module _ (id : RequestId) (own : s .«in_flight» ≡ flight.Submission id) (i : ℕ) (lt : i < length (store .rows))
+      (hit : isAt id (getD (store .rows) i emptyRow) ≡ true) where
+    abbrev replied : Row
+    replied = getD (store .rows) i emptyRow
+
+    abbrev its : Entry
+    its = entryOf id (j .entries)
+
+    replied-held : isHeld replied ≡ true
+    replied-held = waiting-held id (store .rows) i lt hit (subst (λ (f : InFlight). Live f (store .rows)) own (k .live))
+
+    about : (g : Entry → Entry) → atWaiting (j .waiting) g (j .entries) ≡ atEntry id g (j .entries)
+    about g = ap (λ (f : InFlight). atWaiting f g (j .entries)) (k .agree ∙ own)
+
+    token-kept : (t : ℕ) → Reply-kept (submit.Token t)
+        (reportedTo (acceptedBy (applyAt (found.At i) (change.Accept t) store .answer) s) (applyAt (found.At i) (change.Accept t) store .store))
+    unfolding applyAt applyBy changeRow accepted moved acceptedBy putIn
+    token-kept t = ends-at s (store .rows) j seen k id i lt hit (acceptedAs (submit.Token t))
+        (about (acceptedAs (submit.Token t))) _ (token-change replied its replied-held (entry-is (store .rows) (j .entries) (k .led) id i lt hit) t)
+
+    error-kept : (e : OperationError) → Reply-kept (submit.Error e)
+        (reportedTo (discardedBy (applyAt (found.At i) change.Discard store .answer) e s) (applyAt (found.At i) change.Discard store .store))
+    unfolding applyAt applyBy changeRow freed discardedBy putIn
+    error-kept e = ends-at (effect e s) (store .rows) j seen (effects s (store .rows) j seen k e) id i lt hit (acceptedAs (submit.Error e))
+        (about (acceptedAs (submit.Error e))) emptyRow (discard-change replied its replied-held (entry-is (store .rows) (j .entries) (k .led) id i lt hit))
+
+  reply-by : (x : SubmitReply) (id : RequestId) → s .«in_flight» ≡ flight.Submission id → Reply-kept x (submitReplyBy x id s store)
+  unfolding submitReplyBy applyOf applyAt acceptedBy discardedBy
+  reply-by (submit.Token t) id own = go (foundIn (isAt id) (store .rows)) refl
+    where
+      go : (f : Found) → foundIn (isAt id) (store .rows) ≡ f → Reply-kept (submit.Token t)
+          (reportedTo (acceptedBy (applyAt f (change.Accept t) store .answer) s) (applyAt f (change.Accept t) store .store))
+      go found.Nothing e = k
+      go (found.At i) e = let p = found-row id (store .rows) (found.At i) i (sym e) refl in token-kept id own i (p .0) (p .1) t
+  reply-by (submit.Error x) id own = go (foundIn (isAt id) (store .rows)) refl
+    where
+      go : (f : Found) → foundIn (isAt id) (store .rows) ≡ f → Reply-kept (submit.Error x)
+          (reportedTo (discardedBy (applyAt f change.Discard store .answer) x s) (applyAt f change.Discard store .store))
+      go found.Nothing e = k
+      go (found.At i) e = let p = found-row id (store .rows) (found.At i) i (sym e) refl in error-kept id own i (p .0) (p .1) x
+
+  pub reply-kept : (fits : Bool) (x : SubmitReply) → Reply-kept x (submitReplyOf s fits x store)
+  unfolding submitReplyOf submitReplyIn
+  reply-kept fits x = go (s .«in_flight») refl
+    where
+      go : (f : InFlight) → s .«in_flight» ≡ f → Reply-kept x (submitReplyIn f fits x s store)
+      go flight.Nothing e = k
+      go (flight.Poll id) e = k
+      go (flight.Recovery target device endpoint kind) e = k
+      go (flight.Submission id) e = if-all (Reply-kept x) _ (not fits) _ k (reply-by x id e)
+
+  -- ---- a poll
+  abbrev Poll-kept : RequestId → Polled → Type 0
+  Poll-kept id o = Inv (o .session) (store .rows) (cond (isAsked (ofPoll (o .answer))) (pollWaits id j) j) seen
+
+  pub poll-kept : (fits : Bool) (id : RequestId) → Poll-kept id (pollOf s fits id (store .rows))
+  unfolding pollOf pollBy pollRow
+  poll-kept fits id =
+      if-all (Poll-kept id) _ _ _ k (if-all (Poll-kept id) _ _ _ k (go (foundIn (isAt id) (store .rows)) refl))
+    where
+      go : (f : Found) → foundIn (isAt id) (store .rows) ≡ f → Poll-kept id (pollBy f s id (store .rows))
+      go found.Nothing e = k
+      go (found.At i) e =
+          let p = found-row id (store .rows) (found.At i) i (sym e) refl in
+          if-by (Poll-kept id) _ (not (isPending (getD (store .rows) i emptyRow .state))) _ (λ y. k)
+          (λ y. if-all (Poll-kept id) _ _ _ k
+          (poll-opens s (store .rows) j seen k id
+          (pending-live id (store .rows) i (p .0) (p .1) (lone (store .rows) (j .entries) (k .led) id i (p .0) (p .1)) (not-false _ y))))
+
+-- ---- what a completion makes of a Pending row
+complete-to : (r : Row) (actual code : ℕ) → isPending (r .state) ≡ true → (c : Bool) × (changeRow r (change.Complete actual code) ≡ moved (withState r (Completed actual code c)))
+unfolding changeRow completed completedBy
+complete-to r actual code = go (r .state)
+  where
+    go : (s : RequestState) → isPending s ≡ true → (c : Bool) × (completedBy (pendingFlags s) r actual code ≡ moved (withState r (Completed actual code c)))
+    go (Pending cancel late) e = (cancel, refl)
+    go (Completed a b c) e = absurd (false≢true e)
+    go (Failed a b c) e = absurd (false≢true e)
+    go Aborted e = absurd (false≢true e)
+
+fail-to : (r : Row) (x : OperationError) (code : OptionU32) (quiescent : Bool) → isPending (r .state) ≡ true
+    → changeRow r (change.Fail x code quiescent) ≡ moved (withState r (Failed x code quiescent))
+unfolding changeRow failed failedBy
+fail-to r x code quiescent = go (r .state)
+  where
+    go : (s : RequestState) → isPending s ≡ true → failedBy (pendingFlags s) r x code quiescent ≡ moved (withState r (Failed x code quiescent))
+    go (Pending cancel late) e = refl
+    go (Completed a b c) e = absurd (false≢true e)
+    go (Failed a b c) e = absurd (false≢true e)
+    go Aborted e = absurd (false≢true e)
+
+-- ---- the reply to a poll
+module _ (s : Session) (j : Journal) (seen : List ℕ) (store : Store) (k : Inv s (store .rows) j seen) where
+  abbrev Finish-kept : Journal → FinishTo → Type 0
+  Finish-kept after o = Inv (o .result .session) (o .store .rows) (cond (endsBy (ofReport (o .result .answer))) after j) seen
+
+  module _ (id : RequestId) (own : s .«in_flight» ≡ flight.Poll id) (i : ℕ) (lt : i < length (store .rows))
+      (hit : isAt id (getD (store .rows) i emptyRow) ≡ true) (at room : ℕ) (bytes area : List ℕ) where
+    abbrev row : Row
+    row = getD (store .rows) i emptyRow
+
+    abbrev entry : Entry
+    entry = entryOf id (j .entries)
+
+    -- the session without the poll
+    abbrev quiet : Session
+    quiet = withFlight s flight.Nothing
+
+    live : count (stray id) (store .rows) ≡ 0
+    live = subst (λ (f : InFlight). Live f (store .rows)) own (k .live)
+
+    polled : isPending (row .state) ≡ true
+    polled = live-pending id (store .rows) i lt hit live
+
+    held : isHeld row ≡ true
+    held = waiting-held id (store .rows) i lt hit live
+
+    is : (w : View → ℕ) → entryW w entry ≡ rowW w row
+    is = entry-is (store .rows) (j .entries) (k .led) id i lt hit
+
+    -- a change of the row with that of its entry; the session is the one without the poll, or that one marked
+    settles : (g : Entry → Entry) (x : Judgement) (r′ : Row) → changeRow row (x .change) ≡ moved r′
+        → Changed row r′ entry (g entry)
+        → ((rows′ : List Row) (j′ : Journal) → Inv quiet rows′ j′ seen → Inv (x .session) rows′ j′ seen)
+        → Finish-kept (endedWith g j) (settled (changeRow row (x .change)) x quiet i at room bytes store area)
+    unfolding settled moved putIn
+    settles g x r′ e c m =
+        subst (λ (t : Step). Finish-kept (endedWith g j) (settled t x quiet i at room bytes store area)) (sym e)
+        (m (set (store .rows) i r′) (endedWith g j)
+        (ends-at s (store .rows) j seen k id i lt hit g (ap (λ (f : InFlight). atWaiting f g (j .entries)) (k .agree ∙ own)) r′ c))
+
+    marked-too : (rows′ : List Row) (j′ : Journal) → Inv quiet rows′ j′ seen → Inv (marked quiet) rows′ j′ seen
+    marked-too rows′ j′ h = marks quiet rows′ j′ seen h
+
+    fail-both : (x : OperationError) (code : OptionU32) (q : Bool)
+        → Changed row (withState row (Failed x code q)) entry
+        (cond q (release entry) (markFailed entry))
+    fail-both x code true = settle-change row entry held is (Failed x code true) refl
+    fail-both x code false = fail-change row entry held is (Failed x code false) refl refl
+
+    abbrev Judged-kept : (Entry → Entry) → Judgement → Type 0
+    Judged-kept g x = Finish-kept (endedWith g j)
+        (settled (changeRow row (x .change)) x quiet i at room bytes store area)
+
+    tested-kept : (c : BackendCompletion) (g : Entry → Entry) (t : CompletionTest) → g entry ≡ testedAs t entry
+        → Judged-kept g (judgedTest t quiet c)
+    unfolding judgedTest invalidAs
+    tested-kept c g (test.Valid actual code) e =
+        let p = complete-to row actual code polled in
+        settles g _ _ (p .1)
+        (subst (λ (y : Entry). Changed row (withState row (Completed actual code (p .0))) entry y) (sym e)
+        (settle-change row entry held is (Completed actual code (p .0)) refl))
+        (λ rows′ j′ h. h)
+    tested-kept c g test.MissingLength e =
+        settles g _ _ (fail-to row _ _ false polled)
+        (subst (λ (y : Entry). Changed row (withState row (Failed (invalidCompletion (c .«completion_code») .error) (c .«completion_code») false)) entry y) (sym e)
+        (fail-both _ _ false))
+        marked-too
+    tested-kept c g test.Invalid e =
+        settles g _ _ (fail-to row _ _ false polled)
+        (subst (λ (y : Entry). Changed row (withState row (Failed (invalidCompletion (c .«completion_code») .error) (c .«completion_code») false)) entry y) (sym e)
+        (fail-both _ _ false))
+        marked-too
+
+    judged-kept : (o : OptionError) (c : BackendCompletion) (given : ℕ)
+        → Judged-kept (settledBy o c given) (judgedBy o quiet row c given)
+    unfolding judgedBy failedAs
+    judged-kept (error.Some x) c given =
+        if-all (Judged-kept (settledBy (error.Some x) c given)) _ (c .quiescent) _
+        (settles (settledBy (error.Some x) c given) _ _ (fail-to row x (c .«completion_code») (c .quiescent) polled)
+        (fail-both x (c .«completion_code») (c .quiescent)) (λ rows′ j′ h. h))
+        (settles (settledBy (error.Some x) c given) _ _ (fail-to row x (c .«completion_code») (c .quiescent) polled)
+        (fail-both x (c .«completion_code») (c .quiescent)) (λ rows′ j′ h. stalls _ rows′ j′ seen (marked-too rows′ j′ h) _))
+    judged-kept error.None c given =
+        tested-kept c (settledBy error.None c given) (testCompletion c given (row .metadata .«requested_length»))
+        (ap (λ (n : ℕ). testedAs (testCompletion c given n) entry)
+        (view-is row entry held is lengthOf))
+
+    finish-at : (x : PollReply) → Finish-kept (polledBy x (length bytes) j) (finishAt x quiet i at room bytes store area)
+    unfolding finishAt judged
+    finish-at poll.Nothing = ends-idle s (store .rows) j seen k
+    finish-at (poll.Error e) = effects quiet (store .rows) (idle j) seen (ends-idle s (store .rows) j seen k) e
+    finish-at (poll.Completion c) = judged-kept (c .error) c (length bytes)
+
+  pub finish-kept : (fits : Bool) (x : PollReply) (bytes area : List ℕ) → Finish-kept (polledBy x (length bytes) j) (finishOf s fits x bytes store area)
+  unfolding finishOf finishIn finishFound finishBy
+  finish-kept fits x bytes area = go (s .«in_flight») refl
+    where
+      found-in : (id : RequestId) → s .«in_flight» ≡ flight.Poll id → (f : Found) → foundIn (isAt id) (store .rows) ≡ f
+          → Finish-kept (polledBy x (length bytes) j) (finishBy f s x bytes store area)
+      found-in id own found.Nothing e = k
+      found-in id own (found.At i) e =
+          let p = found-row id (store .rows) (found.At i) i (sym e) refl in
+          finish-at id own i (p .0) (p .1) (i * s .«row_bytes») (s .«row_bytes») bytes area x
+
+      go : (f : InFlight) → s .«in_flight» ≡ f → Finish-kept (polledBy x (length bytes) j) (finishIn f s fits x bytes store area)
+      go flight.Nothing e = k
+      go (flight.Submission id) e = k
+      go (flight.Recovery target device endpoint kind) e = k
+      go (flight.Poll id) e =
+          if-all (Finish-kept (polledBy x (length bytes) j)) _ (not fits) _ k (found-in id e (foundIn (isAt id) (store .rows)) refl)

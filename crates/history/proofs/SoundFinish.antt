@@ -1,0 +1,166 @@
+-- The backend's reply to a poll keeps the session sound. Assumes nothing.
+use Prim.Native.Nat.{ℕ, _*_, _<_, _≤_}
+use mathlib.Core.Bool.{Bool, true, false, not, _||_, true≢false}
+use mathlib.Core.List.{List}
+use mathlib.Core.Logic.{_⊎_, inl, inr}
+use mathlib.Core.Path.{_≡_, refl, ap}
+use borrow.Author.Tests.{not-false, ltb-false}
+use lib.Dec.{eqb}
+use lib.ListN.{length}
+use Rattle.chain.specs.Lists.{foundIn}
+use Rattle.chain.specs.declared.Found.{Found}
+use Rattle.chain.specs.declared.Found.the-variants as found
+use Rattle.chain.proofs.Chain.{if-by}
+use Rattle.words.specs.declared.OptionU32.{OptionU32}
+use Rattle.words.specs.declared.OptionU32.the-variants as u32
+use Rattle.words.specs.declared.OptionU64.{OptionU64}
+use Rattle.words.specs.declared.OptionU64.the-variants as u64
+use Rattle.models.specs.declared.BackendCompletion.{BackendCompletion}
+use Rattle.models.specs.declared.OperationError.{OperationError}
+use Rattle.models.specs.declared.OptionError.{OptionError}
+use Rattle.models.specs.declared.OptionError.the-variants as error
+use Rattle.models.specs.declared.RequestId.{RequestId}
+use Rattle.rows.specs.declared.Row.{Row}
+use Rattle.ledger.specs.Rules.{changeRow}
+use Rattle.ledger.specs.Search.{isAt}
+use Rattle.ledger.specs.declared.rules.Step.{Step}
+use Rattle.ledger.specs.declared.rules.Step.the-variants as step
+use Rattle.ledger.proofs.Placing.{found-row}
+use Rattle.checks.specs.Completion.{hasError, codeTested, testCode, testLength, testCompletion}
+use Rattle.checks.specs.declared.completion.CompletionTest.{CompletionTest}
+use Rattle.checks.specs.declared.completion.CompletionTest.the-variants as test
+use Rattle.session.specs.Session.{isBusy, isInitialized, withFlight}
+use Rattle.session.specs.declared.InFlight.{InFlight}
+use Rattle.session.specs.declared.InFlight.the-variants as flight
+use Rattle.session.specs.declared.Session.{Session}
+use Rattle.requests.specs.Answers.{effect}
+use Rattle.requests.specs.Finish.{FinishTo, failedAs, invalidAs, judgedTest, judgedBy, judged, settled, finishAt, finishBy, finishFound, finishIn, finishOf}
+use Rattle.requests.specs.declared.PollReply.{PollReply}
+use Rattle.requests.specs.declared.PollReply.the-variants as reply
+use Rattle.requests.specs.declared.finish.Judgement.{Judgement}
+use Rattle.calls.specs.Step.{World, world}
+use Rattle.history.specs.Sound.{rowAt, Sound}
+use Rattle.history.proofs.SoundMoves.{Moves, Idle, stays, marked-moves, effect-moves, moves-on, marked-idle, effect-idle, marked-apart}
+use Rattle.history.proofs.SoundRows.{Leads, kept, moved-idle, changed-certain, changed-uncertain}
+use Rattle.history.proofs.SoundSteps.{StepSound, StepCertain, complete-step, fail-step, quiet-step}
+use Rattle.history.proofs.SoundChange.{at-used}
+
+-- a valid completion is at most as long as requested, and its code is 1 or 13
+abbrev TestSound : ℕ → CompletionTest → Type 0
+TestSound requested (test.Valid actual code) = (actual ≤ requested) × ((eqb code 1 || eqb code 13) ≡ true)
+TestSound requested test.MissingLength = Unit {0}
+TestSound requested test.Invalid = Unit {0}
+
+or-last : (a b : Bool) → (a || b) ≡ false → b ≡ false
+or-last true b e = absurd (true≢false e)
+or-last false b e = e
+
+module _ (c : BackendCompletion) (given requested : ℕ) where
+  by-code : (actual : ℕ) → actual ≤ requested → (o : OptionU32) → TestSound requested (codeTested o actual)
+  unfolding codeTested
+  by-code actual h u32.None = tt
+  by-code actual h (u32.Some code) = if-by (TestSound requested) _ _ _ (λ e. tt) (λ e. (h, not-false _ e))
+
+  by-length : (o : OptionU64) → TestSound requested (testLength o c given requested)
+  unfolding testLength testCode
+  by-length u64.None = tt
+  by-length (u64.Some actual) =
+      if-by (TestSound requested) _ _ _ (λ e. tt)
+      (λ e. if-by (TestSound requested) _ _ _ (λ x. tt) (λ x. by-code actual (ltb-false _ _ (or-last (not (c .quiescent) || hasError (c .error)) _ e)) (c .«completion_code»)))
+
+  test-sound : TestSound requested (testCompletion c given requested)
+  unfolding testCompletion
+  test-sound = by-length (c .«actual_length»)
+
+-- a judgement makes no uncertain failure, or leaves no controller Initialized
+record JudgedSound (s : Session) (r : Row) (j : Judgement) : Type 0 where
+  pub moves : Moves s (j .session)
+  pub idle : Idle (j .session)
+  pub step : StepCertain r (changeRow r (j .change)) ⊎ (StepSound r (changeRow r (j .change)) × (isInitialized (j .session .state) ≡ false))
+
+module _ (s : Session) (i : Idle s) (r : Row) (c : BackendCompletion) where
+  failed-sound : (e : OperationError) → JudgedSound s r (failedAs s r c e)
+  unfolding failedAs
+  failed-sound e =
+      if-by (JudgedSound s r) _ _ _
+      (λ q. record { moves = stays s; idle = i; step = inl (quiet-step r e (c .«completion_code») (c .quiescent) q) })
+      (λ q. record {
+        moves = marked-moves s;
+        idle = marked-idle s i;
+        step = inr (fail-step r e (c .«completion_code») (c .quiescent), marked-apart s);
+      })
+
+  invalid-sound : JudgedSound s r (invalidAs s c)
+  unfolding invalidAs
+  invalid-sound = record {
+    moves = marked-moves s;
+    idle = marked-idle s i;
+    step = inr (fail-step r _ (c .«completion_code») false, marked-apart s);
+  }
+
+  tested-sound : (t : CompletionTest) → TestSound (r .metadata .«requested_length») t → JudgedSound s r (judgedTest t s c)
+  unfolding judgedTest
+  tested-sound (test.Valid actual code) h = record { moves = stays s; idle = i; step = inl (complete-step r actual code (h .0) (h .1)) }
+  tested-sound test.MissingLength h = invalid-sound
+  tested-sound test.Invalid h = invalid-sound
+
+  by-error : (o : OptionError) (given : ℕ) → JudgedSound s r (judgedBy o s r c given)
+  unfolding judgedBy
+  by-error (error.Some e) given = failed-sound e
+  by-error error.None given = tested-sound _ (test-sound c given (r .metadata .«requested_length»))
+
+  judged-sound : (given : ℕ) → JudgedSound s r (judged s r c given)
+  unfolding judged
+  judged-sound given = by-error (c .error) given
+
+abbrev pub FinishedSound : World → FinishTo → Type 0
+FinishedSound w o = Leads w (world (o .result .session) (w .bus) (o .store) (o .area))
+
+-- the row that was polled; the controller is Initialized
+module _ (w : World) (k : Sound w) (ready : isInitialized (w .session .state) ≡ true) (i : ℕ) (h : i < length (w .store .rows)) (u : rowAt w i .used ≡ true)
+    (at room : ℕ) (bytes area : List ℕ) where
+  abbrev idle : Session
+  idle = withFlight (w .session) flight.Nothing
+
+  idle-moves : Moves (w .session) idle
+  idle-moves = stays (w .session)
+
+  settled-sound : (m : Step) (j : Judgement) → Moves (w .session) (j .session) → Idle (j .session)
+      → StepCertain (rowAt w i) m ⊎ (StepSound (rowAt w i) m × (isInitialized (j .session .state) ≡ false))
+      → FinishedSound w (settled m j idle i at room bytes (w .store) area)
+  unfolding settled
+  settled-sound (step.Refused x) j m d c = moved-idle w k idle idle-moves (w .bus) area refl
+  settled-sound (step.To q x) j m d (inl c) = changed-certain w k i h u q (c .0) (j .session) m (w .bus) _ d (c .1)
+  settled-sound (step.To q x) j m d (inr c) = changed-uncertain w k i h u q (c .0) (j .session) m (w .bus) _ d ready (c .1)
+
+  by-reply : (x : PollReply) → FinishedSound w (finishAt x idle i at room bytes (w .store) area)
+  unfolding finishAt
+  by-reply reply.Nothing = moved-idle w k idle idle-moves (w .bus) area refl
+  by-reply (reply.Error e) =
+      moved-idle w k (effect e idle) (moves-on (w .session) idle (effect e idle) idle-moves (effect-moves e idle)) (w .bus) area (effect-idle e idle refl)
+  by-reply (reply.Completion c) =
+      let j = judged idle (rowAt w i) c (length bytes) in
+      let d = judged-sound idle refl (rowAt w i) c (length bytes) in
+      settled-sound (changeRow (rowAt w i) (j .change)) j (moves-on (w .session) idle (j .session) idle-moves (d .moves)) (d .idle) (d .step)
+
+module _ (w : World) (k : Sound w) (x : PollReply) (bytes : List ℕ) where
+  by-place : isInitialized (w .session .state) ≡ true → (id : RequestId) (g : Found) → g ≡ foundIn (isAt id) (w .store .rows)
+      → FinishedSound w (finishBy g (w .session) x bytes (w .store) (w .area))
+  unfolding finishBy
+  by-place r id found.Nothing e = kept w k
+  by-place r id (found.At i) e =
+      let p = found-row id (w .store .rows) (found.At i) i e refl in
+      by-reply w k r i (p .0) (at-used id (rowAt w i) (p .1)) (i * w .session .«row_bytes») (w .session .«row_bytes») bytes (w .area) x
+
+  by-flight : (f : InFlight) (fits : Bool) → w .session .«in_flight» ≡ f → FinishedSound w (finishIn f (w .session) fits x bytes (w .store) (w .area))
+  unfolding finishIn finishFound
+  by-flight flight.Nothing fits e = kept w k
+  by-flight (flight.Submission id) fits e = kept w k
+  by-flight (flight.Recovery target device endpoint kind) fits e = kept w k
+  by-flight (flight.Poll id) fits e =
+      if-by (FinishedSound w) _ _ _ (λ y. kept w k)
+      (λ y. by-place (k .ready (ap isBusy e)) id (foundIn (isAt id) (w .store .rows)) refl)
+
+  pub finish-sound : (fits : Bool) → FinishedSound w (finishOf (w .session) fits x bytes (w .store) (w .area))
+  unfolding finishOf
+  finish-sound fits = by-flight (w .session .«in_flight») fits refl

@@ -1,0 +1,123 @@
+-- Every list of calls after an opening that passed leads to a sound session. Assumes nothing.
+use mathlib.Core.Bool.{true, false, _&&_, true≢false}
+use mathlib.Core.List.{List, [], _∷_}
+use mathlib.Core.Path.{_≡_, refl, sym}
+use native.Mathlib.Omega.{arith}
+use borrow.Author.Tests.{not-false}
+use Prim.Native.Nat.{ℕ}
+use lib.ListN.{length}
+use Rattle.chain.proofs.Chain.{if-by, both}
+use Rattle.rows.specs.Store.{storeOf, emptied}
+use Rattle.rows.specs.Table.{rowCount}
+use Rattle.rows.proofs.Placed.{length-rowsOf}
+use Rattle.ledger.specs.declared.rules.Change.the-variants as change
+use Rattle.bus.specs.Tables.{cleared}
+use Rattle.session.specs.Lifecycle.{OpenedTo, newSession, openOf}
+use Rattle.session.specs.Sizes.{sized, rowsFit, openFits}
+use Rattle.session.specs.declared.lifecycle.Opening.{Opening}
+use Rattle.session.proofs.Sized.{fit-rows}
+use Rattle.calls.specs.Calls.{Call, Open, SetDevice, SetPort, SetEndpoints, SetReconcile, Acquire, Initialize, Close, Submit, SubmitPlan, ReplySubmit, Poll, ReplyPoll, Cancel, Timeout, Reclaim, Status, Reports, CountReports, CompletedBytes, HeldCount, HeldBytes}
+use Rattle.calls.specs.Step.{World, world, opens, rowsFitIn, areaFitsIn, storeFitsIn, stepOf}
+use Rattle.calls.specs.declared.Answer.the-variants as answer
+use Rattle.history.specs.Run.{Handed, own, other, Event, next, leftBy, endOf, isOpening, Handing, Follows, lent, Whole}
+use Rattle.history.specs.Sound.{Sound, Fitted}
+use Rattle.history.proofs.SoundRows.{Leads, kept, same, all-free, all-fitted}
+use Rattle.history.proofs.SoundSteps.{cancel-step, timeout-step, reclaim-step}
+use Rattle.history.proofs.SoundChange.{change-sound}
+use Rattle.history.proofs.SoundReply.{reply-sound}
+use Rattle.history.proofs.SoundPoll.{poll-sound}
+use Rattle.history.proofs.SoundFinish.{finish-sound}
+use Rattle.history.proofs.SoundSubmit.{submit-sound, plan-sound}
+use Rattle.history.proofs.SoundClose.{acquire-sound, initialize-sound, close-sound}
+
+-- what an opening that passes says of the sizes
+open-fits : (o : Opening) (words area bus : ℕ) → openFits o words area bus ≡ true → rowsFit (o .«row_count») (o .«row_bytes») words ≡ true
+unfolding openFits
+open-fits o words area bus e = both _ _ (both _ _ e .0) .0
+
+fits-sized : (rows bytes words : ℕ) → rowsFit rows bytes words ≡ true → sized rows bytes ≡ true
+unfolding rowsFit
+fits-sized rows bytes words e = both _ _ e .0
+
+-- an opening that passes, for whatever is claimed of it
+by-opening : (o : Opening) (w : World) (P : World → Type 0)
+    → (rowsFit (o .«row_count») (o .«row_bytes») (length (w .store .words)) ≡ true → P (world (newSession o) cleared (emptied (w .store)) (w .area)))
+    → stepOf (Open o) w .result .answer ≡ answer.Pass → P (next (stepOf (Open o) w))
+unfolding stepOf openOf
+by-opening o w P go =
+    if-by (λ (x : OpenedTo). opens x w .result .answer ≡ answer.Pass → P (next (opens x w))) _ _ _
+    (λ t e. let z : _≡_ {A = ℕ} 0 1 = cc in absurd (omega arith))
+    (λ t e. go (open-fits o (length (w .store .words)) (length (w .area)) (length (w .bus .words)) (not-false _ t)))
+
+pub sound-open : (o : Opening) (w : World) → stepOf (Open o) w .result .answer ≡ answer.Pass → Sound (next (stepOf (Open o) w))
+sound-open o w = by-opening o w Sound (λ z. all-free (w .store) (newSession o) cleared (w .area) (fits-sized _ _ _ z) refl)
+
+-- a store of lent words has as many rows as they say
+pub lent-rows : (l : List ℕ) → length (storeOf l .rows) ≡ rowCount (storeOf l .words)
+unfolding storeOf
+lent-rows l = length-rowsOf l
+
+-- where the opening's store is such
+pub fitted-open : (o : Opening) (w : World) → Whole w → stepOf (Open o) w .result .answer ≡ answer.Pass
+    → Fitted (next (stepOf (Open o) w))
+unfolding rowCount
+fitted-open o w n =
+    by-opening o w Fitted
+    (λ z. all-fitted (w .store) (newSession o) cleared (w .area) z
+    (omega (arith, n, fit-rows (o .«row_count») (o .«row_bytes») (length (w .store .words)) true (sym z) refl)))
+
+-- any other call
+leads : (c : Call) (w : World) → Sound w → isOpening c ≡ false → Leads w (next (stepOf c w))
+unfolding stepOf
+leads (Open o) w k e = absurd (true≢false e)
+leads (SetDevice d) w k e = same w k _ (w .area)
+leads (SetPort number row) w k e = same w k _ (w .area)
+leads (SetEndpoints slot list) w k e = same w k _ (w .area)
+leads (SetReconcile slot mark) w k e = same w k _ (w .area)
+leads (Acquire reply) w k e = acquire-sound w k reply
+leads (Initialize reply) w k e = initialize-sound w k reply
+leads (Close fresh reply) w k e = close-sound w k (rowsFitIn w) fresh reply
+leads (Submit q bytes given packets first second) w k e = submit-sound w k q bytes given first second (storeFitsIn w) packets
+leads (SubmitPlan q bytes first) w k e = plan-sound w k q bytes first (storeFitsIn w)
+leads (ReplySubmit reply) w k e = reply-sound w k (rowsFitIn w) reply
+leads (Poll id) w k e = poll-sound w k id (rowsFitIn w)
+leads (ReplyPoll reply bytes) w k e = finish-sound w k reply bytes (rowsFitIn w && areaFitsIn w)
+leads (Cancel id) w k e = change-sound w k (rowsFitIn w) id change.LogicalCancel cancel-step
+leads (Timeout id) w k e = change-sound w k (rowsFitIn w) id change.Timeout timeout-step
+leads (Reclaim id) w k e = change-sound w k (rowsFitIn w) id change.Reclaim reclaim-step
+leads (Status id) w k e = kept w k
+leads (Reports from) w k e = kept w k
+leads CountReports w k e = kept w k
+leads (CompletedBytes id) w k e = kept w k
+leads HeldCount w k e = kept w k
+leads HeldBytes w k e = kept w k
+
+pub sound-step : (c : Call) (w : World) → Sound w → isOpening c ≡ false → Sound (next (stepOf c w))
+sound-step c w k e = leads c w k e .sound
+
+pub fitted-step : (c : Call) (w : World) → Sound w → isOpening c ≡ false → Fitted w → Fitted (next (stepOf c w))
+fitted-step c w k e = leads c w k e .fitted
+
+left-leads : (h : Handed) (c : Call) (w : World) → Sound w → Handing h c → Leads w (leftBy h c w)
+left-leads own c w k e = leads c w k e
+left-leads (lent bus area) c w k e =
+    let a = same w k bus area in
+    let b = leads c (world (w .session) bus (w .store) area) (a .sound) e in
+    record { sound = b .sound; fitted = λ z. b .fitted (a .fitted z) }
+left-leads (other v) c w k e = kept w k
+
+-- a list of calls from a sound session
+leads-on : (es : List Event) (w : World) → Sound w → Follows es → Leads w (endOf w es)
+leads-on [] w k f = kept w k
+leads-on (e ∷ es) w k f =
+    let a = left-leads (e .handed) (e .call) w k (f .0) in
+    let b = leads-on es (leftBy (e .handed) (e .call) w) (a .sound) (f .1) in
+    record { sound = b .sound; fitted = λ z. b .fitted (a .fitted z) }
+
+-- and one after an opening that passed
+module _ (o : Opening) (w : World) (es : List Event) (e : stepOf (Open o) w .result .answer ≡ answer.Pass) (f : Follows es) where
+  pub sound-run : Sound (endOf (next (stepOf (Open o) w)) es)
+  sound-run = leads-on es (next (stepOf (Open o) w)) (sound-open o w e) f .sound
+
+  pub fitted-run : Whole w → Fitted (endOf (next (stepOf (Open o) w)) es)
+  fitted-run n = leads-on es (next (stepOf (Open o) w)) (sound-open o w e) f .fitted (fitted-open o w n e)

@@ -1,0 +1,169 @@
+-- Every call keeps the invariant. Assumes nothing.
+use Prim.Native.Nat.{ℕ, _<_}
+use mathlib.Core.Path.{_≡_, refl, sym, ap}
+use mathlib.Core.Bool.{Bool, true, false, not, cond, _&&_, true≢false, false≢true}
+use mathlib.Core.List.{List}
+use lib.ListN.{length, getD}
+use borrow.Author.Tests.{not-true}
+use Rattle.chain.specs.Lists.{foundIn}
+use Rattle.chain.specs.declared.Found.{Found}
+use Rattle.chain.specs.declared.Found.the-variants as found
+use Rattle.chain.proofs.Chain.{if-all, if-by}
+use Rattle.words.specs.declared.OptionU64.{OptionU64}
+use Rattle.words.specs.declared.OptionU64.the-variants as u64
+use Rattle.models.specs.Requests.{deviceMayAccess, isPending}
+use Rattle.models.specs.declared.ControllerState.the-variants.{AcquiredUnknown, Initialized, RecoveryRequired}
+use Rattle.models.specs.declared.OptionError.{OptionError}
+use Rattle.models.specs.declared.OptionError.the-variants as error
+use Rattle.models.specs.declared.RequestId.{RequestId}
+use Rattle.models.specs.declared.RequestState.{RequestState}
+use Rattle.models.specs.declared.RequestState.the-variants.{Pending, Completed, Failed, Aborted}
+use Rattle.rows.specs.Store.{Store, putIn, emptied}
+use Rattle.rows.specs.Table.{emptyRow}
+use Rattle.rows.specs.declared.Row.{Row}
+use Rattle.ledger.specs.Apply.{applyBy, applyAt, applyOf}
+use Rattle.ledger.specs.Rules.{moved, freed, pendingFlags, logicalCancelBy, logicalCancel, timeOutBy, timeOut, reclaimed, changeRow}
+use Rattle.ledger.specs.Search.{isAt}
+use Rattle.ledger.specs.declared.rules.Change.{Change}
+use Rattle.ledger.specs.declared.rules.Change.the-variants as change
+use Rattle.ledger.specs.declared.rules.Step.{Step}
+use Rattle.ledger.specs.declared.rules.Step.the-variants as step
+use Rattle.ledger.proofs.Placing.{found-row}
+use Rattle.session.specs.Session.{isClosed, isBusy, marked}
+use Rattle.session.specs.Lifecycle.{CalledTo, acquiredBy, acquireOf, initializedBy, initializeOf, closedBy, freshBy, closeOf}
+use Rattle.session.specs.declared.Called.{Called}
+use Rattle.session.specs.declared.Session.{Session}
+use Rattle.session.specs.declared.lifecycle.AcquireReply.{AcquireReply}
+use Rattle.session.specs.declared.lifecycle.AcquireReply.the-variants as acquire
+use Rattle.requests.specs.Answers.{ReportedTo}
+use Rattle.requests.specs.Change.{reportedBy, changeOf}
+use Rattle.calls.specs.Answers.{ofVerdict}
+use Rattle.calls.specs.Calls.{Call, Open, SetDevice, SetPort, SetEndpoints, SetReconcile, Acquire, Initialize, Close, Submit, SubmitPlan, ReplySubmit, Poll, ReplyPoll, Cancel, Timeout, Reclaim, Status, Reports, CountReports, CompletedBytes, HeldCount, HeldBytes}
+use Rattle.calls.specs.Step.{World, After, stepOf, rowsFitIn, areaFitsIn, storeFitsIn}
+use Rattle.history.specs.Run.{isOpening, numberOf, isIn, isNew, noted}
+use Rattle.history.specs.Journal.{Journal, isPass, releasedAll, journalStep}
+use Rattle.history.proofs.Led.{Alike, unheld-row}
+use Rattle.history.proofs.Changes.{flag-alike, empty-alike}
+use Rattle.history.proofs.Inv.{Inv, restated, marks, quietly, seen-more, closed-again, closed-anew}
+use Rattle.history.proofs.Submits.{submit-kept, plan-kept}
+use Rattle.history.proofs.Replies.{reply-kept, poll-kept, finish-kept}
+
+-- ---- cancel, timeout and reclaim: the row they lead to weighs what it did
+abbrev pub Stays : Row → Step → Type 0
+Stays r (step.Refused x) = Unit {0}
+Stays r (step.To next x) = Alike r next
+
+cancel-stays : (r : Row) → Stays r (changeRow r change.LogicalCancel)
+unfolding changeRow logicalCancel logicalCancelBy moved
+cancel-stays r = go (r .state) refl
+  where
+    go : (s : RequestState) → r .state ≡ s → Stays r (logicalCancelBy (pendingFlags s) r)
+    go (Pending cancel late) e = flag-alike r true late true (r .«timed_out») (ap isPending e)
+    go (Completed a b c) e = tt
+    go (Failed a b c) e = tt
+    go Aborted e = tt
+
+timeout-stays : (r : Row) → Stays r (changeRow r change.Timeout)
+unfolding changeRow timeOut timeOutBy moved
+timeout-stays r = go (r .state) refl
+  where
+    go : (s : RequestState) → r .state ≡ s → Stays r (timeOutBy (pendingFlags s) r)
+    go (Pending cancel late) e = flag-alike r cancel true (r .«logical_cancel») true (ap isPending e)
+    go (Completed a b c) e = tt
+    go (Failed a b c) e = tt
+    go Aborted e = tt
+
+-- 42: what is reclaimed is not held
+reclaim-stays : (r : Row) → Stays r (changeRow r change.Reclaim)
+unfolding changeRow reclaimed freed
+reclaim-stays r = if-by (Stays r) _ (deviceMayAccess (r .state)) _ (λ e. tt) (λ e. empty-alike r (unheld-row r e))
+
+module _ (s : Session) (j : Journal) (seen : List ℕ) (store : Store) (k : Inv s (store .rows) j seen) where
+  abbrev Change-kept : ReportedTo → Type 0
+  Change-kept o = Inv (o .result .session) (o .store .rows) j seen
+
+  change-kept : (fits : Bool) (id : RequestId) (c : Change) → ((r : Row) → Stays r (changeRow r c)) → Change-kept (changeOf s fits id c store)
+  unfolding changeOf reportedBy applyOf applyAt applyBy putIn
+  change-kept fits id c stays =
+      if-by Change-kept _ (isBusy (s .«in_flight»)) _ (λ y. k)
+      (λ y. if-all Change-kept _ (not fits) _ k (go y (foundIn (isAt id) (store .rows)) refl))
+    where
+      row-in : isBusy (s .«in_flight») ≡ false → (i : ℕ) → i < length (store .rows) → (t : Step) → Stays (getD (store .rows) i emptyRow) t
+          → Change-kept (record { result = reportedBy (applyBy t i store .answer) s; store = applyBy t i store .store })
+      row-in y i lt (step.Refused x) h = k
+      row-in y i lt (step.To next x) h = quietly s (store .rows) j seen k y i lt next h
+
+      go : isBusy (s .«in_flight») ≡ false → (f : Found) → foundIn (isAt id) (store .rows) ≡ f
+          → Change-kept (record { result = reportedBy (applyAt f c store .answer) s; store = applyAt f c store .store })
+      go y found.Nothing e = k
+      go y (found.At i) e =
+          let p = found-row id (store .rows) (found.At i) i (sym e) refl in
+          row-in y i (p .0) (changeRow (getD (store .rows) i emptyRow) c) (stays (getD (store .rows) i emptyRow))
+
+  -- ---- the lifecycle
+  abbrev Called-kept : Called → Type 0
+  Called-kept c = Inv (c .session) (store .rows) j seen
+
+  acquire-kept : (x : AcquireReply) → Called-kept (acquireOf s x)
+  unfolding acquireOf acquiredBy
+  acquire-kept x = if-all Called-kept _ _ _ k (if-all Called-kept _ _ _ k (go x))
+    where
+      go : (x : AcquireReply) → Called-kept (acquiredBy x s)
+      go acquire.Acquired = restated s (store .rows) j seen k AcquiredUnknown _ (λ e. absurd (false≢true e))
+      go (acquire.Failed e retained) = if-all Called-kept _ _ _ (restated s (store .rows) j seen k RecoveryRequired _ (λ y. absurd (false≢true y))) k
+
+  initialize-kept : (x : OptionError) → Called-kept (initializeOf s x)
+  unfolding initializeOf initializedBy
+  initialize-kept x = if-all Called-kept _ _ _ k (if-all Called-kept _ _ _ k (go x))
+    where
+      go : (x : OptionError) → Called-kept (initializedBy x s)
+      go error.None = restated s (store .rows) j seen k Initialized _ (λ e. absurd (false≢true e))
+      go (error.Some e) = marks s (store .rows) j seen k
+
+  abbrev Close-kept : OptionU64 → CalledTo → Type 0
+  Close-kept n o = Inv (o .result .session) (o .store .rows) (cond (isPass (ofVerdict (o .result .answer))) (releasedAll j) j) (noted n seen)
+
+  close-kept : (fits : Bool) (n : OptionU64) (x : OptionError) → isNew n seen ≡ true → Close-kept n (closeOf s fits n x store)
+  unfolding closeOf freshBy closedBy emptied
+  close-kept fits n x new =
+      if-by (Close-kept n) _ (isBusy (s .«in_flight»)) _ (λ y. seen-more s (store .rows) j seen k n)
+      (λ y. if-all (Close-kept n) _ (not fits) _ (seen-more s (store .rows) j seen k n)
+      (if-by (Close-kept n) _ (isClosed (s .state)) _
+      (λ c. seen-more s (store .rows) (releasedAll j) seen (closed-again s (store .rows) j seen k c) n)
+      (λ c. go y n new x)))
+    where
+      go : isBusy (s .«in_flight») ≡ false → (n : OptionU64) → isNew n seen ≡ true → (x : OptionError) → Close-kept n (freshBy n s x store)
+      go y u64.None new x = k
+      go y (u64.Some n) new (error.Some e) = seen-more (marked s) (store .rows) j seen (marks s (store .rows) j seen k) (u64.Some n)
+      go y (u64.Some n) new error.None = closed-anew s (store .rows) j seen k n (length (store .rows)) (not-true (isIn n seen) new) y
+
+-- ---- any call
+abbrev pub Kept : Call → Journal → List ℕ → After → Type 0
+Kept c j seen a = Inv (a .result .session) (a .store .rows) (journalStep c (a .result .answer) j) (noted (numberOf c) seen)
+
+pub step-kept : (c : Call) (w : World) (j : Journal) (seen : List ℕ) → Inv (w .session) (w .store .rows) j seen → isOpening c ≡ false
+    → isNew (numberOf c) seen ≡ true → Kept c j seen (stepOf c w)
+unfolding stepOf journalStep
+step-kept (Open o) w j seen k first new = absurd (true≢false first)
+step-kept (SetDevice d) w j seen k first new = k
+step-kept (SetPort number row) w j seen k first new = k
+step-kept (SetEndpoints slot list) w j seen k first new = k
+step-kept (SetReconcile slot mark) w j seen k first new = k
+step-kept (Acquire reply) w j seen k first new = acquire-kept (w .session) j seen (w .store) k reply
+step-kept (Initialize reply) w j seen k first new = initialize-kept (w .session) j seen (w .store) k reply
+step-kept (Close fresh reply) w j seen k first new = close-kept (w .session) j seen (w .store) k (rowsFitIn w) fresh reply new
+step-kept (Submit q bytes packed packets one two) w j seen k first new =
+    submit-kept (w .session) j seen (w .store) k (storeFitsIn w) q bytes packed packets one two (w .bus) (w .area)
+step-kept (SubmitPlan q bytes one) w j seen k first new = plan-kept (w .session) j seen (w .store) k (storeFitsIn w) q bytes one (w .bus) (w .area)
+step-kept (ReplySubmit reply) w j seen k first new = reply-kept (w .session) j seen (w .store) k (rowsFitIn w) reply
+step-kept (Poll id) w j seen k first new = poll-kept (w .session) j seen (w .store) k (rowsFitIn w) id
+step-kept (ReplyPoll reply bytes) w j seen k first new = finish-kept (w .session) j seen (w .store) k (rowsFitIn w && areaFitsIn w) reply bytes (w .area)
+step-kept (Cancel id) w j seen k first new = change-kept (w .session) j seen (w .store) k (rowsFitIn w) id change.LogicalCancel cancel-stays
+step-kept (Timeout id) w j seen k first new = change-kept (w .session) j seen (w .store) k (rowsFitIn w) id change.Timeout timeout-stays
+step-kept (Reclaim id) w j seen k first new = change-kept (w .session) j seen (w .store) k (rowsFitIn w) id change.Reclaim reclaim-stays
+step-kept (Status id) w j seen k first new = k
+step-kept (Reports from) w j seen k first new = k
+step-kept CountReports w j seen k first new = k
+step-kept (CompletedBytes id) w j seen k first new = k
+step-kept HeldCount w j seen k first new = k
+step-kept HeldBytes w j seen k first new = k

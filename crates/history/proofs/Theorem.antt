@@ -1,0 +1,283 @@
+-- Demand 3: the claim of every list of calls that follows an opening which passed. Assumes nothing.
+use Prim.Native.Nat.{ℕ, zero, suc, _*_, _≤_, _<_}
+use mathlib.Core.Path.{_≡_, refl, sym, ap, _∙_, subst}
+use mathlib.Core.Bool.{Bool, true, false, not, cond, _&&_}
+use mathlib.Core.List.{List, [], _∷_, _++_}
+use native.Mathlib.Omega.{arith}
+use lib.Dec.{ltb}
+use lib.ListN.{length, getD, replicate}
+use borrow.Author.Tests.{eq-eqb, lt-ltb, ltb-true, ltb-false}
+use Rattle.chain.specs.Chain.{_if_else_}
+use Rattle.chain.specs.Lists.{sumBy, only, count, find, anyIn, foundIn}
+use Rattle.chain.specs.declared.Found.{Found}
+use Rattle.chain.specs.declared.Found.the-variants as found
+use Rattle.chain.proofs.Chain.{caseB, if-by}
+use Rattle.chain.proofs.Lists.{sum-eq, sum-le, sum-one, sum-none, count-pos, find-hit, find-some}
+use Rattle.models.specs.Refusals.{validation}
+use Rattle.models.specs.Requests.{deviceMayAccess, sameRequest}
+use Rattle.models.specs.declared.Refusal.{Refusal}
+use Rattle.models.specs.declared.RequestId.{RequestId}
+use Rattle.models.specs.declared.RequestReport.{RequestReport}
+use Rattle.rows.specs.Store.{emptied}
+use Rattle.rows.specs.Table.{emptyRow, isHeld}
+use Rattle.rows.specs.declared.Row.{Row}
+use Rattle.ledger.specs.Apply.{applyBy, applyAt, applyOf}
+use Rattle.ledger.specs.Rules.{reclaimed, changeRow}
+use Rattle.ledger.specs.Search.{isAt}
+use Rattle.ledger.specs.declared.rules.Change.the-variants as change
+use Rattle.ledger.specs.declared.rules.Step.{Step}
+use Rattle.ledger.proofs.Placing.{found-row}
+use Rattle.ledger.proofs.Saturated.{count-plain, bytes-plain}
+use Rattle.session.specs.Lifecycle.{OpenedTo, newSession, openOf}
+use Rattle.session.specs.Sizes.{openFits}
+use Rattle.session.specs.declared.lifecycle.Opening.{Opening}
+use Rattle.requests.specs.Answers.{ReportedTo}
+use Rattle.requests.specs.Change.{reportedBy, changeOf}
+use Rattle.requests.specs.Status.{heldCountOf, heldBytesOf}
+use Rattle.calls.specs.Answers.{ofOpened, ofReport, ofTally}
+use Rattle.calls.specs.Calls.{Call, Open, SetDevice, SetPort, SetEndpoints, SetReconcile, Acquire, Initialize, Close, Submit, SubmitPlan, ReplySubmit, Poll, ReplyPoll, Cancel, Timeout, Reclaim, Status, Reports, CountReports, CompletedBytes, HeldCount, HeldBytes}
+use Rattle.calls.specs.Step.{World, world, stepOf}
+use Rattle.calls.specs.declared.Answer.{Answer}
+use Rattle.calls.specs.declared.Answer.the-variants as answer
+use Rattle.history.specs.Run.{Handed, own, lent, other, Event, next, answerTo, leftBy, endOf, historyOf, Handing, Follows, numberOf, isNew, noted, Fresh, Whole}
+use Rattle.history.specs.Journal.{Entry, Journal, blank, isNone, isOpen, isEntry, noEntry, entryOf, journalStep, journalOf}
+use Rattle.history.specs.Claim.{View, rowView, entryView, heldAs, openAs, Agrees, releasesOf, reclaims, Claim}
+use Rattle.history.proofs.SoundRun.{fitted-run}
+use Rattle.history.proofs.Led.{rowW, entryW, each, lengthOf, long, at, twice, Led, row-none, and-less, unheld-row, known-in, entry-is}
+use Rattle.history.proofs.Changes.{none-held, none-at}
+use Rattle.history.proofs.Inv.{Inv, seen-more}
+use Rattle.history.proofs.Steps.{step-kept}
+
+-- ---- rows and entries that agree, seen through a filter
+cond-and : (a b : Bool) (n : ℕ) → cond (a && b) n 0 ≡ cond a (cond b n 0) 0
+cond-and true b n = refl
+cond-and false b n = refl
+
+row-ids : (u d s q : Bool) → cond {A = ℕ} ((u && s) && ((u && d) && q)) 1 0 ≡ cond (u && d) (cond s (cond q 1 0) 0) 0
+row-ids true true true q = refl
+row-ids true true false q = refl
+row-ids true false true q = refl
+row-ids true false false q = refl
+row-ids false d s q = refl
+
+entry-ids : (s o q : Bool) → cond {A = ℕ} (s && (o && q)) 1 0 ≡ cond o (cond s (cond q 1 0) 0) 0
+entry-ids true true q = refl
+entry-ids true false q = refl
+entry-ids false true q = refl
+entry-ids false false q = refl
+
+any-count : {A : Type 0} (p : A → Bool) (l : List A) (d : A) → anyIn p l ≡ ltb 0 (count p l)
+any-count p l d =
+    caseB (ltb 0 (count p l))
+    (λ e. let h = ltb-true 0 (count p l) e in lt-ltb (find p l) (length l) (find-some p l h) ∙ sym e)
+    (λ e. let h = ltb-false 0 (count p l) e in
+    caseB (anyIn p l)
+    (λ y. let g = ltb-true (find p l) (length l) y in absurd (omega (arith, count-pos p l (find p l) d g (find-hit p l d g))))
+    (λ y. y ∙ sym e))
+
+row-size : (r : Row) → rowW long r ≡ 0 → rowW lengthOf r ≤ rowW each r * 65536
+row-size r =
+    caseB (isHeld r)
+    (λ e. rw e (caseB (ltb 65536 (r .metadata .«requested_length»)) (λ y. rw y λ z. absurd (omega arith))
+    (λ y. λ z. let h = ltb-false 65536 (r .metadata .«requested_length») y in omega arith)))
+    (λ e. rw e λ z. omega arith)
+
+sizes : (l : List Row) → sumBy (rowW long) l ≡ 0 → sumBy (rowW lengthOf) l ≤ sumBy (rowW each) l * 65536
+sizes [] z = omega arith
+sizes (r ∷ l) z = omega (arith, row-size r (omega arith), sizes l (omega arith))
+
+module _ (rows : List Row) (entries : List Entry) (k : Led rows entries) where
+  weigh-as : (p : View → Bool) (w : View → ℕ) → sumBy (only (heldAs p) (λ r. w (rowView r))) rows ≡ sumBy (only (openAs p) (λ e. w (entryView e))) entries
+  weigh-as p w =
+      sum-eq (only (heldAs p) (λ r. w (rowView r))) (rowW (only p w)) rows (λ r. cond-and (isHeld r) (p (rowView r)) (w (rowView r)))
+      ∙ k .same (only p w)
+      ∙ sym (sum-eq (only (openAs p) (λ e. w (entryView e))) (entryW (only p w)) entries (λ e. cond-and (isOpen e) (p (entryView e)) (w (entryView e))))
+
+  held-ids : (p : View → Bool) (x : RequestId) → count (λ r. isAt x r && heldAs p r) rows ≡ sumBy (rowW (at x (only p each))) rows
+  unfolding isAt isHeld
+  held-ids p x = sum-eq _ (rowW (at x (only p each))) rows (λ r. row-ids (r .used) (deviceMayAccess (r .state)) (sameRequest (r .id) x) (p (rowView r)))
+
+  open-ids : (p : View → Bool) (x : RequestId) → count (λ e. isEntry x e && openAs p e) entries ≡ sumBy (entryW (at x (only p each))) entries
+  open-ids p x = sum-eq _ (entryW (at x (only p each))) entries (λ e. entry-ids (isEntry x e) (isOpen e) (p (entryView e)))
+
+  pub agreed : (p : View → Bool) → Agrees p rows entries
+  agreed p = record {
+    ids = λ x.
+        any-count (λ r. isAt x r && heldAs p r) rows emptyRow
+        ∙ ap (λ (n : ℕ). ltb 0 n) (held-ids p x ∙ k .same (at x (only p each)) ∙ sym (open-ids p x))
+        ∙ sym (any-count (λ e. isEntry x e && openAs p e) entries noEntry);
+    number = weigh-as p each;
+    lengths = weigh-as p lengthOf;
+    bound = let a = sum-le (only (heldAs p) (λ r. 1)) (only isHeld (λ r. 1)) rows (λ r. and-less (isHeld r) (p (rowView r))) in omega (arith, k .few);
+  }
+
+  pub count-told : (fits : Bool) → fits ≡ true → ofTally (heldCountOf fits rows) ≡ answer.Number (count isOpen entries)
+  unfolding heldCountOf _if_else_
+  count-told fits e = let few = k .few in rw e (ap (λ (n : ℕ). answer.Number n) (count-plain 16 rows (omega arith) ∙ k .same each))
+
+  pub bytes-told : (fits : Bool) → fits ≡ true → ofTally (heldBytesOf fits rows) ≡ answer.Number (sumBy (only isOpen (λ e. e .requested)) entries)
+  unfolding heldBytesOf _if_else_
+  bytes-told fits e =
+      let few = k .few in
+      let most = sizes rows (k .short) in
+      rw e (ap (λ (n : ℕ). answer.Number n) (bytes-plain 64 rows (omega arith) ∙ k .same lengthOf))
+
+  -- the releases of an id are those of its one entry
+  entry-releases : (x : RequestId) → find (isEntry x) entries < length entries → releasesOf x entries ≡ entryOf x entries .releases
+  entry-releases x h = sum-one (isEntry x) (λ e. e .releases) entries (find (isEntry x) entries) noEntry h (find-hit (isEntry x) entries noEntry h) (k .once x)
+
+  at-most : (i : ℕ) → i < length entries → getD entries i noEntry .releases ≤ 1
+  at-most i h = caseB (twice (getD entries i noEntry))
+      (λ e. absurd (omega (arith, count-pos twice entries i noEntry h e, k .single)))
+      (λ e. ltb-false 1 (getD entries i noEntry .releases) e)
+
+  pub release-once : (x : RequestId) → releasesOf x entries ≤ 1
+  release-once x = caseB (ltb 0 (count (isEntry x) entries))
+      (λ e. let h = find-some (isEntry x) entries (ltb-true 0 (count (isEntry x) entries) e) in omega (arith, entry-releases x h, at-most (find (isEntry x) entries) h))
+      (λ e. let h = ltb-false 0 (count (isEntry x) entries) e in omega (arith, sum-none (isEntry x) (λ y. y .releases) entries (omega arith)))
+
+  -- the row of an id that is not held has an entry with one release
+  pub unheld-once : (x : RequestId) (i : ℕ) → i < length rows → isAt x (getD rows i emptyRow) ≡ true → isHeld (getD rows i emptyRow) ≡ false → releasesOf x entries ≡ 1
+  unheld-once x i lt hit free =
+      let h = known-in rows entries k x i lt hit in
+      let z : entryW each (entryOf x entries) ≡ 0 = entry-is rows entries k x i lt hit each ∙ row-none each (getD rows i emptyRow) free in
+      omega (arith, entry-releases x h, at-most (find (isEntry x) entries) h, go (entryOf x entries .releases) z)
+    where
+      go : (n : ℕ) → cond {A = ℕ} (isNone n) 1 0 ≡ 0 → 1 ≤ n
+      go zero e = absurd (omega arith)
+      go (suc n) e = omega arith
+
+-- ---- a list of calls
+refused-3 : (c : Call) (j : Journal) → journalStep c (answer.Refused (validation 3)) j ≡ j
+unfolding journalStep
+refused-3 (Open o) j = refl
+refused-3 (SetDevice d) j = refl
+refused-3 (SetPort number row) j = refl
+refused-3 (SetEndpoints slot list) j = refl
+refused-3 (SetReconcile slot mark) j = refl
+refused-3 (Acquire reply) j = refl
+refused-3 (Initialize reply) j = refl
+refused-3 (Close fresh reply) j = refl
+refused-3 (Submit q bytes packed packets first second) j = refl
+refused-3 (SubmitPlan q bytes first) j = refl
+refused-3 (ReplySubmit reply) j = refl
+refused-3 (Poll id) j = refl
+refused-3 (ReplyPoll reply bytes) j = refl
+refused-3 (Cancel id) j = refl
+refused-3 (Timeout id) j = refl
+refused-3 (Reclaim id) j = refl
+refused-3 (Status id) j = refl
+refused-3 (Reports from) j = refl
+refused-3 CountReports j = refl
+refused-3 (CompletedBytes id) j = refl
+refused-3 HeldCount j = refl
+refused-3 HeldBytes j = refl
+
+abbrev pub Holds : World → Journal → List ℕ → Type 0
+Holds w j seen = Inv (w .session) (w .store .rows) j seen
+
+event-kept : (h : Handed) (c : Call) (w : World) (j : Journal) (seen : List ℕ) → Holds w j seen → Handing h c → isNew (numberOf c) seen ≡ true
+    → Holds (leftBy h c w) (journalStep c (answerTo w (record { call = c; handed = h })) j) (noted (numberOf c) seen)
+event-kept own c w j seen k f n = step-kept c w j seen k f n
+event-kept (lent bus area) c w j seen k f n = step-kept c (world (w .session) bus (w .store) area) j seen k f n
+event-kept (other v) c w j seen k f n =
+    subst (λ (x : Journal). Holds w x (noted (numberOf c) seen)) (sym (ap (λ (a : Answer). journalStep c a j) f ∙ refused-3 c j))
+    (seen-more (w .session) (w .store .rows) j seen k (numberOf c))
+
+pub run-kept : (es : List Event) (w : World) (j : Journal) (seen : List ℕ) → Holds w j seen → Follows es → Fresh seen es
+    → (seen′ : List ℕ) × Holds (endOf w es) (journalOf (historyOf w es) j) seen′
+run-kept [] w j seen k f n = (seen, k)
+run-kept (e ∷ es) w j seen k f n =
+    run-kept es (leftBy (e .handed) (e .call) w) (journalStep (e .call) (answerTo w e) j) (noted (numberOf (e .call)) seen)
+    (event-kept (e .handed) (e .call) w j seen k (f .0) (n .0)) (f .1) (n .1)
+
+-- an opening that passed
+pub opened-holds : (o : Opening) (w : World) → stepOf (Open o) w .result .answer ≡ answer.Pass → Holds (next (stepOf (Open o) w)) blank (o .session ∷ [])
+unfolding stepOf openOf emptied
+opened-holds o w =
+    if-by (λ (x : OpenedTo). ofOpened (x .answer) (w .session) .answer ≡ answer.Pass → Inv (ofOpened (x .answer) (w .session) .session) (x .store .rows) blank (o .session ∷ []))
+    _ (not (openFits o (length (w .store .words)) (length (w .area)) (length (w .bus .words)))) _
+    (λ y e. let z : _≡_ {A = ℕ} 0 1 = cc in absurd (omega arith)) (λ y e. begins)
+  where
+    begins : Inv (newSession o) (replicate (length (w .store .rows)) emptyRow) blank (o .session ∷ [])
+    begins = record {
+      led = record {
+        same = λ v. none-held v (length (w .store .rows));
+        known = λ x. omega (arith, none-at x (length (w .store .rows)));
+        once = λ x. omega arith;
+        single = refl;
+        few = omega (arith, none-held each (length (w .store .rows)));
+        short = none-held long (length (w .store .rows));
+      };
+      fresh = λ n h. refl;
+      past = λ x h. refl;
+      here = let h = eq-eqb (o .session) (o .session) refl in rw h;
+      shut = λ e. none-held each (length (w .store .rows));
+      agree = refl;
+      live = tt;
+    }
+
+-- ---- what a reclaim that passed tells
+reclaim-told : (w : World) (x : RequestId) (r : RequestReport) (entries : List Entry) → Led (w .store .rows) entries
+    → stepOf (Reclaim x) w .result .answer ≡ answer.Report r → releasesOf x entries ≡ 1
+unfolding stepOf changeOf reportedBy applyOf applyAt applyBy changeRow reclaimed
+reclaim-told w x r entries k =
+    if-by Told _ _ _ (λ y e. refuses e)
+    (λ y. if-by Told _ _ _ (λ z e. refuses e) (λ z. go (foundIn (isAt x) (w .store .rows)) refl))
+  where
+    Told : ReportedTo → Type 0
+    Told o = ofReport (o .result .answer) ≡ answer.Report r → releasesOf x entries ≡ 1
+
+    refuses : {f : Refusal} → answer.Refused f ≡ answer.Report r → releasesOf x entries ≡ 1
+    refuses e = let z : _≡_ {A = ℕ} 0 1 = cc in absurd (omega arith)
+
+    go : (f : Found) → foundIn (isAt x) (w .store .rows) ≡ f
+        → ofReport (reportedBy (applyAt f change.Reclaim (w .store) .answer) (w .session) .answer) ≡ answer.Report r → releasesOf x entries ≡ 1
+    go found.Nothing e = λ y. refuses y
+    go (found.At i) e =
+        let p = found-row x (w .store .rows) (found.At i) i (sym e) refl in
+        if-by (λ (t : Step). ofReport (reportedBy (applyBy t i (w .store) .answer) (w .session) .answer) ≡ answer.Report r → releasesOf x entries ≡ 1)
+        _ (deviceMayAccess (getD (w .store .rows) i emptyRow .state)) _ (λ y h. refuses h)
+        (λ y h. unheld-once (w .store .rows) entries k x i (p .0) (p .1) (unheld-row (getD (w .store .rows) i emptyRow) y))
+
+-- whatever the reclaim is handed: another session or other slices would be refused by 3
+reclaim-once : (h : Handed) (w : World) (x : RequestId) (r : RequestReport) (entries : List Entry) → Led (w .store .rows) entries → Handing h (Reclaim x)
+    → answerTo w (reclaims x h) ≡ answer.Report r → releasesOf x entries ≡ 1
+reclaim-once own w x r entries k f a = reclaim-told w x r entries k a
+reclaim-once (lent bus area) w x r entries k f a = reclaim-told (world (w .session) bus (w .store) area) x r entries k a
+reclaim-once (other v) w x r entries k f a =
+    let e : answer.Refused (validation 3) ≡ answer.Report r = sym f ∙ a in let z : _≡_ {A = ℕ} 0 1 = cc in absurd (omega arith)
+
+-- ---- the theorem
+follows-at : (before after : List Event) (e : Event) → Follows (before ++ (e ∷ after)) → Handing (e .handed) (e .call)
+follows-at [] after e f = f .0
+follows-at (d ∷ before) after e f = follows-at before after e (f .1)
+
+follows-front : (before after : List Event) → Follows (before ++ after) → Follows before
+follows-front [] after f = tt
+follows-front (e ∷ before) after f = (f .0, follows-front before after (f .1))
+
+fresh-front : (seen : List ℕ) (before after : List Event) → Fresh seen (before ++ after) → Fresh seen before
+fresh-front seen [] after f = tt
+fresh-front seen (e ∷ before) after f = (f .0, fresh-front (noted (numberOf (e .call)) seen) before after (f .1))
+
+pub history-claim : (o : Opening) (w : World) (es : List Event) → Whole w → stepOf (Open o) w .result .answer ≡ answer.Pass → Follows es
+    → Fresh (o .session ∷ []) es → Claim (next (stepOf (Open o) w)) es
+unfolding stepOf
+history-claim o w es whole pass follows fresh =
+    let fits = fitted-run o w es pass follows whole .fits in
+    let start = opened-holds o w pass in
+    let k = run-kept es (next (stepOf (Open o) w)) blank (o .session ∷ []) start follows fresh .1 .led in
+    record {
+      agrees = agreed _ _ k;
+      count-is = count-told _ _ k _ fits;
+      bytes-is = bytes-told _ _ k _ fits;
+      one-entry = k .once;
+      one-release = release-once _ _ k;
+      reclaimed = λ before after h x r e a.
+          let all = subst Follows e follows in
+          let f = follows-front before (reclaims x h ∷ after) all in
+          let n = fresh-front (o .session ∷ []) before (reclaims x h ∷ after) (subst (Fresh (o .session ∷ [])) e fresh) in
+          reclaim-once h (endOf (next (stepOf (Open o) w)) before) x r _ (run-kept before (next (stepOf (Open o) w)) blank (o .session ∷ []) start f n .1 .led)
+          (follows-at before after (reclaims x h) all) a;
+    }
