@@ -3,7 +3,7 @@ use script::{Answer, Asked, Bytes, Call, Completion, Open, Outcome, Plan, Row, R
 use tapewoad::calls::{self, State, Store};
 
 use crate::reads::Submission;
-use crate::{NOT_OPEN, NOT_PORTED, convert, dump, fits, force, number, unexpected};
+use crate::{NOT_OPEN, NOT_PORTED, convert, dump, force, memory, number, unexpected};
 
 /// What a call gave, what reached the backend, and how many readings were taken.
 type Told = Result<(Outcome, Asked, u32), String>;
@@ -110,9 +110,9 @@ impl Port {
             rows,
             row_bytes,
         };
-        let other = (self.next_size != self.size).then(|| fits(rows, row_bytes));
-        let answer = match other.flatten() {
-            None => self.store.apply(&call),
+        let answer = match memory(self.next_size) {
+            _ if self.next_size == self.size => self.store.apply(&call),
+            None => return Err("so large a store can't be had".into()),
             Some((rows, bytes)) => {
                 let mut store = Store::new(rows, bytes);
                 let answer = store.apply(&call);

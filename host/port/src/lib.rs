@@ -62,9 +62,12 @@ fn force(store: &mut Store, state: script::ControllerState) {
     store.session_words_mut()[6] = convert::to_controller_state(state) as u64;
 }
 
-/// Whether a store of this size can be had; the port refuses others (3).
-fn fits(rows: u64, bytes: u64) -> Option<(usize, usize)> {
+/// The most bytes that a store of a script may have: more than the port takes.
+const MOST_BYTES: usize = 1 << 27;
+
+/// Rows and bytes a row of a store that can be had.
+fn memory((rows, bytes): (u64, u64)) -> Option<(usize, usize)> {
     let (rows, bytes) = (usize::try_from(rows).ok()?, usize::try_from(bytes).ok()?);
-    let small = (1..=Store::ROWS).contains(&rows) && (1..=Store::ROW_BYTES).contains(&bytes);
-    small.then_some((rows, bytes))
+    let whole = rows.checked_mul(bytes.max(1))?;
+    (whole <= MOST_BYTES).then_some((rows, bytes))
 }

@@ -4,12 +4,12 @@ use std::rc::Rc;
 use script::{Answer, Bytes, Call, Error, Open, Outcome, Plan, Row, RowState, Side, Submit};
 use tapewoad::calls::Store;
 use tapewoad::{
-    ControlPlan, DataStage, OperationError, Refusal, RequestReport, RequestSpec, RequestState,
-    UsbSession,
+    ControlPlan, ControllerState, DataStage, OperationError, Refusal, RequestReport, RequestSpec,
+    RequestState, UsbSession,
 };
 
 use crate::backend::{self, Backend, Exchange, SharedExchange};
-use crate::{NOT_OPEN, NOT_PORTED, convert, dump, fits, force};
+use crate::{NOT_OPEN, NOT_PORTED, convert, dump, force, memory};
 
 type Usb = UsbSession<Backend>;
 type Told = Result<Outcome, String>;
@@ -35,27 +35,27 @@ impl Default for Session {
 impl Side for Session {
     fn apply(&mut self, call: &Call) -> Result<Answer, String> {
         self.exchange.replace(Exchange::default());
-        let opened = match call {
-            Call::Store { rows, bytes } => {
+        let outcome = match (call, &mut self.usb) {
+            (Call::Store { rows, bytes }, _) => {
                 self.size = (*rows, *bytes);
-                Some(Outcome::Done)
+                Outcome::Done
             }
-            Call::Open(open) => Some(self.open(open)?),
-            _ => None,
-        };
-        let usb = self.usb.as_mut().ok_or(NOT_OPEN)?;
-        let outcome = match opened {
-            Some(outcome) => outcome,
-            None => told(usb, &self.exchange, call)?,
+            (Call::Open(open), _) => self.open(open)?,
+            (_, None) => return Err(NOT_OPEN.into()),
+            (_, Some(usb)) => told(usb, &self.exchange, call)?,
         };
         let exchange = self.exchange.take();
+        let (state, held, held_bytes) = match &self.usb {
+            Some(usb) => (usb.state(), usb.held_count(), usb.held_bytes()),
+            None => (ControllerState::Closed, 0, 0),
+        };
         Ok(Answer {
             outcome,
             asked: exchange.asked,
             reads: exchange.reads,
-            state: convert::controller_state(usb.state()),
-            held: usb.held_count(),
-            held_bytes: usb.held_bytes(),
+            state: convert::controller_state(state),
+            held,
+            held_bytes,
         })
     }
 }
@@ -66,7 +66,7 @@ impl Session {
     }
 
     fn open(&mut self, open: &Open) -> Told {
-        let (rows, bytes) = fits(self.size.0, self.size.1).ok_or("no such store")?;
+        let (rows, bytes) = memory(self.size).ok_or("so large a store can't be had")?;
         let backend = Backend(Rc::clone(&self.exchange));
         let opening = convert::to_opening(open);
         match UsbSession::with_store(backend, opening, rows, bytes) {
