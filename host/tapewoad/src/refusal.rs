@@ -121,7 +121,7 @@ impl Messages {
     }
 
     /// The backend's error, as the library takes it.
-    pub fn to_words(&mut self, error: OperationError) -> calls::Error {
+    pub fn numbered(&mut self, error: OperationError) -> calls::Error {
         calls::Error {
             category: error.category,
             message: self.number(error.message),
@@ -169,7 +169,7 @@ mod tests {
                 os_code: Some(-1),
                 ..OperationError::validation(text)
             };
-            let words = messages.to_words(error.clone());
+            let words = messages.numbered(error.clone());
             assert_eq!(words.message, expected);
             assert_eq!(messages.error(words), error);
         }

@@ -135,7 +135,7 @@ impl<B: Backend> UsbSession<B> {
         if self.state() == ControllerState::Closed {
             reply = self.backend_mut().acquire(target);
         }
-        let reply = reply.map_err(|it| (self.messages.to_words(it.error), it.retained));
+        let reply = reply.map_err(|it| (self.messages.numbered(it.error), it.retained));
         self.done(&Call::Acquire(reply))
     }
 
@@ -145,7 +145,7 @@ impl<B: Backend> UsbSession<B> {
         if self.state() == ControllerState::AcquiredUnknown {
             reply = self.backend_mut().initialize();
         }
-        let reply = reply.map_err(|error| self.messages.to_words(error));
+        let reply = reply.map_err(|error| self.messages.numbered(error));
         self.done(&Call::Initialize(reply))
     }
 
@@ -158,7 +158,7 @@ impl<B: Backend> UsbSession<B> {
                 reply = self.backend_mut().close();
             }
         }
-        let reply = reply.map_err(|error| self.messages.to_words(error));
+        let reply = reply.map_err(|error| self.messages.numbered(error));
         self.done(&Call::Close { fresh, reply })
     }
 
@@ -246,7 +246,7 @@ impl<B: Backend> UsbSession<B> {
             Ok(None) => self.store.get_mut().apply(&Call::PollReply(Ok(None))),
             Ok(Some(completion)) => self.complete(completion),
             Err(error) => {
-                let reply = Err(self.messages.to_words(error));
+                let reply = Err(self.messages.numbered(error));
                 self.store.get_mut().apply(&Call::PollReply(reply))
             }
         };
@@ -334,7 +334,7 @@ impl<B: Backend> UsbSession<B> {
             }
             let number = self.port_numbers[usize::from(slot)];
             let status = self.backend_mut().port_status(number);
-            readings[taken] = status.map_err(|error| self.messages.to_words(error));
+            readings[taken] = status.map_err(|error| self.messages.numbered(error));
             if readings[taken].is_err() {
                 break;
             }
@@ -350,13 +350,13 @@ impl<B: Backend> UsbSession<B> {
         &mut self,
         reply: Result<u64, crate::OperationError>,
     ) -> Result<RequestReport, Refusal> {
-        let reply = reply.map_err(|error| self.messages.to_words(error));
+        let reply = reply.map_err(|error| self.messages.numbered(error));
         let answer = self.store.get_mut().apply(&Call::SubmitReply(reply));
         self.reported(answer)
     }
 
     fn complete(&mut self, completion: BackendCompletion) -> Answer {
-        let error = completion.error.map(|error| self.messages.to_words(error));
+        let error = completion.error.map(|error| self.messages.numbered(error));
         let completion = calls::Completion {
             actual_length: completion.actual_length.map(|length| length as u64),
             completion_code: completion.completion_code,

@@ -236,13 +236,11 @@ fn too_many_endpoints_are_refused() {
     assert_eq!(store.apply(&call), Answer::Passed);
 }
 
-/// Everything that the library may write.
-fn words(store: &Store) -> ([u64; SESSION_WORDS], Option<(u64, Option<u32>)>, Vec<u8>) {
-    (
-        *store.session_words(),
-        store.port(1),
-        store.bytes(0, 32).into(),
-    )
+/// What the library may write: session, ports and bytes.
+fn words(store: &Store) -> (Vec<u64>, String, Vec<u8>) {
+    let port = format!("{:?}", store.port(1));
+    let session = store.session_words().to_vec();
+    (session, port, store.bytes(0, 32).into())
 }
 
 #[test]
