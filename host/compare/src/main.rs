@@ -65,15 +65,12 @@ fn report(options: &Options, tables: &Tables, start: Instant) {
     if options.table {
         println!("{}", tables.rust.beside(&tables.port));
     }
-    let numbers = |list: Vec<u16>| match list.len() {
-        0 => "none".into(),
-        _ => format!("{list:?}"),
-    };
-    println!(
-        "refusals that this mix can meet and did not: {}; kinds: {:?}",
-        numbers(tables.rust.missing()),
-        tables.rust.missing_kinds()
-    );
+    let (numbers, kinds) = (tables.port.missing(), tables.port.missing_kinds());
+    if numbers.is_empty() && kinds.is_empty() {
+        println!("every refusal and kind of report that this mix can meet was met on both sides");
+    } else {
+        println!("not met by these calls: refusals {numbers:?}, kinds {kinds:?}");
+    }
     println!(
         "compare: {} calls answered alike by the Rust and the port ({}), seeds {} to {}, {:.0} seconds",
         tables.port.calls,

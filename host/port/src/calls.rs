@@ -1,9 +1,11 @@
 //! The library's calls, one by one.
+use std::mem;
+
 use script::{Answer, Asked, Bytes, Call, Completion, Open, Outcome, Plan, Row, RowState, Side};
 use tapewoad::calls::{self, State, Store};
 
 use crate::reads::Submission;
-use crate::{NOT_OPEN, NOT_PORTED, convert, dump, force, memory, number, unexpected};
+use crate::{NOT_OPEN, NOT_PORTED, WHOLE, convert, dump, force, memory, number, unexpected};
 
 /// What a call gave, what reached the backend, and how many readings were taken.
 type Told = Result<(Outcome, Asked, u32), String>;
@@ -21,11 +23,10 @@ pub struct Port {
 
 impl Default for Port {
     fn default() -> Self {
-        let size = (Store::ROWS as u64, Store::ROW_BYTES as u64);
         Self {
             store: Store::new(Store::ROWS, Store::ROW_BYTES),
-            size,
-            next_size: size,
+            size: WHOLE,
+            next_size: WHOLE,
             is_open: false,
             port_numbers: [0; 256],
         }
@@ -104,20 +105,21 @@ impl Port {
 
     /// A store of another size is taken only if the port opens it.
     fn open(&mut self, open: &Open) -> Result<Outcome, String> {
-        let (rows, row_bytes) = self.next_size;
+        let size = mem::replace(&mut self.next_size, WHOLE);
+        let (rows, row_bytes) = size;
         let call = calls::Call::Open {
             opening: convert::to_opening(open),
             rows,
             row_bytes,
         };
-        let answer = match memory(self.next_size) {
-            _ if self.next_size == self.size => self.store.apply(&call),
+        let answer = match memory(size) {
+            _ if size == self.size => self.store.apply(&call),
             None => return Err("so large a store can't be had".into()),
             Some((rows, bytes)) => {
                 let mut store = Store::new(rows, bytes);
                 let answer = store.apply(&call);
                 if answer == calls::Answer::Passed {
-                    (self.store, self.size) = (store, self.next_size);
+                    (self.store, self.size) = (store, size);
                 }
                 answer
             }

@@ -62,6 +62,9 @@ fn force(store: &mut Store, state: script::ControllerState) {
     store.session_words_mut()[6] = convert::to_controller_state(state) as u64;
 }
 
+/// Rows and bytes a row of an opening without `store` before it.
+const WHOLE: (u64, u64) = (Store::ROWS as u64, Store::ROW_BYTES as u64);
+
 /// The most bytes that a store of a script may have: more than the port takes.
 const MOST_BYTES: usize = 1 << 27;
 

@@ -48,3 +48,47 @@ impl Submission<'_> {
         generation(self.before) != generation(self.after)
     }
 }
+
+#[cfg(test)]
+mod tests {
+    use super::*;
+    use script::{Category, Error};
+
+    const ERROR: Error = Error {
+        category: Category::Timeout,
+        message: 1,
+        os_code: None,
+        completion_code: None,
+    };
+
+    /// The readings taken where the port's row had this generation and the word 1.
+    fn reads(readings: &[Reading], rose: bool, refusal: Option<u16>) -> u32 {
+        let submission = Submission {
+            readings,
+            before: Some((5, Some(1))),
+            after: Some((5 + u64::from(rose), None)),
+        };
+        submission.reads(refusal)
+    }
+
+    #[test]
+    fn a_submission_that_passes_every_check_takes_all() {
+        for refusal in [None, Some(39), Some(45)] {
+            assert_eq!(reads(&[Ok(1)], false, refusal), 1);
+            assert_eq!(reads(&[Ok(1), Ok(1)], false, refusal), 2);
+        }
+        assert_eq!(reads(&[Ok(1), Ok(1)], false, Some(36)), 1);
+        assert_eq!(reads(&[Ok(1), Ok(1)], false, Some(32)), 0);
+    }
+
+    #[test]
+    fn a_refusal_by_a_reading_counts_up_to_it() {
+        assert_eq!(reads(&[Err(ERROR), Ok(1)], false, Some(33)), 1);
+        assert_eq!(reads(&[Ok(3), Err(ERROR)], false, Some(33)), 2);
+        assert_eq!(reads(&[Ok(0), Ok(1)], false, Some(34)), 1);
+        assert_eq!(reads(&[Ok(3), Ok(2)], false, Some(34)), 2);
+        assert_eq!(reads(&[Ok(0), Ok(1)], true, Some(31)), 1);
+        assert_eq!(reads(&[Ok(3), Ok(2)], true, Some(31)), 2);
+        assert_eq!(reads(&[Ok(0), Ok(0)], false, Some(31)), 0);
+    }
+}

@@ -1,15 +1,15 @@
 //! The safe crate's `UsbSession`, with a backend that replies as each call says.
+use std::mem;
 use std::rc::Rc;
 
 use script::{Answer, Bytes, Call, Error, Open, Outcome, Plan, Row, RowState, Side, Submit};
-use tapewoad::calls::Store;
 use tapewoad::{
     ControlPlan, ControllerState, DataStage, OperationError, Refusal, RequestReport, RequestSpec,
     RequestState, UsbSession,
 };
 
 use crate::backend::{self, Backend, Exchange, SharedExchange};
-use crate::{NOT_OPEN, NOT_PORTED, convert, dump, force, memory};
+use crate::{NOT_OPEN, NOT_PORTED, WHOLE, convert, dump, force, memory};
 
 type Usb = UsbSession<Backend>;
 type Told = Result<Outcome, String>;
@@ -27,7 +27,7 @@ impl Default for Session {
         Self {
             usb: None,
             exchange: SharedExchange::default(),
-            size: (Store::ROWS as u64, Store::ROW_BYTES as u64),
+            size: WHOLE,
         }
     }
 }
@@ -66,7 +66,8 @@ impl Session {
     }
 
     fn open(&mut self, open: &Open) -> Told {
-        let (rows, bytes) = memory(self.size).ok_or("so large a store can't be had")?;
+        let size = mem::replace(&mut self.size, WHOLE);
+        let (rows, bytes) = memory(size).ok_or("so large a store can't be had")?;
         let backend = Backend(Rc::clone(&self.exchange));
         let opening = convert::to_opening(open);
         match UsbSession::with_store(backend, opening, rows, bytes) {

@@ -41,6 +41,13 @@ fn a_smaller_store_has_its_own_limits() {
 }
 
 #[test]
+fn only_the_next_opening_has_the_stores_size() {
+    let text = format!("store rows=1 bytes=8\n{SETTING}{SETTING}{SUBMIT} len=9");
+    let line = last(&text);
+    assert!(line.starts_with("row id=1.0.0 "), "{line}");
+}
+
+#[test]
 fn a_wrong_store_is_refused_and_the_session_goes_on() {
     for size in ["rows=0 bytes=8", "rows=1025 bytes=8", "rows=1 bytes=65537"] {
         let text = format!("{SETTING}store {size}\nopen session=2 seq=0 rev=0 ports=-\ndump");

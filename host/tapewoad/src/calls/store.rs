@@ -132,8 +132,11 @@ impl Store {
     }
 
     /// The controller's state.
+    ///
+    /// # Panics
+    /// If [`Self::session_words_mut`] was used to write no state.
     pub fn state(&self) -> ControllerState {
-        controller_state(self.session[6]).expect("the library wrote it")
+        controller_state(self.session[6]).expect("a state's number")
     }
 
     /// The ledger's session number.
