@@ -5,7 +5,9 @@ use script::{Answer, Asked, Bytes, Call, Completion, Open, Outcome, Plan, Row, R
 use tapewoad::calls::{self, State, Store};
 
 use crate::reads::Submission;
-use crate::{NOT_OPEN, NOT_PORTED, WHOLE, convert, dump, force, memory, number, unexpected};
+use crate::{
+    NOT_OPEN, NOT_PORTED, WHOLE, answered, convert, dump, force, memory, number, unexpected,
+};
 
 /// What a call gave, what reached the backend, and how many readings were taken.
 type Told = Result<(Outcome, Asked, u32), String>;
@@ -113,11 +115,11 @@ impl Port {
             row_bytes,
         };
         let answer = match memory(size) {
-            _ if size == self.size => self.store.apply(&call),
+            _ if size == self.size => answered(&mut self.store, &call)?,
             None => return Err("so large a store can't be had".into()),
             Some((rows, bytes)) => {
                 let mut store = Store::new(rows, bytes);
-                let answer = store.apply(&call);
+                let answer = answered(&mut store, &call)?;
                 if answer == calls::Answer::Passed {
                     (self.store, self.size) = (store, size);
                 }
@@ -166,7 +168,7 @@ impl Port {
     }
 
     fn made(&mut self, call: &calls::Call<'_>) -> Result<Outcome, String> {
-        let answer = self.store.apply(call);
+        let answer = answered(&mut self.store, call)?;
         self.outcome(call, answer)
     }
 
@@ -196,7 +198,7 @@ impl Port {
         let id = convert::to_request_id(id);
         let data = self.store.completed_bytes(id).to_vec();
         let call = calls::Call::ReclaimRequest(id);
-        match self.store.apply(&call) {
+        match answered(&mut self.store, &call)? {
             calls::Answer::Report(report) => {
                 let completed = matches!(report.state, State::Completed { .. });
                 let data = completed.then_some(Bytes(data));
@@ -211,7 +213,7 @@ impl Port {
         let mut after = None;
         loop {
             let call = calls::Call::RequestReports { after };
-            match self.store.apply(&call) {
+            match answered(&mut self.store, &call)? {
                 calls::Answer::NoReport => break,
                 calls::Answer::Report(report) => {
                     after = Some(report.id);
@@ -301,7 +303,7 @@ impl Port {
     ) -> Told {
         let port = self.port_numbers[usize::from(slot)];
         let before = self.store.port(port);
-        let answer = self.store.apply(call);
+        let answer = answered(&mut self.store, call)?;
         let submission = Submission {
             readings,
             before,
@@ -321,7 +323,7 @@ impl Port {
 
     fn poll(&mut self, id: script::RequestId, reply: &script::PollReply) -> Told {
         let call = calls::Call::PollRequest(convert::to_request_id(id));
-        let answer = self.store.apply(&call);
+        let answer = answered(&mut self.store, &call)?;
         let calls::Answer::Ask { token } = answer else {
             return Ok((self.outcome(&call, answer)?, Asked::Nothing, 0));
         };

@@ -47,10 +47,15 @@ fn ports(store: &Store) -> Option<Ports> {
 }
 
 fn number(store: &mut Store, call: &Call<'_>) -> Result<u64, String> {
-    match store.apply(call) {
+    match answered(store, call)? {
         Answer::Number(number) => Ok(number),
         answer => Err(unexpected(call, &answer)),
     }
+}
+
+fn answered(store: &mut Store, call: &Call<'_>) -> Result<Answer, String> {
+    let answer = store.try_apply(call);
+    answer.map_err(|status| format!("the port has no answer to {call:?}: {status}"))
 }
 
 fn unexpected(call: &Call<'_>, answer: &Answer) -> String {

@@ -88,11 +88,17 @@ impl Store {
     /// If the library does not know the call or gives an answer that is not in
     /// docs/CALLS.md: it is of another version.
     pub fn apply(&mut self, call: &Call<'_>) -> Answer {
+        let answer = self.try_apply(call);
+        answer.unwrap_or_else(|status| panic!("{call:?}: {status}"))
+    }
+
+    /// Runs a call of a library that may be of another version.
+    pub fn try_apply(&mut self, call: &Call<'_>) -> Result<Answer, Status> {
         let mut words = std::mem::take(&mut self.words);
         call.write(&mut words);
         let answer = self.apply_words(&words, call.bytes());
         self.words = words;
-        answer.unwrap_or_else(|status| panic!("{call:?}: {status}"))
+        answer
     }
 
     /// Runs a call given as words.
