@@ -2,10 +2,10 @@
 use std::io::{self, Read, Write};
 use std::process::ExitCode;
 
-use oracle::Oracle;
 use script::Side;
 
-const USAGE: &str = "usage: driver [--side rust] [FILE]   (standard input without FILE)";
+const USAGE: &str = "usage: driver [--side rust|rattle|session] [FILE]   (standard input without FILE)
+  rust: the unchanged Rust (without --side); rattle: the port, call by call; session: the port, through UsbSession";
 
 struct Options {
     side: String,
@@ -54,8 +54,18 @@ fn options(mut words: impl Iterator<Item = String>) -> Result<Options, String> {
 }
 
 fn side(name: &str) -> Result<Box<dyn Side>, String> {
+    #[cfg(feature = "rust")]
+    if name == "rust" {
+        return Ok(Box::new(oracle::Oracle::new()));
+    }
+    #[cfg(feature = "rattle")]
     match name {
-        "rust" => Ok(Box::new(Oracle::new())),
+        "rattle" => return Ok(Box::new(port::Port::new())),
+        "session" => return Ok(Box::new(port::Session::new())),
+        _ => {}
+    }
+    match name {
+        "rust" | "rattle" | "session" => Err(format!("the side `{name}` is not built in")),
         _ => Err(format!("unknown side `{name}`; {USAGE}")),
     }
 }

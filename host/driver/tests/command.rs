@@ -1,4 +1,5 @@
 //! The driver as a program: good input, and what bad input leads to.
+#![cfg(feature = "rust")]
 use std::io::Write;
 use std::process::{Command, Output, Stdio};
 

@@ -30,7 +30,7 @@ fn write_script() -> Result<(), String> {
     let options = options(std::env::args().skip(1))?;
     let mut out = io::BufWriter::new(io::stdout().lock());
     let mut generator = Generator::new(options.seed, options.mix, options.phase);
-    let mut table = Table::default();
+    let mut table = Table::new(options.mix);
     for _ in 0..options.calls {
         let (call, answer) = generator.step()?;
         if options.table {

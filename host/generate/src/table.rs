@@ -5,10 +5,14 @@ use std::fmt::{self, Display, Formatter};
 use oracle::RowView;
 use script::{Answer, Asked, Call, ControllerState, Outcome, Recovery, RowState};
 
+use crate::Mix;
+
 /// The refusals of document 01's table, by who can meet them.
 const CANNOT_BE_MET: [u16; 3] = [7, 25, 44];
 const NO_RUST_SIDE: [u16; 5] = [1, 2, 3, 49, 53];
+const ONLY_BY_RECOVERY: [u16; 4] = [43, 46, 47, 48];
 const LAST: u16 = 53;
+const NOT_MET: &str = "NOT MET";
 
 /// Every kind of report, of question to the backend, and the corners worth a name.
 const KINDS: &[&str] = &[
@@ -64,6 +68,7 @@ const KINDS: &[&str] = &[
 
 pub struct Table {
     pub calls: u64,
+    mix: Mix,
     refusals: BTreeMap<u16, u64>,
     kinds: BTreeMap<String, u64>,
     corners: BTreeMap<String, u64>,
@@ -74,10 +79,12 @@ pub struct Table {
     held: u64,
 }
 
-impl Default for Table {
-    fn default() -> Self {
+impl Table {
+    /// For calls of this mix.
+    pub fn new(mix: Mix) -> Self {
         Self {
             calls: 0,
+            mix,
             refusals: BTreeMap::new(),
             kinds: BTreeMap::new(),
             corners: BTreeMap::new(),
@@ -87,9 +94,7 @@ impl Default for Table {
             held: 0,
         }
     }
-}
 
-impl Table {
     /// Counts a call and its answer; `rows` are those before it.
     pub fn count(&mut self, call: &Call, answer: &Answer, rows: &[RowView]) {
         self.calls += 1;
@@ -171,18 +176,65 @@ impl Table {
         }
     }
 
-    /// The numbers that can be met and were not.
+    /// The numbers that this mix can meet and did not.
     pub fn missing(&self) -> Vec<u16> {
         (1..=LAST)
-            .filter(|number| !CANNOT_BE_MET.contains(number) && !NO_RUST_SIDE.contains(number))
+            .filter(|number| self.why(*number) == NOT_MET)
             .filter(|number| !self.refusals.contains_key(number))
             .collect()
     }
 
-    /// The kinds of report and corners that should come and did not.
+    /// The kinds of report and corners that this mix should bring and did not.
     pub fn missing_kinds(&self) -> Vec<&'static str> {
-        let met = |name: &&str| self.kinds.contains_key(*name) || self.corners.contains_key(*name);
-        KINDS.iter().copied().filter(|name| !met(name)).collect()
+        let met = |name: &str| self.kinds.contains_key(name) || self.corners.contains_key(name);
+        let due = |name: &str| self.mix == Mix::Default || !is_of_recovery(name);
+        let missing = KINDS.iter().filter(|name| due(name) && !met(name));
+        missing.copied().collect()
+    }
+
+    /// Why a number was not met.
+    fn why(&self, number: u16) -> &'static str {
+        match number {
+            7 => "never: 6 comes first where rows have 65,536 bytes",
+            25 => "never: 24 comes first",
+            44 => "never: no row is held while Closed, AcquiredUnknown or Closing",
+            _ if NO_RUST_SIDE.contains(&number) => "no Rust side",
+            _ if self.mix == Mix::NoRecovery && ONLY_BY_RECOVERY.contains(&number) => {
+                "only by a recovery"
+            }
+            _ => NOT_MET,
+        }
+    }
+
+    /// Both sides' counts, where this table is one side's and `other` the other's.
+    pub fn beside(&self, other: &Self) -> String {
+        let mut text = String::from("refusals                   Rust      port\n");
+        for number in 1..=LAST {
+            let counts = [self, other].map(|it| it.refusals.get(&number).copied().unwrap_or(0));
+            text += &match counts {
+                [0, 0] => format!(
+                    "{number:<20} {:>10} {:>9}  {}\n",
+                    "-",
+                    "-",
+                    self.why(number)
+                ),
+                [a, b] => format!("{number:<20} {a:>10} {b:>9}\n"),
+            };
+        }
+        text += "\nreports, what reached the backend, corners\n";
+        let names = |it: &Self| it.kinds.keys().chain(it.corners.keys()).cloned().collect();
+        let mut all: Vec<String> = names(self);
+        all.extend::<Vec<_>>(names(other));
+        all.sort();
+        all.dedup();
+        for name in all {
+            let count = |it: &Self| {
+                let found = it.kinds.get(&name).or_else(|| it.corners.get(&name));
+                found.copied().unwrap_or(0)
+            };
+            text += &format!("{:>10} {:>9}  {name}\n", count(self), count(other));
+        }
+        text
     }
 
     /// The numbers that were met though no opening should lead to them.
@@ -193,6 +245,13 @@ impl Table {
             .copied()
             .collect()
     }
+}
+
+fn is_of_recovery(kind: &str) -> bool {
+    kind == "row A"
+        || ["abort", "recovery", "reset"]
+            .iter()
+            .any(|it| kind.contains(it))
 }
 
 fn kind(outcome: &Outcome) -> String {
@@ -251,7 +310,7 @@ impl Display for Table {
         for number in 1..=LAST {
             match self.refusals.get(&number) {
                 Some(count) => writeln!(f, "{number:4} {count:8}")?,
-                None => writeln!(f, "{number:4}        - {}", why(number))?,
+                None => writeln!(f, "{number:4}        - {}", self.why(number))?,
             }
         }
         writeln!(f, "\nreports and what reached the backend")?;
@@ -265,15 +324,5 @@ impl Display for Table {
         writeln!(f, "\nrefusals missing: {:?}", self.missing())?;
         writeln!(f, "refusals unexpected: {:?}", self.unexpected())?;
         writeln!(f, "kinds missing: {:?}", self.missing_kinds())
-    }
-}
-
-fn why(number: u16) -> &'static str {
-    match number {
-        7 => "never: 6 comes first where rows have 65,536 bytes",
-        25 => "never: 24 comes first",
-        44 => "never: no row is held while Closed, AcquiredUnknown or Closing",
-        _ if NO_RUST_SIDE.contains(&number) => "no Rust side",
-        _ => "NOT MET",
     }
 }

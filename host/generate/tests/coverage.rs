@@ -12,7 +12,7 @@ const UNSUPPORTED: [u16; 9] = [6, 11, 13, 14, 18, 19, 20, 21, 37];
 #[test]
 fn a_long_script_meets_every_refusal_that_can_be_met() {
     let mut generator = Generator::new(1, Mix::Default, None);
-    let mut table = Table::default();
+    let mut table = Table::new(Mix::Default);
     for _ in 0..200_000 {
         let (call, answer) = generator.step().unwrap();
         table.count(&call, &answer, generator.rows());
@@ -120,7 +120,7 @@ fn count_recorded(folder: &Path, table: &mut Table) {
 #[test]
 fn the_recorded_scripts_together_meet_everything() {
     let recorded = Path::new(env!("CARGO_MANIFEST_DIR")).join("../recorded");
-    let mut table = Table::default();
+    let mut table = Table::new(Mix::Default);
     count_recorded(&recorded, &mut table);
     assert_eq!(table.missing(), [43, 46, 47, 48], "without recovery");
     count_recorded(&recorded.join("recovery"), &mut table);

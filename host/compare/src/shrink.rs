@@ -1,0 +1,87 @@
+//! Cutting a script down to few calls that still show a difference.
+use std::fmt::{self, Display, Formatter};
+
+use oracle::Oracle;
+use script::{Answer, Call, Side};
+
+use crate::{NewSide, difference};
+
+/// How often a script is run anew at most.
+const TRIALS: usize = 4_000;
+
+/// A script, and both sides' answers to its last call.
+#[derive(Debug)]
+pub struct Difference {
+    pub script: Vec<Call>,
+    pub rust: String,
+    pub port: String,
+}
+
+impl Difference {
+    /// A difference of one call, whose script is not known.
+    pub fn new(call: Call, rust: &Answer, port: &Result<Answer, String>) -> Self {
+        let (rust, port) = difference(rust, port).expect("they differ");
+        Self {
+            script: vec![call],
+            rust,
+            port,
+        }
+    }
+}
+
+impl Display for Difference {
+    fn fmt(&self, f: &mut Formatter<'_>) -> fmt::Result {
+        for call in &self.script {
+            writeln!(f, "{call}")?;
+        }
+        writeln!(f, "# the Rust: {}", self.rust)?;
+        writeln!(f, "# the port: {}", self.port)
+    }
+}
+
+/// Drops the calls that don't matter, largest parts first. None where both
+/// sides, made anew, answer all of them alike.
+pub fn shrink(calls: Vec<Call>, new_port: NewSide<'_>) -> Option<Difference> {
+    let mut best = first_difference(calls, new_port)?;
+    let mut trials = 0;
+    let mut part = best.script.len().div_ceil(2);
+    while part > 0 && trials < TRIALS {
+        let mut from = 0;
+        let mut dropped = false;
+        while from < best.script.len() && trials < TRIALS {
+            let mut fewer = best.script.clone();
+            fewer.drain(from..best.script.len().min(from + part));
+            trials += 1;
+            match first_difference(fewer, new_port) {
+                Some(found) => {
+                    best = found;
+                    dropped = true;
+                }
+                None => from += part,
+            }
+        }
+        part = match (part, dropped) {
+            (1, true) => 1,
+            _ => part / 2,
+        };
+    }
+    Some(best)
+}
+
+/// The shortest prefix that shows a difference.
+fn first_difference(mut calls: Vec<Call>, new_port: NewSide<'_>) -> Option<Difference> {
+    let (mut oracle, mut port) = (Oracle::new(), new_port());
+    for place in 0..calls.len() {
+        let call = &calls[place];
+        let rust = oracle.apply(call).ok()?;
+        if let Some((rust, port)) = difference(&rust, &port.apply(call)) {
+            calls.truncate(place + 1);
+            return Some(Difference {
+                script: calls,
+                rust,
+                port,
+            });
+        }
+    }
+    None
+}

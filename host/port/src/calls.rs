@@ -1,0 +1,403 @@
+//! The library's calls, one by one.
+use std::mem;
+
+use script::{Answer, Asked, Bytes, Call, Completion, Open, Outcome, Plan, Row, RowState, Side};
+use tapewoad::calls::{self, State, Store};
+
+use crate::reads::Submission;
+use crate::{
+    NOT_OPEN, NOT_PORTED, WHOLE, answered, convert, dump, force, memory, number, unexpected,
+};
+
+/// What a call gave, what reached the backend, and how many readings were taken.
+type Told = Result<(Outcome, Asked, u32), String>;
+
+/// The port, by its own calls.
+pub struct Port {
+    store: Store,
+    /// The size of the store, and of the next opening's.
+    size: (u64, u64),
+    next_size: (u64, u64),
+    is_open: bool,
+    /// The port number of each slot's device.
+    port_numbers: [u8; 256],
+}
+
+impl Default for Port {
+    fn default() -> Self {
+        Self {
+            store: Store::new(Store::ROWS, Store::ROW_BYTES),
+            size: WHOLE,
+            next_size: WHOLE,
+            is_open: false,
+            port_numbers: [0; 256],
+        }
+    }
+}
+
+impl Side for Port {
+    fn apply(&mut self, call: &Call) -> Result<Answer, String> {
+        let first = matches!(call, Call::Open(_) | Call::Store { .. });
+        if !first && !self.is_open {
+            return Err(NOT_OPEN.into());
+        }
+        let (outcome, asked, reads) = self.told(call)?;
+        let (held, held_bytes) = match self.is_open {
+            true => (
+                number(&mut self.store, &calls::Call::HeldCount)?,
+                number(&mut self.store, &calls::Call::HeldBytes)?,
+            ),
+            false => (0, 0),
+        };
+        Ok(Answer {
+            outcome,
+            asked,
+            reads,
+            state: convert::controller_state(self.store.state()),
+            held,
+            held_bytes,
+        })
+    }
+}
+
+impl Port {
+    pub fn new() -> Self {
+        Self::default()
+    }
+
+    fn told(&mut self, call: &Call) -> Told {
+        let outcome = match call {
+            Call::Submit(submit) => return self.submit(submit),
+            Call::Plan(plan) => return self.plan(plan),
+            Call::Poll { id, reply } => return self.poll(*id, reply),
+            Call::Open(open) => self.open(open),
+            Call::Device { .. } | Call::Port { .. } | Call::Endpoints { .. } | Call::Raw { .. } => {
+                self.set(call)
+            }
+            Call::Acquire(reply) => {
+                let reply = reply.map_err(|(error, kept)| (convert::to_error(error), kept));
+                self.made(&calls::Call::Acquire(reply))
+            }
+            Call::Initialise(reply) => {
+                let reply = reply.map_err(convert::to_error);
+                self.made(&calls::Call::Initialize(reply))
+            }
+            Call::Close { fresh, reply } => self.made(&calls::Call::Close {
+                fresh: *fresh,
+                reply: reply.map_err(convert::to_error),
+            }),
+            Call::Cancel(id) => self.of(calls::Call::LogicalCancelRequest, *id),
+            Call::Timeout(id) => self.of(calls::Call::TimeoutRequest, *id),
+            Call::Report(id) => self.of(calls::Call::RequestStatus, *id),
+            Call::Reclaim(id) => self.reclaim(*id),
+            Call::Reports => self.reports(),
+            Call::Recover { .. } => Err(NOT_PORTED.into()),
+            Call::Dump => dump(&mut self.store).map(Outcome::Dump),
+            Call::Force(state) => {
+                force(&mut self.store, *state);
+                Ok(Outcome::Done)
+            }
+            Call::Store { rows, bytes } => {
+                self.next_size = (*rows, *bytes);
+                Ok(Outcome::Done)
+            }
+        };
+        Ok((outcome?, Asked::Nothing, 0))
+    }
+
+    /// A store of another size is taken only if the port opens it.
+    fn open(&mut self, open: &Open) -> Result<Outcome, String> {
+        let size = mem::replace(&mut self.next_size, WHOLE);
+        let (rows, row_bytes) = size;
+        let call = calls::Call::Open {
+            opening: convert::to_opening(open),
+            rows,
+            row_bytes,
+        };
+        let answer = match memory(size) {
+            _ if size == self.size => answered(&mut self.store, &call)?,
+            None => return Err("so large a store can't be had".into()),
+            Some((rows, bytes)) => {
+                let mut store = Store::new(rows, bytes);
+                let answer = answered(&mut store, &call)?;
+                if answer == calls::Answer::Passed {
+                    (self.store, self.size) = (store, size);
+                }
+                answer
+            }
+        };
+        self.is_open |= answer == calls::Answer::Passed;
+        self.outcome(&call, answer)
+    }
+
+    fn set(&mut self, call: &Call) -> Result<Outcome, String> {
+        match call {
+            Call::Device { id, port, state } => {
+                self.port_numbers[usize::from(id.slot)] = port.number;
+                self.made(&calls::Call::SetDevice(convert::to_snapshot(
+                    *id, *port, *state,
+                )))
+            }
+            Call::Port {
+                number,
+                generation,
+                reading,
+            } => self.made(&calls::Call::SetPort {
+                number: *number,
+                generation: *generation,
+                reading: *reading,
+            }),
+            Call::Endpoints { slot, list } => self.made(&calls::Call::SetEndpoints {
+                slot: *slot,
+                endpoints: &convert::to_endpoints(list),
+            }),
+            Call::Raw { slot, set } => self.made(&calls::Call::SetReconcile {
+                slot: *slot,
+                set: *set,
+            }),
+            _ => unreachable!("handled by the caller"),
+        }
+    }
+
+    fn of<'a>(
+        &mut self,
+        call: impl Fn(tapewoad::RequestId) -> calls::Call<'a>,
+        id: script::RequestId,
+    ) -> Result<Outcome, String> {
+        self.made(&call(convert::to_request_id(id)))
+    }
+
+    fn made(&mut self, call: &calls::Call<'_>) -> Result<Outcome, String> {
+        let answer = answered(&mut self.store, call)?;
+        self.outcome(call, answer)
+    }
+
+    fn outcome(
+        &mut self,
+        call: &calls::Call<'_>,
+        answer: calls::Answer,
+    ) -> Result<Outcome, String> {
+        match answer {
+            calls::Answer::Passed => Ok(Outcome::Done),
+            calls::Answer::Refused(refusal) => Ok(refused(refusal)),
+            calls::Answer::Report(report) => {
+                let data = self.completed(&report);
+                Ok(Outcome::Row(Box::new(row(&report, data))))
+            }
+            answer => Err(unexpected(call, &answer)),
+        }
+    }
+
+    fn completed(&mut self, report: &calls::Report) -> Option<Bytes> {
+        let completed = matches!(report.state, State::Completed { .. });
+        completed.then(|| Bytes(self.store.completed_bytes(report.id).to_vec()))
+    }
+
+    /// The bytes are asked for while the request is there.
+    fn reclaim(&mut self, id: script::RequestId) -> Result<Outcome, String> {
+        let id = convert::to_request_id(id);
+        let data = self.store.completed_bytes(id).to_vec();
+        let call = calls::Call::ReclaimRequest(id);
+        match answered(&mut self.store, &call)? {
+            calls::Answer::Report(report) => {
+                let completed = matches!(report.state, State::Completed { .. });
+                let data = completed.then_some(Bytes(data));
+                Ok(Outcome::Row(Box::new(row(&report, data))))
+            }
+            answer => self.outcome(&call, answer),
+        }
+    }
+
+    fn reports(&mut self) -> Result<Outcome, String> {
+        let mut rows = Vec::new();
+        let mut after = None;
+        loop {
+            let call = calls::Call::RequestReports { after };
+            match answered(&mut self.store, &call)? {
+                calls::Answer::NoReport => break,
+                calls::Answer::Report(report) => {
+                    after = Some(report.id);
+                    let data = self.completed(&report);
+                    rows.push(row(&report, data));
+                }
+                answer => return self.outcome(&call, answer),
+            }
+        }
+        let count = number(&mut self.store, &calls::Call::CountReports)?;
+        if count != rows.len() as u64 {
+            return Err(format!("{} reports, {count} counted", rows.len()));
+        }
+        Ok(Outcome::Rows(rows))
+    }
+
+    fn submit(&mut self, submit: &script::Submit) -> Told {
+        let data = submit.data.to_bytes();
+        let call = calls::Call::SubmitRequestPackets(calls::Submit {
+            device: convert::to_device_id(submit.device),
+            endpoint: submit.endpoint,
+            transfer_type: convert::to_transfer_type(submit.transfer_type),
+            direction: convert::to_direction(submit.direction),
+            length: submit.length,
+            setup: submit.setup.map(convert::to_setup),
+            data: &data,
+            packets: submit.packets.as_deref(),
+            readings: submit.readings.map(|it| it.map_err(convert::to_error)),
+        });
+        let control = submit.transfer_type == script::TransferType::Control;
+        let readings = &submit.readings[..if control { 1 } else { 2 }];
+        self.begin(
+            &call,
+            submit.device.slot,
+            readings,
+            submit.reply,
+            |store, answer| match answer {
+                calls::Answer::Begun { begun, packets } => Some(Asked::Submit {
+                    buffer: Bytes(store.buffer(begun).to_vec()),
+                    packets: submit.packets.clone().filter(|_| *packets),
+                }),
+                _ => None,
+            },
+        )
+    }
+
+    fn plan(&mut self, plan: &Plan) -> Told {
+        let data = plan.data.to_bytes();
+        let stage = plan.stage;
+        let call = calls::Call::SubmitControlPlan(calls::Plan {
+            device: convert::to_device_id(plan.device),
+            profile: convert::to_profile(plan.profile),
+            setup: convert::to_setup(plan.setup),
+            data_stage: stage.map(|(direction, length)| (convert::to_direction(direction), length)),
+            status_direction: plan.status.map(convert::to_direction),
+            data: &data,
+            reading: plan.reading.map_err(convert::to_error),
+        });
+        self.begin(
+            &call,
+            plan.device.slot,
+            &[plan.reading],
+            plan.reply,
+            |store, answer| match answer {
+                calls::Answer::PlanBegun { begun, stages } => Some(Asked::Plan {
+                    buffer: Bytes(store.buffer(begun).to_vec()),
+                    wire: stages.wire_setup,
+                    has_data: stages.has_data,
+                    direction: convert::direction(stages.data_direction),
+                    status: convert::direction(stages.status_direction),
+                    compliant: stages.profile == tapewoad::ControlProfile::Compliant,
+                }),
+                _ => None,
+            },
+        )
+    }
+
+    /// A submission and, where it begins, its reply. `asked` says what the
+    /// backend is asked if the answer says so.
+    fn begin(
+        &mut self,
+        call: &calls::Call<'_>,
+        slot: u8,
+        readings: &[script::Reading],
+        reply: Result<u64, script::Error>,
+        asked: impl Fn(&Store, &calls::Answer) -> Option<Asked>,
+    ) -> Told {
+        let port = self.port_numbers[usize::from(slot)];
+        let before = self.store.port(port);
+        let answer = answered(&mut self.store, call)?;
+        let submission = Submission {
+            readings,
+            before,
+            after: self.store.port(port),
+        };
+        if let Some(asked) = asked(&self.store, &answer) {
+            let reply = calls::Call::SubmitReply(reply.map_err(convert::to_error));
+            return Ok((self.made(&reply)?, asked, submission.reads(None)));
+        }
+        let outcome = self.outcome(call, answer)?;
+        let Outcome::Refused { number, .. } = outcome else {
+            return Err(unexpected(call, &answer));
+        };
+        let reads = submission.reads(Some(number));
+        Ok((outcome, Asked::Nothing, reads))
+    }
+
+    fn poll(&mut self, id: script::RequestId, reply: &script::PollReply) -> Told {
+        let call = calls::Call::PollRequest(convert::to_request_id(id));
+        let answer = answered(&mut self.store, &call)?;
+        let calls::Answer::Ask { token } = answer else {
+            return Ok((self.outcome(&call, answer)?, Asked::Nothing, 0));
+        };
+        let outcome = match reply {
+            Ok(None) => self.made(&calls::Call::PollReply(Ok(None))),
+            Ok(Some(done)) => self.complete(done),
+            Err(error) => self.made(&calls::Call::PollReply(Err(convert::to_error(*error)))),
+        };
+        Ok((outcome?, Asked::Poll { token }, 0))
+    }
+
+    fn complete(&mut self, done: &Completion) -> Result<Outcome, String> {
+        let data = done.data.as_ref().map(script::Data::to_bytes);
+        self.made(&calls::Call::PollReply(Ok(Some(calls::Completion {
+            actual_length: done.length,
+            completion_code: done.code,
+            data: data.as_deref(),
+            error: done.error.map(convert::to_error),
+            quiescent: done.quiescent,
+        }))))
+    }
+}
+
+fn refused(refusal: calls::Refusal) -> Outcome {
+    Outcome::Refused {
+        number: refusal.number,
+        error: convert::error(refusal.error),
+    }
+}
+
+fn row(report: &calls::Report, data: Option<Bytes>) -> Row {
+    let metadata = &report.metadata;
+    Row {
+        id: convert::request_id(report.id),
+        device: convert::device_id(metadata.device),
+        endpoint: metadata.endpoint,
+        transfer_type: convert::transfer_type(metadata.transfer_type),
+        direction: convert::direction(metadata.direction),
+        length: metadata.requested_length,
+        setup: metadata.setup.map(convert::setup),
+        state: row_state(report.state),
+        cancel: report.logical_cancel,
+        timeout: report.timed_out,
+        data,
+    }
+}
+
+fn row_state(state: State) -> RowState {
+    match state {
+        State::Pending {
+            logical_cancel,
+            timed_out,
+        } => RowState::Pending {
+            cancelled: logical_cancel,
+            timed_out,
+        },
+        State::Completed {
+            actual_length,
+            completion_code,
+            logical_cancel,
+        } => RowState::Completed {
+            length: actual_length,
+            code: completion_code,
+            cancelled: logical_cancel,
+        },
+        State::Failed {
+            error,
+            completion_code,
+            quiescent,
+        } => RowState::Failed {
+            error: convert::error(error),
+            code: completion_code,
+            quiescent,
+        },
+        State::Aborted => RowState::Aborted,
+    }
+}

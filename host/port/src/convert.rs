@@ -1,0 +1,176 @@
+//! Between the script's values and the safe crate's types.
+use tapewoad::calls;
+
+/// Two enums with the same case names, converted either way. Not every type is
+/// needed in both.
+macro_rules! same_cases {
+    ($ours:ty, $theirs:ty, $to:ident, $from:ident, [$($case:ident),*]) => {
+        pub fn $to(value: $ours) -> $theirs {
+            match value {
+                $(<$ours>::$case => <$theirs>::$case),*
+            }
+        }
+
+        #[allow(dead_code)]
+        pub fn $from(value: $theirs) -> $ours {
+            match value {
+                $(<$theirs>::$case => <$ours>::$case),*
+            }
+        }
+    };
+}
+
+same_cases!(
+    script::Category,
+    tapewoad::ErrorCategory,
+    to_category,
+    category,
+    [
+        Validation,
+        Unsupported,
+        OperatingSystem,
+        Controller,
+        Timeout,
+        Disconnect,
+        RecoveryRequired
+    ]
+);
+same_cases!(
+    script::ControllerState,
+    tapewoad::ControllerState,
+    to_controller_state,
+    controller_state,
+    [
+        Closed,
+        AcquiredUnknown,
+        Initialized,
+        Closing,
+        RecoveryRequired
+    ]
+);
+same_cases!(
+    script::DeviceState,
+    tapewoad::DeviceState,
+    to_device_state,
+    device_state,
+    [
+        Observed,
+        PortReset,
+        SlotEnabled,
+        DefaultAddress,
+        Addressed,
+        Configured,
+        Disconnected
+    ]
+);
+same_cases!(
+    script::TransferType,
+    tapewoad::TransferType,
+    to_transfer_type,
+    transfer_type,
+    [Control, Bulk, Interrupt, Isochronous]
+);
+same_cases!(
+    script::Direction,
+    tapewoad::Direction,
+    to_direction,
+    direction,
+    [In, Out]
+);
+same_cases!(
+    script::Profile,
+    tapewoad::ControlProfile,
+    to_profile,
+    profile,
+    [Compliant, DeviceCompatibility]
+);
+
+/// Two structs with the same fields, converted either way.
+macro_rules! same_fields {
+    ($ours:path, $theirs:path, $to:ident, $from:ident, [$($field:ident),*]) => {
+        pub fn $to(value: $ours) -> $theirs {
+            $theirs { $($field: value.$field),* }
+        }
+
+        #[allow(dead_code)]
+        pub fn $from(value: $theirs) -> $ours {
+            $ours { $($field: value.$field),* }
+        }
+    };
+}
+
+same_fields!(
+    script::RequestId,
+    tapewoad::RequestId,
+    to_request_id,
+    request_id,
+    [session, generation, sequence]
+);
+same_fields!(
+    script::DeviceId,
+    tapewoad::DeviceId,
+    to_device_id,
+    device_id,
+    [session, generation, slot]
+);
+same_fields!(
+    script::PortId,
+    tapewoad::PortId,
+    to_port_id,
+    port_id,
+    [session, generation, number]
+);
+same_fields!(
+    script::Setup,
+    tapewoad::SetupPacket,
+    to_setup,
+    setup,
+    [request_type, request, value, index, length]
+);
+
+pub fn to_error(error: script::Error) -> calls::Error {
+    calls::Error {
+        category: to_category(error.category),
+        message: error.message,
+        os_code: error.os_code,
+        completion_code: error.completion_code,
+    }
+}
+
+pub fn error(error: calls::Error) -> script::Error {
+    script::Error {
+        category: category(error.category),
+        message: error.message,
+        os_code: error.os_code,
+        completion_code: error.completion_code,
+    }
+}
+
+pub fn to_opening(open: &script::Open) -> tapewoad::Opening {
+    tapewoad::Opening {
+        session: open.session,
+        first_sequence: open.sequence,
+        recovery_revision: open.revision,
+        ports: open.ports,
+    }
+}
+
+pub fn to_endpoints(list: &[(u8, script::TransferType)]) -> Vec<tapewoad::Endpoint> {
+    let endpoint = |(address, kind): &(u8, script::TransferType)| tapewoad::Endpoint {
+        address: *address,
+        transfer_type: to_transfer_type(*kind),
+    };
+    list.iter().map(endpoint).collect()
+}
+
+pub fn to_snapshot(
+    id: script::DeviceId,
+    port: script::PortId,
+    state: script::DeviceState,
+) -> tapewoad::DeviceSnapshot {
+    tapewoad::DeviceSnapshot {
+        id: to_device_id(id),
+        port: to_port_id(port),
+        state: to_device_state(state),
+    }
+}

@@ -1,0 +1,244 @@
+//! Words to answers.
+use super::{ANSWER_WORDS, Answer, Begun, Error, Metadata, Refusal, Report, Stages, State};
+use crate::models::{
+    ControlProfile, ControllerState, DeviceId, Direction, ErrorCategory, RequestId, SetupPacket,
+    TransferType,
+};
+
+/// An enum whose cases are numbered in the order of their declaration.
+macro_rules! numbered {
+    ($name:ident, $type:ty, [$($case:ident),*]) => {
+        fn $name(&mut self) -> Option<$type> {
+            const CASES: &[$type] = &[$(<$type>::$case),*];
+            CASES.get(usize::try_from(self.word()?).ok()?).copied()
+        }
+    };
+}
+
+/// Reads words one by one.
+struct Reader<'a>(&'a [u64]);
+
+impl Answer {
+    /// What the words of an answer say; none where they are no answer's.
+    pub fn from_words(words: &[u64; ANSWER_WORDS]) -> Option<Self> {
+        let mut r = Reader(words);
+        Some(match r.word()? {
+            0 => Self::Refused(Refusal {
+                number: r.narrow()?,
+                error: r.error()?,
+            }),
+            1 => Self::Passed,
+            2 => Self::Begun {
+                begun: r.begun()?,
+                packets: r.flag()?,
+            },
+            3 => Self::PlanBegun {
+                begun: r.begun()?,
+                stages: r.stages()?,
+            },
+            4 => Self::Report(r.report()?),
+            5 => Self::NoReport,
+            6 => Self::Ask { token: r.word()? },
+            7 => Self::Number(r.word()?),
+            8 => Self::Bytes {
+                start: r.word()?,
+                length: r.word()?,
+            },
+            _ => return None,
+        })
+    }
+}
+
+/// The controller state of a session's word 6.
+pub fn controller_state(word: u64) -> Option<ControllerState> {
+    Reader(&[word]).controller_state()
+}
+
+/// An optional 32-bit number's word.
+pub fn option_u32(word: u64) -> Option<Option<u32>> {
+    Reader(&[word]).option_u32()
+}
+
+impl Reader<'_> {
+    fn word(&mut self) -> Option<u64> {
+        let (first, rest) = self.0.split_first()?;
+        self.0 = rest;
+        Some(*first)
+    }
+
+    /// A word of a narrower field.
+    fn narrow<T: TryFrom<u64>>(&mut self) -> Option<T> {
+        T::try_from(self.word()?).ok()
+    }
+
+    fn flag(&mut self) -> Option<bool> {
+        match self.word()? {
+            0 => Some(false),
+            1 => Some(true),
+            _ => None,
+        }
+    }
+
+    fn option_u32(&mut self) -> Option<Option<u32>> {
+        match self.word()? {
+            0 => Some(None),
+            word => u32::try_from(word - 1).ok().map(Some),
+        }
+    }
+
+    numbered!(
+        controller_state,
+        ControllerState,
+        [
+            Closed,
+            AcquiredUnknown,
+            Initialized,
+            Closing,
+            RecoveryRequired
+        ]
+    );
+    numbered!(
+        category,
+        ErrorCategory,
+        [
+            Validation,
+            Unsupported,
+            OperatingSystem,
+            Controller,
+            Timeout,
+            Disconnect,
+            RecoveryRequired
+        ]
+    );
+    numbered!(
+        transfer_type,
+        TransferType,
+        [Control, Bulk, Interrupt, Isochronous]
+    );
+    numbered!(direction, Direction, [In, Out]);
+    numbered!(profile, ControlProfile, [Compliant, DeviceCompatibility]);
+
+    fn error(&mut self) -> Option<Error> {
+        Some(Error {
+            category: self.category()?,
+            message: self.narrow()?,
+            os_code: self.option_u32()?.map(u32::cast_signed),
+            completion_code: self.option_u32()?,
+        })
+    }
+
+    fn id(&mut self) -> Option<RequestId> {
+        Some(RequestId {
+            session: self.word()?,
+            generation: self.word()?,
+            sequence: self.word()?,
+        })
+    }
+
+    fn device(&mut self) -> Option<DeviceId> {
+        Some(DeviceId {
+            session: self.word()?,
+            generation: self.word()?,
+            slot: self.narrow()?,
+        })
+    }
+
+    fn setup(&mut self) -> Option<Option<SetupPacket>> {
+        let given = self.flag()?;
+        let packet = SetupPacket {
+            request_type: self.narrow()?,
+            request: self.narrow()?,
+            value: self.narrow()?,
+            index: self.narrow()?,
+            length: self.narrow()?,
+        };
+        Some(given.then_some(packet))
+    }
+
+    fn metadata(&mut self) -> Option<Metadata> {
+        Some(Metadata {
+            device: self.device()?,
+            endpoint: self.narrow()?,
+            transfer_type: self.transfer_type()?,
+            direction: self.direction()?,
+            requested_length: self.word()?,
+            setup: self.setup()?,
+        })
+    }
+
+    fn begun(&mut self) -> Option<Begun> {
+        Some(Begun {
+            id: self.id()?,
+            row: self.word()?,
+            metadata: self.metadata()?,
+        })
+    }
+
+    fn stages(&mut self) -> Option<Stages> {
+        let has_data = self.flag()?;
+        let (data_direction, status_direction) = (self.direction()?, self.direction()?);
+        let profile = self.profile()?;
+        let mut wire_setup = [0; 8];
+        for byte in &mut wire_setup {
+            *byte = self.narrow()?;
+        }
+        Some(Stages {
+            has_data,
+            data_direction,
+            status_direction,
+            profile,
+            wire_setup,
+        })
+    }
+
+    fn report(&mut self) -> Option<Report> {
+        Some(Report {
+            id: self.id()?,
+            metadata: self.metadata()?,
+            state: self.state()?,
+            logical_cancel: self.flag()?,
+            timed_out: self.flag()?,
+        })
+    }
+
+    /// A tag and six words, whatever the state.
+    fn state(&mut self) -> Option<State> {
+        let (words, rest) = self.0.split_at_checked(7)?;
+        self.0 = rest;
+        let mut r = Reader(words);
+        Some(match r.word()? {
+            0 => State::Pending {
+                logical_cancel: r.flag()?,
+                timed_out: r.flag()?,
+            },
+            1 => State::Completed {
+                actual_length: r.word()?,
+                completion_code: r.narrow()?,
+                logical_cancel: r.flag()?,
+            },
+            2 => r.failed()?,
+            3 => State::Aborted,
+            _ => return None,
+        })
+    }
+
+    fn failed(&mut self) -> Option<State> {
+        let (category, message) = (self.category()?, self.narrow()?);
+        let quiescent = self.flag()?;
+        let error = Error {
+            category,
+            message,
+            os_code: self.option_u32()?.map(u32::cast_signed),
+            completion_code: self.option_u32()?,
+        };
+        Some(State::Failed {
+            error,
+            completion_code: self.option_u32()?,
+            quiescent,
+        })
+    }
+}
+
+#[cfg(test)]
+#[path = "decode_tests.rs"]
+mod tests;

@@ -1,0 +1,134 @@
+use super::*;
+
+fn read(words: &[u64]) -> Option<Answer> {
+    let mut all = [0; ANSWER_WORDS];
+    all[..words.len()].copy_from_slice(words);
+    Answer::from_words(&all)
+}
+
+const ID: RequestId = RequestId {
+    session: 7,
+    generation: 0,
+    sequence: 9,
+};
+const METADATA_WORDS: [u64; 13] = [1, 2, 3, 0x81, 1, 0, 8, 1, 0x80, 6, 0x100, 5, 18];
+
+fn metadata() -> Metadata {
+    Metadata {
+        device: DeviceId {
+            session: 1,
+            generation: 2,
+            slot: 3,
+        },
+        endpoint: 0x81,
+        transfer_type: TransferType::Bulk,
+        direction: Direction::In,
+        requested_length: 8,
+        setup: Some(SetupPacket {
+            request_type: 0x80,
+            request: 6,
+            value: 0x100,
+            index: 5,
+            length: 18,
+        }),
+    }
+}
+
+#[test]
+fn short_answers() {
+    let error = Error {
+        category: ErrorCategory::Timeout,
+        message: 9,
+        os_code: Some(i32::MIN),
+        completion_code: None,
+    };
+    let refused = Answer::Refused(Refusal { number: 45, error });
+    assert_eq!(read(&[0, 45, 4, 9, (1 << 31) + 1, 0]), Some(refused));
+    assert_eq!(read(&[1]), Some(Answer::Passed));
+    assert_eq!(read(&[5]), Some(Answer::NoReport));
+    assert_eq!(read(&[6, 11]), Some(Answer::Ask { token: 11 }));
+    assert_eq!(read(&[7, 12]), Some(Answer::Number(12)));
+    let bytes = Answer::Bytes {
+        start: 1,
+        length: 2,
+    };
+    assert_eq!(read(&[8, 1, 2]), Some(bytes));
+}
+
+#[test]
+fn submissions() {
+    let begun = Begun {
+        id: ID,
+        row: 4,
+        metadata: metadata(),
+    };
+    let head = [&[7, 0, 9, 4], &METADATA_WORDS[..]].concat();
+    let words = [&[2], &head[..], &[1]].concat();
+    let packets = true;
+    assert_eq!(read(&words), Some(Answer::Begun { begun, packets }));
+    let stages = Stages {
+        has_data: true,
+        data_direction: Direction::Out,
+        status_direction: Direction::In,
+        profile: ControlProfile::DeviceCompatibility,
+        wire_setup: [0x80, 6, 0, 1, 5, 0, 18, 255],
+    };
+    let tail = [1, 1, 0, 1, 0x80, 6, 0, 1, 5, 0, 18, 255];
+    let words = [&[3], &head[..], &tail].concat();
+    assert_eq!(read(&words), Some(Answer::PlanBegun { begun, stages }));
+}
+
+fn state(words: [u64; 7]) -> Option<State> {
+    let head = [&[4, 7, 0, 9], &METADATA_WORDS[..]].concat();
+    match read(&[&head[..], &words, &[1, 0]].concat())? {
+        Answer::Report(report) => {
+            assert_eq!((report.id, report.metadata), (ID, metadata()));
+            assert!(report.logical_cancel && !report.timed_out);
+            Some(report.state)
+        }
+        _ => None,
+    }
+}
+
+#[test]
+fn reports() {
+    let pending = State::Pending {
+        logical_cancel: true,
+        timed_out: false,
+    };
+    assert_eq!(state([0, 1, 0, 0, 0, 0, 0]), Some(pending));
+    let completed = State::Completed {
+        actual_length: 8,
+        completion_code: 13,
+        logical_cancel: true,
+    };
+    assert_eq!(state([1, 8, 13, 1, 0, 0, 0]), Some(completed));
+    let failed = State::Failed {
+        error: Error {
+            category: ErrorCategory::RecoveryRequired,
+            message: 48,
+            os_code: None,
+            completion_code: Some(6),
+        },
+        completion_code: Some(0),
+        quiescent: true,
+    };
+    assert_eq!(state([2, 6, 48, 1, 0, 7, 1]), Some(failed));
+    assert_eq!(state([3, 0, 0, 0, 0, 0, 0]), Some(State::Aborted));
+    assert_eq!(state([4, 0, 0, 0, 0, 0, 0]), None);
+}
+
+#[test]
+fn words_that_are_no_answer() {
+    for words in [
+        &[9][..],
+        &[0, 65_536],
+        &[0, 4, 7],
+        &[0, 4, 0, 4, (1 << 32) + 1],
+        &[2, 7, 0, 9, 4, 1, 2, 256],
+        &[4, 7, 0, 9, 1, 2, 3, 0x81, 4],
+        &[4, 7, 0, 9, 1, 2, 3, 0x81, 1, 2],
+    ] {
+        assert_eq!(read(words), None, "{words:?}");
+    }
+}

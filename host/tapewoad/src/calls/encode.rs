@@ -1,0 +1,219 @@
+//! Calls to words.
+use super::{Call, Completion, Error, Plan, Reading, Submit};
+use crate::models::{DeviceId, PortId, RequestId, SetupPacket};
+
+impl Call<'_> {
+    /// The call's words.
+    pub fn words(&self) -> Vec<u64> {
+        let mut words = Vec::new();
+        self.write(&mut words);
+        words
+    }
+
+    /// The bytes that go with the words.
+    pub fn bytes(&self) -> &[u8] {
+        match self {
+            Self::SubmitRequestPackets(submit) => submit.data,
+            Self::SubmitControlPlan(plan) => plan.data,
+            Self::PollReply(Ok(Some(completion))) => completion.data.unwrap_or_default(),
+            _ => &[],
+        }
+    }
+
+    /// Writes the call's words in place of what `words` has.
+    pub fn write(&self, words: &mut Vec<u64>) {
+        words.clear();
+        let mut w = Writer(words);
+        match self {
+            Self::Open {
+                opening,
+                rows,
+                row_bytes,
+            } => {
+                w.put(&[0, opening.session, opening.first_sequence]);
+                w.option_u64(opening.recovery_revision);
+                w.option_u64(opening.ports.map(u64::from));
+                w.put(&[*rows, *row_bytes]);
+            }
+            Self::SetDevice(device) => {
+                w.put(&[1]);
+                w.device(device.id);
+                w.port(device.port);
+                w.put(&[device.state as u64]);
+            }
+            Self::SetPort {
+                number,
+                generation,
+                reading,
+            } => w.put(&[2, u64::from(*number), *generation, option_u32(*reading)]),
+            Self::SetEndpoints { slot, endpoints } => {
+                w.put(&[3, u64::from(*slot)]);
+                let word =
+                    |it: &crate::Endpoint| u64::from(it.address) + 256 * (it.transfer_type as u64);
+                w.0.extend(endpoints.iter().map(word));
+            }
+            Self::SetReconcile { slot, set } => w.put(&[4, u64::from(*slot), u64::from(*set)]),
+            Self::Acquire(reply) => {
+                let retained = matches!(reply, Err((_, true)));
+                w.put(&[5, u64::from(reply.is_err()), u64::from(retained)]);
+                w.error(reply.as_ref().err().map(|(error, _)| error));
+            }
+            Self::Initialize(reply) => {
+                w.put(&[6]);
+                w.option_error(reply.as_ref().err());
+            }
+            Self::Close { fresh, reply } => {
+                w.put(&[7]);
+                w.option_u64(*fresh);
+                w.option_error(reply.as_ref().err());
+            }
+            Self::SubmitRequestPackets(submit) => w.submit(submit),
+            Self::SubmitControlPlan(plan) => w.plan(plan),
+            Self::SubmitReply(reply) => {
+                w.put(&[10, u64::from(reply.is_err()), reply.unwrap_or(0)]);
+                w.error(reply.as_ref().err());
+            }
+            Self::PollRequest(id) => w.of(11, *id),
+            Self::PollReply(reply) => w.poll_reply(reply),
+            Self::LogicalCancelRequest(id) => w.of(13, *id),
+            Self::TimeoutRequest(id) => w.of(14, *id),
+            Self::ReclaimRequest(id) => w.of(15, *id),
+            Self::RequestStatus(id) => w.of(16, *id),
+            Self::RequestReports { after } => {
+                w.put(&[17, u64::from(after.is_some())]);
+                w.id(after.unwrap_or(RequestId {
+                    session: 0,
+                    generation: 0,
+                    sequence: 0,
+                }));
+            }
+            Self::CountReports => w.put(&[18]),
+            Self::CompletedBytes(id) => w.of(19, *id),
+            Self::HeldCount => w.put(&[20]),
+            Self::HeldBytes => w.put(&[21]),
+        }
+    }
+}
+
+fn option_u32(value: Option<u32>) -> u64 {
+    value.map_or(0, |number| u64::from(number) + 1)
+}
+
+struct Writer<'a>(&'a mut Vec<u64>);
+
+impl Writer<'_> {
+    fn put(&mut self, words: &[u64]) {
+        self.0.extend_from_slice(words);
+    }
+
+    fn option_u64(&mut self, value: Option<u64>) {
+        self.put(&[u64::from(value.is_some()), value.unwrap_or(0)]);
+    }
+
+    fn id(&mut self, id: RequestId) {
+        self.put(&[id.session, id.generation, id.sequence]);
+    }
+
+    fn of(&mut self, number: u64, id: RequestId) {
+        self.put(&[number]);
+        self.id(id);
+    }
+
+    fn device(&mut self, id: DeviceId) {
+        self.put(&[id.session, id.generation, u64::from(id.slot)]);
+    }
+
+    fn port(&mut self, id: PortId) {
+        self.put(&[id.session, id.generation, u64::from(id.number)]);
+    }
+
+    fn error(&mut self, error: Option<&Error>) {
+        let Some(error) = error else {
+            return self.put(&[0; 4]);
+        };
+        self.put(&[
+            error.category as u64,
+            u64::from(error.message),
+            option_u32(error.os_code.map(i32::cast_unsigned)),
+            option_u32(error.completion_code),
+        ]);
+    }
+
+    fn option_error(&mut self, error: Option<&Error>) {
+        self.put(&[u64::from(error.is_some())]);
+        self.error(error);
+    }
+
+    fn setup(&mut self, setup: SetupPacket) {
+        self.put(&[
+            u64::from(setup.request_type),
+            u64::from(setup.request),
+            u64::from(setup.value),
+            u64::from(setup.index),
+            u64::from(setup.length),
+        ]);
+    }
+
+    fn reading(&mut self, reading: &Reading) {
+        self.put(&[u64::from(reading.is_err()), reading.map_or(0, u64::from)]);
+        self.error(reading.as_ref().err());
+    }
+
+    fn submit(&mut self, submit: &Submit<'_>) {
+        self.put(&[8]);
+        self.device(submit.device);
+        self.put(&[
+            u64::from(submit.endpoint),
+            submit.transfer_type as u64,
+            submit.direction as u64,
+            submit.length,
+        ]);
+        self.put(&[u64::from(submit.setup.is_some())]);
+        match submit.setup {
+            Some(setup) => self.setup(setup),
+            None => self.put(&[0; 5]),
+        }
+        self.reading(&submit.readings[0]);
+        self.reading(&submit.readings[1]);
+        self.put(&[u64::from(submit.packets.is_some())]);
+        self.put(submit.packets.unwrap_or_default());
+    }
+
+    fn plan(&mut self, plan: &Plan<'_>) {
+        self.put(&[9]);
+        self.device(plan.device);
+        self.put(&[plan.profile as u64]);
+        self.setup(plan.setup);
+        let (direction, length) = plan
+            .data_stage
+            .map_or((0, 0), |(direction, length)| (direction as u64, length));
+        let status = plan.status_direction.map_or(0, |it| it as u64 + 1);
+        self.put(&[
+            u64::from(plan.data_stage.is_some()),
+            direction,
+            length,
+            status,
+        ]);
+        self.reading(&plan.reading);
+    }
+
+    fn poll_reply(&mut self, reply: &Result<Option<Completion<'_>>, Error>) {
+        let (kind, error, completion) = match reply {
+            Ok(None) => (0, None, None),
+            Err(error) => (1, Some(error), None),
+            Ok(Some(completion)) => (2, completion.error.as_ref(), Some(completion)),
+        };
+        self.put(&[12, kind]);
+        self.option_error(error);
+        self.option_u64(completion.and_then(|it| it.actual_length));
+        self.put(&[
+            option_u32(completion.and_then(|it| it.completion_code)),
+            u64::from(completion.is_some_and(|it| it.data.is_some())),
+            u64::from(completion.is_some_and(|it| it.quiescent)),
+        ]);
+    }
+}
+
+#[cfg(test)]
+#[path = "encode_tests.rs"]
+mod tests;

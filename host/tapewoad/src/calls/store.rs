@@ -1,0 +1,206 @@
+//! The memory that the library is lent, and calls on it.
+use std::fmt::{self, Display, Formatter};
+use std::ops::Range;
+
+use super::decode::{controller_state, option_u32};
+use super::{ANSWER_WORDS, Answer, BUS_WORDS, Begun, Call, ROW_WORDS, SESSION_WORDS};
+use crate::library::{self, Memory};
+use crate::models::{ControllerState, DeviceId, Opening, RequestId};
+
+/// Why a call got no answer. Nothing has changed then.
+#[derive(Debug, Clone, Copy, PartialEq, Eq)]
+pub enum Status {
+    /// 1: the words are no call.
+    NoCall,
+    /// 2: not a session's words.
+    NoSession,
+    /// 3: too little room for the answer.
+    NoRoom,
+    /// Another status, or an answer that is none of docs/CALLS.md: a library of
+    /// another version.
+    Unknown(u64),
+}
+
+impl Display for Status {
+    fn fmt(&self, f: &mut Formatter<'_>) -> fmt::Result {
+        match self {
+            Self::NoCall => f.write_str("the words are no call"),
+            Self::NoSession => f.write_str("not a session's words"),
+            Self::NoRoom => f.write_str("too little room for the answer"),
+            Self::Unknown(status) => write!(f, "unknown status or answer {status}"),
+        }
+    }
+}
+
+impl std::error::Error for Status {}
+
+/// A session's memory: its words, the bus, and the rows with their bytes.
+pub struct Store {
+    session: [u64; SESSION_WORDS],
+    bus: Box<[u64]>,
+    rows: Box<[u64]>,
+    area: Box<[u8]>,
+    row_count: u64,
+    row_bytes: u64,
+    /// The latest call's words.
+    words: Vec<u64>,
+}
+
+impl Store {
+    /// The original's number of rows.
+    pub const ROWS: usize = 1024;
+    /// The most bytes that a request may have.
+    pub const ROW_BYTES: usize = 65_536;
+
+    /// Memory for so many rows of so many bytes. Nothing is open yet. Sizes
+    /// other than 1 to 1,024 rows of 1 to 65,536 bytes are refused (3) by the
+    /// opening.
+    ///
+    /// # Panics
+    /// Where so much memory can't be had.
+    pub fn new(rows: usize, row_bytes: usize) -> Self {
+        let too_large = "the store is too large";
+        let row_words = rows.checked_mul(ROW_WORDS).expect(too_large);
+        let bytes = rows.checked_mul(row_bytes).expect(too_large);
+        Self {
+            session: [0; SESSION_WORDS],
+            bus: vec![0; BUS_WORDS].into(),
+            rows: vec![0; row_words].into(),
+            area: vec![0; bytes].into(),
+            row_count: rows as u64,
+            row_bytes: row_bytes as u64,
+            words: Vec::new(),
+        }
+    }
+
+    /// Opens a session over the whole store and forgets any earlier one.
+    pub fn open(&mut self, opening: Opening) -> Answer {
+        self.apply(&Call::Open {
+            opening,
+            rows: self.row_count,
+            row_bytes: self.row_bytes,
+        })
+    }
+
+    /// Runs a call.
+    ///
+    /// # Panics
+    /// If the library does not know the call or gives an answer that is not in
+    /// docs/CALLS.md: it is of another version.
+    pub fn apply(&mut self, call: &Call<'_>) -> Answer {
+        let answer = self.try_apply(call);
+        answer.unwrap_or_else(|status| panic!("{call:?}: {status}"))
+    }
+
+    /// Runs a call of a library that may be of another version.
+    pub fn try_apply(&mut self, call: &Call<'_>) -> Result<Answer, Status> {
+        let mut words = std::mem::take(&mut self.words);
+        call.write(&mut words);
+        let answer = self.apply_words(&words, call.bytes());
+        self.words = words;
+        answer
+    }
+
+    /// Runs a call given as words.
+    pub fn apply_words(&mut self, call: &[u64], bytes: &[u8]) -> Result<Answer, Status> {
+        let mut out = [0; ANSWER_WORDS];
+        let memory = Memory {
+            session: &mut self.session,
+            bus: &mut self.bus,
+            rows: &mut self.rows,
+            area: &mut self.area,
+        };
+        match library::apply(memory, call, bytes, &mut out) {
+            0 => Answer::from_words(&out).ok_or(Status::Unknown(out[0])),
+            1 => Err(Status::NoCall),
+            2 => Err(Status::NoSession),
+            3 => Err(Status::NoRoom),
+            status => Err(Status::Unknown(status)),
+        }
+    }
+
+    /// The buffer of a submission that began.
+    pub fn buffer(&self, begun: &Begun) -> &[u8] {
+        &self.area[part(begun.row * self.row_bytes, begun.metadata.requested_length)]
+    }
+
+    /// A part of the area, as [`Answer::Bytes`] gives it.
+    pub fn bytes(&self, start: u64, length: u64) -> &[u8] {
+        &self.area[part(start, length)]
+    }
+
+    /// The bytes of a Completed request; none of any other.
+    pub fn completed_bytes(&mut self, id: RequestId) -> &[u8] {
+        match self.apply(&Call::CompletedBytes(id)) {
+            Answer::Bytes { start, length } => self.bytes(start, length),
+            _ => &[],
+        }
+    }
+
+    /// The controller's state.
+    ///
+    /// # Panics
+    /// If [`Self::session_words_mut`] was used to write no state.
+    pub fn state(&self) -> ControllerState {
+        controller_state(self.session[6]).expect("a state's number")
+    }
+
+    /// The ledger's session number.
+    pub fn identity(&self) -> u64 {
+        self.session[0]
+    }
+
+    /// The sequence number of the next submission.
+    pub fn next_sequence(&self) -> u64 {
+        self.session[2]
+    }
+
+    /// The recovery revision.
+    pub fn recovery_revision(&self) -> Option<u64> {
+        (self.session[7] == 1).then_some(self.session[8])
+    }
+
+    /// Revision, device and endpoint of the recoverable stall.
+    pub fn recoverable_stall(&self) -> Option<(u64, DeviceId, u8)> {
+        let [given, revision, session, generation, slot, endpoint] =
+            *self.session[9..15].first_chunk()?;
+        let device = DeviceId {
+            session,
+            generation,
+            slot: slot as u8,
+        };
+        (given == 1).then_some((revision, device, endpoint as u8))
+    }
+
+    /// The session number of port ids, and how many ports there are.
+    pub fn ports(&self) -> Option<(u64, u8)> {
+        (self.session[3] == 1).then_some((self.session[4], self.session[5] as u8))
+    }
+
+    /// Generation and last reading of the port with this number, from 1.
+    pub fn port(&self, number: u8) -> Option<(u64, Option<u32>)> {
+        let (_, count) = self.ports()?;
+        if number == 0 || number > count {
+            return None;
+        }
+        let at = 2 * (usize::from(number) - 1);
+        Some((self.bus[at], option_u32(self.bus[at + 1])?))
+    }
+
+    /// The session's words, for a dump.
+    pub fn session_words(&self) -> &[u64; SESSION_WORDS] {
+        &self.session
+    }
+
+    /// The session's words, to set up what no call leads to. The library takes
+    /// any; what it then answers is only as good as what they say.
+    pub fn session_words_mut(&mut self) -> &mut [u64; SESSION_WORDS] {
+        &mut self.session
+    }
+}
+
+/// The library's parts lie in the area, whose length is a `usize`.
+fn part(start: u64, length: u64) -> Range<usize> {
+    let (start, length) = (start as usize, length as usize);
+    start..start + length
+}

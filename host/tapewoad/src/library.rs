@@ -1,0 +1,71 @@
+//! The static library's one function, as a safe one.
+#![allow(unsafe_code)]
+
+/// The memory that every call is lent.
+pub struct Memory<'a> {
+    /// 26 words, zeros before the opening.
+    pub session: &'a mut [u64],
+    /// 10,750 words.
+    pub bus: &'a mut [u64],
+    /// 27 words a row.
+    pub rows: &'a mut [u64],
+    /// The bytes of a row, row after row.
+    pub area: &'a mut [u8],
+}
+
+// SAFETY: this is the function that crates/ffi exports: seven slices, each a
+// pointer and a length, and a status back (docs/CALLS.md).
+unsafe extern "C" {
+    fn tapewoad_apply(
+        session: *mut u64,
+        session_len: usize,
+        bus: *mut u64,
+        bus_len: usize,
+        rows: *mut u64,
+        rows_len: usize,
+        area: *mut u8,
+        area_len: usize,
+        call: *const u64,
+        call_len: usize,
+        bytes: *const u8,
+        bytes_len: usize,
+        out: *mut u64,
+        out_len: usize,
+    ) -> u64;
+}
+
+/// Runs one call in the words of docs/CALLS.md and gives the status: 0 where it
+/// was answered, in the first 32 words of `out`; with 1 (no call), 2 (not 26
+/// words of a session) or 3 (`out` too short) nothing has changed.
+///
+/// Slices of any length and content are taken.
+pub fn apply(memory: Memory<'_>, call: &[u64], bytes: &[u8], out: &mut [u64]) -> u64 {
+    let Memory {
+        session,
+        bus,
+        rows,
+        area,
+    } = memory;
+    // SAFETY: each pointer and length is of a slice that is borrowed for the
+    // whole call, so it is not null, is aligned and can be read, and written
+    // where it is `&mut`; a `&mut` slice overlaps no other. The function's
+    // contract has no premise on lengths or contents; it keeps no pointer.
+    unsafe {
+        tapewoad_apply(
+            session.as_mut_ptr(),
+            session.len(),
+            bus.as_mut_ptr(),
+            bus.len(),
+            rows.as_mut_ptr(),
+            rows.len(),
+            area.as_mut_ptr(),
+            area.len(),
+            call.as_ptr(),
+            call.len(),
+            bytes.as_ptr(),
+            bytes.len(),
+            out.as_mut_ptr(),
+            out.len(),
+        )
+    }
+}

@@ -1,0 +1,197 @@
+//! Refusals with their numbers, and the texts of both directions.
+use std::collections::HashMap;
+use std::fmt::{self, Display, Formatter};
+
+use crate::calls;
+use crate::models::{ErrorCategory, OperationError};
+
+/// Why a call was refused: the number of document 01's table, and the error that
+/// the original gives. For 33 and 45 it is the backend's own.
+#[derive(Debug, Clone, PartialEq, Eq)]
+pub struct Refusal {
+    /// The number of the table.
+    pub number: u16,
+    /// The original's error.
+    pub error: OperationError,
+}
+
+impl From<Refusal> for OperationError {
+    fn from(refusal: Refusal) -> Self {
+        refusal.error
+    }
+}
+
+impl Display for Refusal {
+    fn fmt(&self, f: &mut Formatter<'_>) -> fmt::Result {
+        write!(f, "refused ({}), {}", self.number, self.error)
+    }
+}
+
+impl std::error::Error for Refusal {}
+
+/// The text of a refusal's number: the original's, or one of its texts where it
+/// has several.
+fn text(number: u16) -> &'static str {
+    match number {
+        1 => "an operation is in flight",
+        2 => "the reply fits no operation",
+        3 => "the store has a wrong size",
+        4 => "iso packet lengths must sum to the requested buffer",
+        5 => "request limit reached; reclaim terminal requests",
+        6 => "single-TRB profile is bounded to64KiB",
+        7 => "the store's rows are shorter",
+        8 => "reserved endpoint address bits",
+        9 => "invalid control endpoint or length",
+        10 => "control SETUP required",
+        11 => "ordinary control TD requires matching setup/data lengths",
+        12 => "SETUP direction mismatch",
+        13 => "reserved USB recipient/type",
+        14 => "use explicit address/configuration/interface operations for lifecycle requests",
+        15 => "non-control endpoint required without SETUP",
+        16 => "endpoint direction mismatch",
+        17 => "OUT data must match length; IN data is allocated by the owner",
+        18 => "partial/delayed stage execution is outside the reviewed library profile",
+        19 => "xHCI intercepts SET_ADDRESS; use Address Device/BSR",
+        20 => "use the explicit configuration/interface command to retain host state",
+        21 => "reserved compliant USB request fields",
+        22 => "compliant SETUP/data stages disagree",
+        23 => "compliant status direction mismatch",
+        24 => "stage data length/direction mismatch",
+        25 => "no-data plan contains payload",
+        26 => "slot requires raw reconciliation",
+        27 => "unknown or stale device",
+        28 => "controller not initialized",
+        29 => "ports unavailable",
+        30 => "invalid root port",
+        31 => "stale port identity",
+        32 => "port has not been observed",
+        34 => "port generation exhausted",
+        35 => "EP0 is not prepared",
+        36 => "endpoint requests require configuration",
+        37 => "Low Speed has no bulk transfers",
+        38 => "endpoint/type not configured in host",
+        39 => "request ID exhausted",
+        40 => "unknown or reclaimed request",
+        41 => "request is no longer pending",
+        42 => "device still owns request",
+        48 => "backend returned an unconfirmed or invalid completion",
+        50 => "session already owns or retains a controller",
+        51 => "initialize requires acquired unknown state",
+        52 => "session identity exhausted",
+        53 => "too many endpoints",
+        _ => "refused",
+    }
+}
+
+/// Below are the library's own numbers.
+const FIRST: u16 = 64;
+/// Stands for every text beyond the last that has a number of its own.
+const OTHER: u16 = u16::MAX;
+const OTHER_TEXT: &str = "backend error; its text was not kept";
+
+/// The numbers of the backend's message texts: the library's errors have a
+/// 16-bit number in place of a text.
+#[derive(Default)]
+pub struct Messages {
+    texts: Vec<String>,
+    numbers: HashMap<String, u16>,
+}
+
+impl Messages {
+    fn number(&mut self, message: String) -> u16 {
+        if let Some(number) = self.numbers.get(&message) {
+            return *number;
+        }
+        let number = u16::try_from(usize::from(FIRST) + self.texts.len()).unwrap_or(OTHER);
+        if number < OTHER {
+            self.texts.push(message.clone());
+            self.numbers.insert(message, number);
+        }
+        number
+    }
+
+    fn text(&self, number: u16) -> &str {
+        match number.checked_sub(FIRST) {
+            None => text(number),
+            Some(place) => self
+                .texts
+                .get(usize::from(place))
+                .map_or(OTHER_TEXT, String::as_str),
+        }
+    }
+
+    /// The backend's error, as the library takes it.
+    pub fn numbered(&mut self, error: OperationError) -> calls::Error {
+        calls::Error {
+            category: error.category,
+            message: self.number(error.message),
+            os_code: error.os_code,
+            completion_code: error.completion_code,
+        }
+    }
+
+    /// An error of the library's, with its text.
+    pub fn error(&self, error: calls::Error) -> OperationError {
+        OperationError {
+            category: error.category,
+            message: self.text(error.message).into(),
+            os_code: error.os_code,
+            completion_code: error.completion_code,
+        }
+    }
+
+    /// A refusal of the library's, with its text.
+    pub fn refusal(&self, refusal: calls::Refusal) -> Refusal {
+        Refusal {
+            number: refusal.number,
+            error: self.error(refusal.error),
+        }
+    }
+}
+
+/// An error for calls that need one and will not read it.
+pub const UNREAD: calls::Error = calls::Error {
+    category: ErrorCategory::Validation,
+    message: 0,
+    os_code: None,
+    completion_code: None,
+};
+
+#[cfg(test)]
+mod tests {
+    use super::*;
+
+    #[test]
+    fn texts_come_back() {
+        let mut messages = Messages::default();
+        for (text, expected) in [("stopped", 64), ("gone", 65), ("stopped", 64)] {
+            let error = OperationError {
+                os_code: Some(-1),
+                ..OperationError::validation(text)
+            };
+            let words = messages.numbered(error.clone());
+            assert_eq!(words.message, expected);
+            assert_eq!(messages.error(words), error);
+        }
+    }
+
+    #[test]
+    fn texts_beyond_the_last_number_share_one() {
+        let mut messages = Messages::default();
+        let mut last = 0;
+        for place in 0..70_000 {
+            last = messages.number(place.to_string());
+        }
+        assert_eq!(last, OTHER);
+        assert_eq!(messages.text(OTHER), OTHER_TEXT);
+        assert_eq!(messages.text(OTHER - 1), "65470");
+        assert_eq!(messages.number("0".into()), FIRST);
+    }
+
+    #[test]
+    fn the_librarys_own_numbers_have_texts() {
+        let messages = Messages::default();
+        assert_eq!(messages.text(40), "unknown or reclaimed request");
+        assert_eq!(messages.text(48), text(48));
+    }
+}

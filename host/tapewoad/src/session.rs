@@ -1,0 +1,445 @@
+//! The original's session over a backend, with the library beneath.
+use std::cell::{Ref, RefCell};
+
+use crate::backend::Backend;
+use crate::calls::{self, Answer, Begun, Call, Plan, Reading, Store, Submit};
+use crate::models::{
+    BackendCompletion, ControlPlan, ControllerState, DeviceSnapshot, Endpoint, Opening,
+    OwnedRequest, RequestId, RequestMetadata, RequestReport, RequestSpec, RequestState,
+    ValidatedControlPlan,
+};
+use crate::refusal::{Messages, Refusal, UNREAD};
+
+/// A session that owns its rows, the bus and their bytes, and a backend.
+///
+/// Its methods are the original's, and are refused as the original's are; a
+/// [`Refusal`] has the number of document 01's table beside the error, and turns
+/// into the error alone by `?`. Ports, devices, endpoints and marks are placed
+/// by the four `set_` calls, since the commands that find them are not ported.
+///
+/// A backend's message texts come back as they were: each different text is
+/// kept under a number of its own, up to some 65,000 of them.
+///
+/// Like the original it forgets its backend, without dropping it, where it is
+/// dropped before a close passed: what the device may still touch must stay.
+pub struct UsbSession<B: Backend> {
+    backend: Option<B>,
+    /// Reports need the library too, which takes every call by `&mut`.
+    store: RefCell<Store>,
+    messages: Messages,
+    /// The port number of each slot's device.
+    port_numbers: [u8; 256],
+}
+
+/// The library's answer to a call that has no other answers: a fault of it.
+macro_rules! unexpected {
+    ($answer:expr) => {
+        unreachable!("no answer to this call: {:?}", $answer)
+    };
+}
+
+impl<B: Backend> UsbSession<B> {
+    /// A session over 1,024 rows of 65,536 bytes, as the original has them.
+    pub fn new(backend: B, opening: Opening) -> Self {
+        Self::with_store(backend, opening, Store::ROWS, Store::ROW_BYTES)
+            .unwrap_or_else(|refusal| unexpected!(refusal))
+    }
+
+    /// A session over a smaller store; refused (3) where it has not 1 to 1,024
+    /// rows of 1 to 65,536 bytes.
+    pub fn with_store(
+        backend: B,
+        opening: Opening,
+        rows: usize,
+        row_bytes: usize,
+    ) -> Result<Self, Refusal> {
+        let messages = Messages::default();
+        let mut store = Store::new(rows, row_bytes);
+        match store.open(opening) {
+            Answer::Passed => {}
+            Answer::Refused(refusal) => return Err(messages.refusal(refusal)),
+            answer => unexpected!(answer),
+        }
+        Ok(Self {
+            backend: Some(backend),
+            store: RefCell::new(store),
+            messages,
+            port_numbers: [0; 256],
+        })
+    }
+
+    /// The session number of the ledger.
+    pub fn identity(&self) -> u64 {
+        self.store.borrow().identity()
+    }
+
+    /// Where the controller is in its life.
+    pub fn state(&self) -> ControllerState {
+        self.store.borrow().state()
+    }
+
+    /// The backend.
+    pub fn backend(&self) -> &B {
+        self.backend.as_ref().expect(TAKEN_BY_DROP)
+    }
+
+    /// The backend, for what is not ported.
+    pub fn backend_mut(&mut self) -> &mut B {
+        self.backend.as_mut().expect(TAKEN_BY_DROP)
+    }
+
+    /// The memory beneath: the session's words, ports and bytes.
+    pub fn store(&self) -> Ref<'_, Store> {
+        self.store.borrow()
+    }
+
+    /// The memory beneath, for calls of the lower layer.
+    pub fn store_mut(&mut self) -> &mut Store {
+        self.store.get_mut()
+    }
+
+    /// Places a device, in place of its slot's.
+    pub fn set_device(&mut self, device: DeviceSnapshot) -> Result<(), Refusal> {
+        self.done(&Call::SetDevice(device))?;
+        self.port_numbers[usize::from(device.id.slot)] = device.port.number;
+        Ok(())
+    }
+
+    /// Places a port's generation and last reading.
+    pub fn set_port(
+        &mut self,
+        number: u8,
+        generation: u64,
+        reading: Option<u32>,
+    ) -> Result<(), Refusal> {
+        self.done(&Call::SetPort {
+            number,
+            generation,
+            reading,
+        })
+    }
+
+    /// Places up to 30 endpoints, in place of the slot's list.
+    pub fn set_endpoints(&mut self, slot: u8, endpoints: &[Endpoint]) -> Result<(), Refusal> {
+        self.done(&Call::SetEndpoints { slot, endpoints })
+    }
+
+    /// Sets or clears the mark "requires raw reconciliation" of a slot.
+    pub fn set_reconcile(&mut self, slot: u8, set: bool) -> Result<(), Refusal> {
+        self.done(&Call::SetReconcile { slot, set })
+    }
+
+    /// The original's `Session::acquire`.
+    pub fn acquire(&mut self, target: &str) -> Result<(), Refusal> {
+        let mut reply = Ok(());
+        if self.state() == ControllerState::Closed {
+            reply = self.backend_mut().acquire(target);
+        }
+        let reply = reply.map_err(|it| (self.messages.numbered(it.error), it.retained));
+        self.done(&Call::Acquire(reply))
+    }
+
+    /// The original's `Session::initialize`.
+    pub fn initialize(&mut self) -> Result<(), Refusal> {
+        let mut reply = Ok(());
+        if self.state() == ControllerState::AcquiredUnknown {
+            reply = self.backend_mut().initialize();
+        }
+        let reply = reply.map_err(|error| self.messages.numbered(error));
+        self.done(&Call::Initialize(reply))
+    }
+
+    /// The original's `Session::close`; one that passes also empties the rows.
+    pub fn close(&mut self) -> Result<(), Refusal> {
+        let (mut fresh, mut reply) = (None, Ok(()));
+        if self.state() != ControllerState::Closed {
+            fresh = self.backend_mut().fresh_identity();
+            if fresh.is_some() {
+                reply = self.backend_mut().close();
+            }
+        }
+        let reply = reply.map_err(|error| self.messages.numbered(error));
+        self.done(&Call::Close { fresh, reply })
+    }
+
+    /// Submits a request without a list of packets.
+    pub fn submit_request(&mut self, spec: RequestSpec) -> Result<RequestReport, Refusal> {
+        self.submit_request_packets(spec, None)
+    }
+
+    /// Submits a request; an isochronous one may have a list of packet lengths.
+    pub fn submit_request_packets(
+        &mut self,
+        spec: RequestSpec,
+        packets: Option<Vec<usize>>,
+    ) -> Result<RequestReport, Refusal> {
+        let lengths: Option<Vec<u64>> = packets
+            .as_ref()
+            .map(|list| list.iter().map(|length| *length as u64).collect());
+        let answer = self.submit(spec.device.slot, |readings| {
+            Call::SubmitRequestPackets(Submit {
+                device: spec.device,
+                endpoint: spec.endpoint,
+                transfer_type: spec.transfer_type,
+                direction: spec.direction,
+                length: spec.length as u64,
+                setup: spec.setup,
+                data: &spec.data,
+                packets: lengths.as_deref(),
+                readings,
+            })
+        });
+        let begun = match answer {
+            Answer::Begun { begun, .. } => begun,
+            Answer::Refused(refusal) => return Err(self.messages.refusal(refusal)),
+            answer => unexpected!(answer),
+        };
+        let request = OwnedRequest {
+            metadata: metadata(&begun.metadata),
+            buffer: self.buffer(&begun),
+        };
+        let reply = match packets {
+            Some(packets) => self.backend_mut().submit_iso_packets(request, packets),
+            None => self.backend_mut().submit_request(request),
+        };
+        self.submit_reply(reply)
+    }
+
+    /// Submits a control transfer with every stage said.
+    pub fn submit_control_plan(&mut self, plan: ControlPlan) -> Result<RequestReport, Refusal> {
+        let answer = self.submit(plan.device.slot, |[reading, _]| {
+            Call::SubmitControlPlan(Plan {
+                device: plan.device,
+                profile: plan.profile,
+                setup: plan.setup,
+                data_stage: plan.data_stage.map(|it| (it.direction, it.length as u64)),
+                status_direction: plan.status_direction,
+                data: &plan.data,
+                reading,
+            })
+        });
+        let (begun, stages) = match answer {
+            Answer::PlanBegun { begun, stages } => (begun, stages),
+            Answer::Refused(refusal) => return Err(self.messages.refusal(refusal)),
+            answer => unexpected!(answer),
+        };
+        let plan = ValidatedControlPlan {
+            metadata: metadata(&begun.metadata),
+            buffer: self.buffer(&begun),
+            wire_setup: stages.wire_setup,
+            has_data: stages.has_data,
+            data_direction: stages.data_direction,
+            status_direction: stages.status_direction,
+            profile: stages.profile,
+        };
+        let reply = self.backend_mut().submit_control_plan(plan);
+        self.submit_reply(reply)
+    }
+
+    /// Asks the backend for a Pending request's completion; reports any other.
+    pub fn poll_request(&mut self, id: RequestId) -> Result<RequestReport, Refusal> {
+        let answer = self.store.get_mut().apply(&Call::PollRequest(id));
+        let Answer::Ask { token } = answer else {
+            return self.reported(answer);
+        };
+        let answer = match self.backend_mut().poll_request(token) {
+            Ok(None) => self.store.get_mut().apply(&Call::PollReply(Ok(None))),
+            Ok(Some(completion)) => self.complete(completion),
+            Err(error) => {
+                let reply = Err(self.messages.numbered(error));
+                self.store.get_mut().apply(&Call::PollReply(reply))
+            }
+        };
+        self.reported(answer)
+    }
+
+    /// Flags a Pending request as cancelled; the device goes on.
+    pub fn logical_cancel_request(&mut self, id: RequestId) -> Result<RequestReport, Refusal> {
+        let answer = self.store.get_mut().apply(&Call::LogicalCancelRequest(id));
+        self.reported(answer)
+    }
+
+    /// Flags a Pending request as timed out; the device goes on.
+    pub fn timeout_request(&mut self, id: RequestId) -> Result<RequestReport, Refusal> {
+        let answer = self.store.get_mut().apply(&Call::TimeoutRequest(id));
+        self.reported(answer)
+    }
+
+    /// Frees the row of a request that is no longer held, and reports it.
+    pub fn reclaim_request(&mut self, id: RequestId) -> Result<RequestReport, Refusal> {
+        let report = self.request_status(id)?;
+        match self.store.get_mut().apply(&Call::ReclaimRequest(id)) {
+            Answer::Report(_) => Ok(report),
+            Answer::Refused(refusal) => Err(self.messages.refusal(refusal)),
+            answer => unexpected!(answer),
+        }
+    }
+
+    /// Reports a request.
+    pub fn request_status(&self, id: RequestId) -> Result<RequestReport, Refusal> {
+        let answer = self.store.borrow_mut().apply(&Call::RequestStatus(id));
+        self.reported(answer)
+    }
+
+    /// Reports every request, by ascending id.
+    pub fn request_reports(&self) -> Result<Vec<RequestReport>, Refusal> {
+        let mut reports: Vec<RequestReport> = Vec::new();
+        loop {
+            let after = reports.last().map(|report| report.id);
+            let call = Call::RequestReports { after };
+            let answer = self.store.borrow_mut().apply(&call);
+            if answer == Answer::NoReport {
+                return Ok(reports);
+            }
+            reports.push(self.reported(answer)?);
+        }
+    }
+
+    /// How many requests are held.
+    pub fn held_count(&self) -> u64 {
+        self.number(&Call::HeldCount)
+    }
+
+    /// The sum of the held requests' lengths.
+    pub fn held_bytes(&self) -> u64 {
+        self.number(&Call::HeldBytes)
+    }
+
+    fn number(&self, call: &Call<'_>) -> u64 {
+        match self.store.borrow_mut().apply(call) {
+            Answer::Number(number) => number,
+            answer => unexpected!(answer),
+        }
+    }
+
+    fn done(&mut self, call: &Call<'_>) -> Result<(), Refusal> {
+        match self.store.get_mut().apply(call) {
+            Answer::Passed => Ok(()),
+            Answer::Refused(refusal) => Err(self.messages.refusal(refusal)),
+            answer => unexpected!(answer),
+        }
+    }
+
+    /// Begins a submission. The port is read only where the library wants a
+    /// reading, as the original reads it: one that is not there yet is given as
+    /// failed, which the library refuses (33), having written no more than the
+    /// readings before it; these it takes again as they are.
+    fn submit<'a>(&mut self, slot: u8, call: impl Fn([Reading; 2]) -> Call<'a>) -> Answer {
+        let mut readings = [Err(UNREAD); 2];
+        for taken in 0..2 {
+            let answer = self.store.get_mut().apply(&call(readings));
+            let wanted = matches!(answer, Answer::Refused(refusal) if refusal.number == 33);
+            if !wanted {
+                return answer;
+            }
+            let number = self.port_numbers[usize::from(slot)];
+            let status = self.backend_mut().port_status(number);
+            readings[taken] = status.map_err(|error| self.messages.numbered(error));
+            if readings[taken].is_err() {
+                break;
+            }
+        }
+        self.store.get_mut().apply(&call(readings))
+    }
+
+    fn buffer(&mut self, begun: &Begun) -> Vec<u8> {
+        self.store.get_mut().buffer(begun).to_vec()
+    }
+
+    fn submit_reply(
+        &mut self,
+        reply: Result<u64, crate::OperationError>,
+    ) -> Result<RequestReport, Refusal> {
+        let reply = reply.map_err(|error| self.messages.numbered(error));
+        let answer = self.store.get_mut().apply(&Call::SubmitReply(reply));
+        self.reported(answer)
+    }
+
+    fn complete(&mut self, completion: BackendCompletion) -> Answer {
+        let error = completion.error.map(|error| self.messages.numbered(error));
+        let completion = calls::Completion {
+            actual_length: completion.actual_length.map(|length| length as u64),
+            completion_code: completion.completion_code,
+            data: completion.data.as_deref(),
+            error,
+            quiescent: completion.quiescent,
+        };
+        let reply = Call::PollReply(Ok(Some(completion)));
+        self.store.get_mut().apply(&reply)
+    }
+
+    fn reported(&self, answer: Answer) -> Result<RequestReport, Refusal> {
+        match answer {
+            Answer::Report(report) => Ok(self.report(&report)),
+            Answer::Refused(refusal) => Err(self.messages.refusal(refusal)),
+            answer => unexpected!(answer),
+        }
+    }
+
+    fn report(&self, report: &calls::Report) -> RequestReport {
+        let state = self.request_state(report.state);
+        let completed = matches!(state, RequestState::Completed { .. });
+        let data = completed.then(|| self.store.borrow_mut().completed_bytes(report.id).to_vec());
+        RequestReport {
+            id: report.id,
+            metadata: metadata(&report.metadata),
+            state,
+            logical_cancel: report.logical_cancel,
+            timed_out: report.timed_out,
+            data,
+        }
+    }
+
+    fn request_state(&self, state: calls::State) -> RequestState {
+        match state {
+            calls::State::Pending {
+                logical_cancel,
+                timed_out,
+            } => RequestState::Pending {
+                logical_cancel,
+                timed_out,
+            },
+            calls::State::Completed {
+                actual_length,
+                completion_code,
+                logical_cancel,
+            } => RequestState::Completed {
+                actual_length: actual_length as usize,
+                completion_code,
+                logical_cancel,
+            },
+            calls::State::Failed {
+                error,
+                completion_code,
+                quiescent,
+            } => RequestState::Failed {
+                error: self.messages.error(error),
+                completion_code,
+                quiescent,
+            },
+            calls::State::Aborted => RequestState::Aborted,
+        }
+    }
+}
+
+const TAKEN_BY_DROP: &str = "only drop takes the backend";
+
+/// Lengths in the library are those of a buffer in memory.
+fn metadata(metadata: &calls::Metadata) -> RequestMetadata {
+    RequestMetadata {
+        device: metadata.device,
+        endpoint: metadata.endpoint,
+        transfer_type: metadata.transfer_type,
+        direction: metadata.direction,
+        requested_length: metadata.requested_length as usize,
+        setup: metadata.setup,
+    }
+}
+
+impl<B: Backend> Drop for UsbSession<B> {
+    fn drop(&mut self) {
+        if self.state() != ControllerState::Closed {
+            std::mem::forget(self.backend.take());
+        }
+    }
+}
