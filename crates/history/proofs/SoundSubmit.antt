@@ -51,7 +51,7 @@ use Rattle.session.specs.declared.Session.{Session}
 use Rattle.requests.specs.Begin.{roomIn, newId, startRefused, beginBy, beginOf, TargetTo, targetTo, withBus, targetOf}
 use Rattle.requests.specs.Begin as begin
 use Rattle.requests.specs.Submit.{SubmitTo, submittedBy, submittedTo, readyOf, preparedBy, roomBy, packetsBy, submitBy, submitOf, PlanTo, planStarted, plannedTo, plannedBy, planRoomBy, planBy, submitPlanOf}
-use Rattle.requests.proofs.Fitting.{ready-fits, planned-fits}
+use Rattle.checks.proofs.Passed.{ready-fits, planned-fits}
 use Rattle.calls.specs.Step.{World, world}
 use Rattle.history.specs.Sound.{RowSound, rowAt, FlightSound, isBare, Sound}
 use Rattle.history.proofs.SoundMoves.{Moves}
