@@ -1,0 +1,9 @@
+pub mod Applying
+pub mod Changing
+pub mod Moving
+pub mod Parts
+pub mod Placing
+pub mod Replying
+pub mod Reporting
+pub mod Steps
+pub mod Submitting

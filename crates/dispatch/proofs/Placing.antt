@@ -1,0 +1,82 @@
+-- One law for opening and for each placing call, calls 0 to 4: its premises are the facts in hand there. Assumes nothing.
+use Prim.Native.Nat.{ℕ, _%_, _^_}
+use mathlib.Core.Bool.{Bool}
+use mathlib.Core.List.{List}
+use mathlib.Core.Path.{_≡_, ap, _∙_}
+use lib.ListN.{length, getD, drop}
+use Rattle.chain.proofs.Chain.{chain}
+use Rattle.words.specs.Words.{flagOf}
+use Rattle.models.specs.declared.DeviceSnapshot.{DeviceSnapshot}
+use Rattle.models.specs.declared.Verdict.{Verdict}
+use Rattle.rows.specs.Store.{storeOf}
+use Rattle.bus.specs.Ports.{VerdictTo, verdictTo}
+use Rattle.bus.specs.Tables.{busOf}
+use Rattle.bus.specs.declared.PortRow.{PortRow}
+use Rattle.session.specs.Lifecycle.{OpenedTo, openedTo, openOf}
+use Rattle.session.specs.Place.{setDeviceOf, setPortOf, setEndpointsOf, setReconcileOf}
+use Rattle.session.specs.Sizes.{busFits, openFits}
+use Rattle.session.specs.declared.Session.{Session}
+use Rattle.session.specs.declared.lifecycle.Opened.{Opened}
+use Rattle.session.specs.declared.lifecycle.Opening.{Opening}
+use Rattle.calls.specs.Answers.{outcome, ofOpened, ofVerdict}
+use Rattle.calls.specs.Arguments.{openingOf, snapshotOf, portRowOf}
+use Rattle.calls.specs.Calls.{Open, SetDevice, SetPort, SetEndpoints, SetReconcile}
+use Rattle.calls.specs.Step.{World, world, After, after, opens, places, stepOf}
+use Rattle.calls.specs.declared.Outcome.{Outcome}
+use Rattle.dispatch.specs.Decode.{placingOf}
+use Rattle.dispatch.proofs.Steps.{said}
+
+-- the lent bus, rows and area before are l, m and a; the bus after is l'
+module _ (n : ℕ) (s : Session) (l m a l' w : List ℕ) (r : Outcome) where
+  abbrev handed : World
+  handed = world s (busOf l) (storeOf m) a
+
+  pub open-step : (m' : List ℕ) (x : Opened) (o : Opening) → n ≡ 0 → o ≡ openingOf w → r ≡ ofOpened x s
+      → openedTo x (storeOf m') (busOf l') ≡ openOf (openFits o (length m) (length a) (length l)) o (storeOf m) (busOf l)
+      → after r (busOf l') (storeOf m') a ≡ stepOf (placingOf n w) (world s (busOf l) (storeOf m) a)
+  unfolding stepOf storeOf busOf placingOf
+  open-step m' x o e eo er h =
+      said (Open o) (placingOf n w) handed _ (search (chain, ap Open eo) depth 20)
+      (ap (λ (z : Outcome). after z (busOf l') (storeOf m') a) er ∙ ap (λ (z : OpenedTo). opens z handed) h)
+
+  module _ (x : Verdict) (n0 : n ≡ 0 → ⊥) (er : r ≡ outcome (ofVerdict x) s) where
+    abbrev left : After
+    left = after r (busOf l') (storeOf m) a
+
+    abbrev Steps : Type 0
+    Steps = left ≡ stepOf (placingOf n w) handed
+
+    placed : (o : VerdictTo) → verdictTo x (busOf l') ≡ o → left ≡ places o handed
+    placed o h = ap (λ (z : Outcome). after z (busOf l') (storeOf m) a) er ∙ ap (λ (z : VerdictTo). places z handed) h
+
+    pub device-step : (d : DeviceSnapshot) → n ≡ 1 → d ≡ snapshotOf w
+        → verdictTo x (busOf l') ≡ setDeviceOf s (busFits (length l)) d (busOf l) → Steps
+    unfolding stepOf busOf placingOf
+    device-step d e ed h =
+        said (SetDevice d) (placingOf n w) handed _ (search (chain, ap SetDevice ed) depth 20) (placed _ h)
+
+    module _ (at : ℕ) (ea : at ≡ getD w 1 0 % 2 ^ 8) (n1 : n ≡ 1 → ⊥) where
+      pub port-step : (row : PortRow) → n ≡ 2 → row ≡ portRowOf w
+          → verdictTo x (busOf l') ≡ setPortOf s (busFits (length l)) at row (busOf l) → Steps
+      unfolding stepOf busOf placingOf
+      port-step row e eo h =
+          let c : SetPort at row ≡ SetPort (getD w 1 0 % 2 ^ 8) (portRowOf w) =
+          ap (λ (z : ℕ). SetPort z row) ea ∙ ap (SetPort (getD w 1 0 % 2 ^ 8)) eo in
+          said (SetPort at row) (placingOf n w) handed _ (search (chain, c) depth 20) (placed _ h)
+
+      module _ (n2 : n ≡ 2 → ⊥) where
+        pub endpoints-step : (list : List ℕ) → n ≡ 3 → list ≡ drop 2 w
+            → verdictTo x (busOf l') ≡ setEndpointsOf s (busFits (length l)) at list (busOf l) → Steps
+        unfolding stepOf busOf placingOf
+        endpoints-step list e eo h =
+            let c : SetEndpoints at list ≡ SetEndpoints (getD w 1 0 % 2 ^ 8) (drop 2 w) =
+            ap (λ (z : ℕ). SetEndpoints z list) ea ∙ ap (SetEndpoints (getD w 1 0 % 2 ^ 8)) eo in
+            said (SetEndpoints at list) (placingOf n w) handed _ (search (chain, c) depth 20) (placed _ h)
+
+        pub reconcile-step : (f : ℕ) (mark : Bool) → (n ≡ 3 → ⊥) → f ≡ getD w 2 0 → mark ≡ flagOf f
+            → verdictTo x (busOf l') ≡ setReconcileOf s (busFits (length l)) at mark (busOf l) → Steps
+        unfolding stepOf busOf placingOf
+        reconcile-step f mark n3 ef em h =
+            let c : SetReconcile at mark ≡ SetReconcile (getD w 1 0 % 2 ^ 8) (flagOf (getD w 2 0)) =
+            ap (λ (z : ℕ). SetReconcile z mark) ea ∙ ap (SetReconcile (getD w 1 0 % 2 ^ 8)) (em ∙ ap flagOf ef) in
+            said (SetReconcile at mark) (placingOf n w) handed _ (search (chain, c) depth 20) (placed _ h)

@@ -1,0 +1,59 @@
+-- One law for each reply, and for a poll, calls 10 to 12: its premises are the facts in hand there. Assumes nothing.
+use Prim.Native.Nat.{ℕ}
+use mathlib.Core.Bool.{_&&_}
+use mathlib.Core.List.{List}
+use mathlib.Core.Path.{_≡_, ap, _∙_}
+use lib.ListN.{length}
+use Rattle.chain.proofs.Chain.{chain}
+use Rattle.models.specs.declared.RequestId.{RequestId}
+use Rattle.rows.specs.Store.{storeOf}
+use Rattle.rows.specs.Table.{rowsOf}
+use Rattle.session.specs.Sizes.{rowsFit, areaFits}
+use Rattle.session.specs.declared.Session.{Session}
+use Rattle.requests.specs.Answers.{reportedTo}
+use Rattle.requests.specs.Finish.{FinishTo, finishTo, finishOf}
+use Rattle.requests.specs.Poll.{pollOf}
+use Rattle.requests.specs.Reply.{submitReplyOf}
+use Rattle.requests.specs.declared.Polled.{Polled}
+use Rattle.requests.specs.declared.PollReply.{PollReply}
+use Rattle.requests.specs.declared.Reported.{Reported}
+use Rattle.requests.specs.declared.SubmitReply.{SubmitReply}
+use Rattle.calls.specs.Answers.{outcome, ofReport, ofPoll}
+use Rattle.calls.specs.Arguments as arguments
+use Rattle.calls.specs.Calls.{ReplySubmit, Poll, ReplyPoll}
+use Rattle.calls.specs.State.{idAt}
+use Rattle.calls.specs.Step.{world, after, polls, finishes, stepOf}
+use Rattle.calls.specs.declared.Outcome.{Outcome}
+use Rattle.dispatch.specs.Apply.{StepsStore}
+use Rattle.dispatch.specs.Decode.{replyingOf}
+use Rattle.dispatch.proofs.Steps.{said, reported}
+
+module _ (n : ℕ) (s : Session) (l w bytes area : List ℕ) (r : Outcome) where
+  pub submit-reply-step : (k : List ℕ) (x : Reported) (reply : SubmitReply) → reply ≡ arguments.submitReplyOf w → n ≡ 10
+      → r ≡ outcome (ofReport (x .answer)) (x .session)
+      → reportedTo x (storeOf k) ≡ submitReplyOf s (rowsFit (s .«row_count») (s .«row_bytes») (length l)) reply (storeOf l)
+      → StepsStore r (storeOf k) area (replyingOf n w bytes) s (storeOf l) area
+  unfolding stepOf storeOf replyingOf
+  submit-reply-step k x reply ea e er h b =
+      let v = world s b (storeOf l) area in
+      said (ReplySubmit reply) (replyingOf n w bytes) v _ (search (chain, ap ReplySubmit ea) depth 20) (reported r (storeOf k) v x _ er h)
+
+  module _ (n10 : n ≡ 10 → ⊥) where
+    pub poll-step : (x : Polled) (id : RequestId) → id ≡ idAt w 1 → n ≡ 11 → r ≡ outcome (ofPoll (x .answer)) (x .session)
+        → x ≡ pollOf s (rowsFit (s .«row_count») (s .«row_bytes») (length l)) id (rowsOf l)
+        → StepsStore r (storeOf l) area (replyingOf n w bytes) s (storeOf l) area
+    unfolding stepOf storeOf replyingOf
+    poll-step x id ei e er h b =
+        let v = world s b (storeOf l) area in
+        said (Poll id) (replyingOf n w bytes) v _ (search (chain, ap Poll ei) depth 20)
+        (ap (λ (z : Outcome). after z b (storeOf l) area) er ∙ ap (λ (z : Polled). polls z v) h)
+
+    pub poll-reply-step : (k left : List ℕ) (x : Reported) (reply : PollReply) → reply ≡ arguments.pollReplyOf w → (n ≡ 11 → ⊥)
+        → r ≡ outcome (ofReport (x .answer)) (x .session)
+        → finishTo x (storeOf k) left ≡ finishOf s (rowsFit (s .«row_count») (s .«row_bytes») (length l) && areaFits (s .«row_count») (s .«row_bytes») (length area)) reply bytes (storeOf l) area
+        → StepsStore r (storeOf k) left (replyingOf n w bytes) s (storeOf l) area
+    unfolding stepOf storeOf replyingOf
+    poll-reply-step k left x reply ea n11 er h b =
+        let v = world s b (storeOf l) area in
+        said (ReplyPoll reply bytes) (replyingOf n w bytes) v _ (search (chain, ap (λ (z : PollReply). ReplyPoll z bytes) ea) depth 20)
+        (ap (λ (z : Outcome). after z b (storeOf k) left) er ∙ ap (λ (z : FinishTo). finishes z v) h)

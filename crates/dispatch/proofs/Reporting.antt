@@ -1,0 +1,84 @@
+-- One law for each call that leaves all as it is, calls 16 to 21: its premises are the facts in hand there. Assumes nothing.
+use Prim.Native.Nat.{ℕ}
+use mathlib.Core.Bool.{Bool, _&&_}
+use mathlib.Core.List.{List}
+use mathlib.Core.Path.{_≡_, ap, _∙_}
+use lib.ListN.{length}
+use Rattle.chain.proofs.Chain.{chain}
+use Rattle.models.specs.declared.RequestId.{RequestId}
+use Rattle.rows.specs.Store.{storeOf}
+use Rattle.rows.specs.Table.{rowsOf}
+use Rattle.bus.specs.Tables.{Bus}
+use Rattle.session.specs.Sizes.{rowsFit, areaFits}
+use Rattle.session.specs.declared.Session.{Session}
+use Rattle.requests.specs.Status.{statusOf, nextOf, shownCount, completedPart, heldCountOf, heldBytesOf}
+use Rattle.requests.specs.declared.NextReport.{NextReport}
+use Rattle.requests.specs.declared.OptionId.{OptionId}
+use Rattle.requests.specs.declared.Part.{Part}
+use Rattle.requests.specs.declared.ReportAnswer.{ReportAnswer}
+use Rattle.requests.specs.declared.Tally.{Tally}
+use Rattle.calls.specs.Answers.{outcome, ofReport, ofNext, ofTally}
+use Rattle.calls.specs.Arguments.{optionIdOf}
+use Rattle.calls.specs.Calls.{Call, Status, Reports, CountReports, CompletedBytes, HeldCount, HeldBytes}
+use Rattle.calls.specs.State.{idAt}
+use Rattle.calls.specs.Step.{world, reads, stepOf}
+use Rattle.calls.specs.declared.Answer.{Answer}
+use Rattle.calls.specs.declared.Answer.the-variants as answer
+use Rattle.dispatch.specs.Apply.{StepsStore}
+use Rattle.dispatch.specs.Decode.{reportingOf}
+use Rattle.dispatch.proofs.Steps.{said}
+
+module _ (n : ℕ) (s : Session) (l w area : List ℕ) where
+  abbrev Steps : Answer → Type 0
+  Steps r = StepsStore (outcome r s) (storeOf l) area (reportingOf n w) s (storeOf l) area
+
+  abbrev fits : Bool
+  fits = rowsFit (s .«row_count») (s .«row_bytes») (length l)
+
+  -- of the call c, which answers as r
+  by : (c : Call) (r : Answer) → c ≡ reportingOf n w → ((b : Bus) → reads r (world s b (storeOf l) area) ≡ stepOf c (world s b (storeOf l) area)) → Steps r
+  by c r e h b = said c (reportingOf n w) (world s b (storeOf l) area) _ e (h b)
+
+  pub status-step : (r : Answer) (x : ReportAnswer) (id : RequestId) → id ≡ idAt w 1 → n ≡ 16 → r ≡ ofReport x → x ≡ statusOf s fits id (rowsOf l) → Steps r
+  unfolding stepOf storeOf reportingOf
+  status-step r x id ei e er h =
+      by (Status id) r (search (chain, ap Status ei) depth 20)
+      (λ b. ap (λ (z : Answer). reads z (world s b (storeOf l) area)) (er ∙ ap ofReport h))
+
+  module _ (n16 : n ≡ 16 → ⊥) where
+    pub reports-step : (r : Answer) (x : NextReport) (from : OptionId) → from ≡ optionIdOf w → n ≡ 17 → r ≡ ofNext x → x ≡ nextOf s fits from (rowsOf l) → Steps r
+    unfolding stepOf storeOf reportingOf
+    reports-step r x from ei e er h =
+        by (Reports from) r (search (chain, ap Reports ei) depth 20)
+        (λ b. ap (λ (z : Answer). reads z (world s b (storeOf l) area)) (er ∙ ap ofNext h))
+
+    module _ (n17 : n ≡ 17 → ⊥) where
+      pub count-step : (r : Answer) (x : Tally) → n ≡ 18 → r ≡ ofTally x → x ≡ shownCount s fits (rowsOf l) → Steps r
+      unfolding stepOf storeOf reportingOf
+      count-step r x e er h =
+          by CountReports r (search chain depth 20)
+          (λ b. ap (λ (z : Answer). reads z (world s b (storeOf l) area)) (er ∙ ap ofTally h))
+
+      module _ (n18 : n ≡ 18 → ⊥) where
+        pub bytes-step : (x : Part) (id : RequestId) → id ≡ idAt w 1 → n ≡ 19
+            → x ≡ completedPart s (fits && areaFits (s .«row_count») (s .«row_bytes») (length area)) id (rowsOf l) → Steps (answer.Bytes x)
+        unfolding stepOf storeOf reportingOf
+        bytes-step x id ei e h =
+            by (CompletedBytes id) (answer.Bytes x)
+            (search (chain, ap CompletedBytes ei) depth 20)
+            (λ b. ap (λ (z : Part). reads (answer.Bytes z) (world s b (storeOf l) area)) h)
+
+        module _ (n19 : n ≡ 19 → ⊥) (r : Answer) (x : Tally) (er : r ≡ ofTally x) where
+          pub held-count-step : n ≡ 20 → x ≡ heldCountOf fits (rowsOf l) → Steps r
+          unfolding stepOf storeOf reportingOf
+          held-count-step e h =
+              by HeldCount r
+              (search chain depth 20)
+              (λ b. ap (λ (z : Answer). reads z (world s b (storeOf l) area)) (er ∙ ap ofTally h))
+
+          pub held-bytes-step : (n ≡ 20 → ⊥) → x ≡ heldBytesOf fits (rowsOf l) → Steps r
+          unfolding stepOf storeOf reportingOf
+          held-bytes-step n20 h =
+              by HeldBytes r
+              (search chain depth 20)
+              (λ b. ap (λ (z : Answer). reads z (world s b (storeOf l) area)) (er ∙ ap ofTally h))

@@ -1,0 +1,53 @@
+-- One law for each submission, calls 8 and 9: its premises are the facts in hand there. Assumes nothing.
+use Prim.Native.Nat.{ℕ}
+use mathlib.Core.Bool.{Bool}
+use mathlib.Core.List.{List}
+use mathlib.Core.Path.{_≡_, ap, _∙_}
+use lib.ListN.{length, getD, drop}
+use Rattle.chain.proofs.Chain.{chain}
+use Rattle.words.specs.Words.{flagOf}
+use Rattle.models.specs.declared.ControlPlan.{ControlPlan}
+use Rattle.models.specs.declared.PortReading.{PortReading}
+use Rattle.models.specs.declared.RequestSpec.{RequestSpec}
+use Rattle.rows.specs.Store.{storeOf}
+use Rattle.bus.specs.Tables.{busOf}
+use Rattle.session.specs.declared.Session.{Session}
+use Rattle.requests.specs.Submit.{submitTo, planTo, storeFits, submitOf, submitPlanOf}
+use Rattle.requests.specs.declared.PlanSubmitted.{PlanSubmitted}
+use Rattle.requests.specs.declared.Submitted.{Submitted}
+use Rattle.calls.specs.Answers.{outcome, ofSubmit, ofPlan}
+use Rattle.calls.specs.Arguments.{readingAt, specOf, planOf}
+use Rattle.calls.specs.Calls.{Submit, SubmitPlan}
+use Rattle.calls.specs.Step.{world, after, submits, plans, stepOf}
+use Rattle.calls.specs.declared.Outcome.{Outcome}
+use Rattle.dispatch.specs.Decode.{submissionOf}
+use Rattle.dispatch.proofs.Steps.{said}
+
+-- the lent bus, rows and area before are l, m and a, and after it l', m' and a'
+module _ (n : ℕ) (s : Session) (l m a l' m' a' w bytes : List ℕ) (r : Outcome) (first : PortReading) where
+  pub submit-step : (x : Submitted) (q : RequestSpec) (f : ℕ) (given : Bool) (packets : List ℕ) (second : PortReading)
+      → submitTo x (busOf l') (storeOf m') a' ≡ submitOf s (storeFits s (length m) (length a) (length l)) q bytes given packets first second (busOf l) (storeOf m) a
+      → r ≡ outcome (ofSubmit (x .answer)) (x .session) → first ≡ readingAt w 14 → n ≡ 8 → q ≡ specOf w → given ≡ flagOf f → f ≡ getD w 26 0
+      → packets ≡ drop 27 w → second ≡ readingAt w 20
+      → after r (busOf l') (storeOf m') a' ≡ stepOf (submissionOf n w bytes) (world s (busOf l) (storeOf m) a)
+  unfolding stepOf storeOf busOf submissionOf
+  submit-step x q f given packets second h er e1 e eq eg ef ep e2 =
+      let c : Submit q bytes given packets first second ≡ Submit (specOf w) bytes (flagOf (getD w 26 0)) (drop 27 w) (readingAt w 14) (readingAt w 20) =
+      ap (λ (z : RequestSpec). Submit z bytes given packets first second) eq
+      ∙ ap (λ (z : Bool). Submit (specOf w) bytes z packets first second) (eg ∙ ap flagOf ef)
+      ∙ ap (λ (z : List ℕ). Submit (specOf w) bytes (flagOf (getD w 26 0)) z first second) ep
+      ∙ ap (λ (z : PortReading). Submit (specOf w) bytes (flagOf (getD w 26 0)) (drop 27 w) z second) e1
+      ∙ ap (Submit (specOf w) bytes (flagOf (getD w 26 0)) (drop 27 w) (readingAt w 14)) e2 in
+      said (Submit q bytes given packets first second) (submissionOf n w bytes) (world s (busOf l) (storeOf m) a) _ (search (chain, c) depth 20)
+      (ap (λ (z : Outcome). after z (busOf l') (storeOf m') a') er ∙ ap submits h)
+
+  pub plan-step : (x : PlanSubmitted) (q : ControlPlan) → first ≡ readingAt w 14 → (n ≡ 8 → ⊥) → q ≡ planOf w
+      → r ≡ outcome (ofPlan (x .answer)) (x .session)
+      → planTo x (busOf l') (storeOf m') a' ≡ submitPlanOf s (storeFits s (length m) (length a) (length l)) q bytes first (busOf l) (storeOf m) a
+      → after r (busOf l') (storeOf m') a' ≡ stepOf (submissionOf n w bytes) (world s (busOf l) (storeOf m) a)
+  unfolding stepOf storeOf busOf submissionOf
+  plan-step x q e1 n8 eq er h =
+      let c : SubmitPlan q bytes first ≡ SubmitPlan (planOf w) bytes (readingAt w 14) =
+      ap (λ (z : ControlPlan). SubmitPlan z bytes first) eq ∙ ap (SubmitPlan (planOf w) bytes) e1 in
+      said (SubmitPlan q bytes first) (submissionOf n w bytes) (world s (busOf l) (storeOf m) a) _ (search (chain, c) depth 20)
+      (ap (λ (z : Outcome). after z (busOf l') (storeOf m') a') er ∙ ap plans h)

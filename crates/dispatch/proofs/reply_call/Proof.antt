@@ -1,0 +1,34 @@
+use Rattle.dispatch.proofs.Replying.{submit-reply-step, poll-step, poll-reply-step}
+use borrow.Author.Needs.{needs}
+use Rattle.dispatch.proofs.reply_call.Statement.{statement}
+use Rattle.dispatch.proofs.reply_call.Tie as tie
+
+returns : tie.Need-returns
+returns c = search submit-reply-step
+
+returns-2 : tie.Need-returns-2
+returns-2 c = search poll-step
+
+returns-3 : tie.Need-returns-3
+returns-3 c = search poll-reply-step
+
+pub reply-call-spec : {M : Type 1} → statement M
+reply-call-spec =
+    tie.close
+    (tie.spec
+    (λ c κs. search needs)
+    (λ c κs. search needs)
+    (λ c κs. search needs)
+    (λ c. search needs)
+    returns
+    (λ c κs. search needs)
+    (λ c κs. search needs)
+    (λ c κs. search needs)
+    (λ c. search needs)
+    returns-2
+    (λ c κs. search needs)
+    (λ c κs. search needs)
+    (λ c κs. search needs)
+    (λ c. search needs)
+    (λ c. search needs)
+    returns-3)

@@ -1,0 +1,46 @@
+use Rattle.dispatch.proofs.Reporting.{status-step, reports-step, count-step, bytes-step, held-count-step, held-bytes-step}
+use borrow.Author.Needs.{needs}
+use Rattle.dispatch.proofs.report_answer.Statement.{statement}
+use Rattle.dispatch.proofs.report_answer.Tie as tie
+
+returns : tie.Need-returns
+returns c = search status-step
+
+returns-2 : tie.Need-returns-2
+returns-2 c = search reports-step
+
+returns-3 : tie.Need-returns-3
+returns-3 c = search count-step
+
+returns-4 : tie.Need-returns-4
+returns-4 c = search bytes-step
+
+returns-5 : tie.Need-returns-5
+returns-5 c = search held-count-step
+
+returns-6 : tie.Need-returns-6
+returns-6 c = search held-bytes-step
+
+pub report-answer-spec : {M : Type 1} → statement M
+report-answer-spec =
+    tie.close
+    (tie.spec
+    (λ c κs. search needs)
+    (λ c κs. search needs)
+    (λ c κs. search needs)
+    returns
+    (λ c κs. search needs)
+    (λ c κs. search needs)
+    (λ c κs. search needs)
+    returns-2
+    (λ c κs. search needs)
+    (λ c κs. search needs)
+    returns-3
+    (λ c κs. search needs)
+    returns-4
+    (λ c κs. search needs)
+    (λ c κs. search needs)
+    returns-5
+    (λ c κs. search needs)
+    (λ c κs. search needs)
+    returns-6)

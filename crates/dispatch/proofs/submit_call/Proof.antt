@@ -1,0 +1,40 @@
+use Rattle.dispatch.proofs.Submitting.{submit-step, plan-step}
+use borrow.Author.Needs.{needs}
+use Rattle.dispatch.proofs.submit_call.Statement.{statement}
+use Rattle.dispatch.proofs.submit_call.Tie as tie
+
+returns : tie.Need-returns
+returns c =
+    search (
+      submit-step,
+      c .before .before .before .before .before .before .before .before .before .before .before .before .before .before .before .before .if1 .taken,
+      c .before .before .before .before .before .before .before .before .before .before .before .before .before .before .before .spec .ensures,
+      c .before .before .before .before .before .before .before .before .before .before .before .before .before .before .before .before .before .reading-at .ensures,
+    )
+
+returns-2 : tie.Need-returns-2
+returns-2 c = search plan-step
+
+pub submit-call-spec : {M : Type 1} → statement M
+submit-call-spec =
+    tie.close
+    (tie.spec
+    (λ c κs. search needs)
+    (λ c κs. search needs)
+    (λ c κs. search needs)
+    (λ c κs. search needs)
+    (λ c κs. search needs)
+    (λ c κs. search needs)
+    (λ c κs. search needs)
+    (λ c κs. search needs)
+    (λ c. search needs)
+    (λ c. search needs)
+    (λ c. search needs)
+    returns
+    (λ c κs. search needs)
+    (λ c κs. search needs)
+    (λ c κs. search needs)
+    (λ c. search needs)
+    (λ c. search needs)
+    (λ c. search needs)
+    returns-2)

@@ -1,0 +1,21 @@
+// The C boundary: one function over numbers and slices. Each slice is a pointer and a length.
+ghost use mathlib.Core.Path.{_≡_};
+ghost use Rattle.rows.specs.Store.{storeOf};
+ghost use Rattle.bus.specs.Tables.{busOf};
+ghost use Rattle.calls.specs.State.{keptOf};
+ghost use Rattle.dispatch.specs.Apply.{done, applyOf};
+
+#[no_mangle]
+pub extern "C" fn tapewoad_apply(
+    session: &mut [u64],
+    bus: &mut [u64],
+    rows: &mut [u64],
+    area: &mut [u8],
+    call: &[u64],
+    bytes: &[u8],
+    out: &mut [u64],
+) -> u64
+    ensures { λ r. ⌜ done r (keptOf (now (session .exit))) (busOf (now (bus .exit))) (storeOf (now (rows .exit))) (now (area .exit)) (now (out .exit)) ≡ applyOf (now (session .entry)) (busOf (now (bus .entry))) (storeOf (now (rows .entry))) (now (area .entry)) (now (call .entry)) (now (bytes .entry)) (now (out .entry)) ⌝ }
+{
+    dispatch::apply(session, bus, rows, area, call, bytes, out)
+}
