@@ -52,13 +52,24 @@ impl Generator {
 
     /// The next call, and the oracle's answer to it.
     pub fn step(&mut self) -> Result<(Call, Answer), String> {
-        let call = self.world.next_call(&self.oracle);
+        let call = self.propose();
+        let answer = self.answer(&call)?;
+        Ok((call, answer))
+    }
+
+    /// The next call. One that the oracle is not asked is as if never made.
+    pub fn propose(&mut self) -> Call {
+        self.world.next_call(&self.oracle)
+    }
+
+    /// The oracle's answer to the call that was proposed.
+    pub fn answer(&mut self, call: &Call) -> Result<Answer, String> {
         let answer = self
             .oracle
-            .apply(&call)
+            .apply(call)
             .map_err(|message| format!("{message}, at: {call}"))?;
-        self.world.note(&call, &answer);
-        Ok((call, answer))
+        self.world.note(call, &answer);
+        Ok(answer)
     }
 
     /// The rows before the latest call.

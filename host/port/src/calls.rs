@@ -232,17 +232,7 @@ impl Port {
 
     fn submit(&mut self, submit: &script::Submit) -> Told {
         let data = submit.data.to_bytes();
-        let call = calls::Call::SubmitRequestPackets(calls::Submit {
-            device: convert::to_device_id(submit.device),
-            endpoint: submit.endpoint,
-            transfer_type: convert::to_transfer_type(submit.transfer_type),
-            direction: convert::to_direction(submit.direction),
-            length: submit.length,
-            setup: submit.setup.map(convert::to_setup),
-            data: &data,
-            packets: submit.packets.as_deref(),
-            readings: submit.readings.map(|it| it.map_err(convert::to_error)),
-        });
+        let call = calls::Call::SubmitRequestPackets(convert::to_submit(submit, &data));
         let control = submit.transfer_type == script::TransferType::Control;
         let readings = &submit.readings[..if control { 1 } else { 2 }];
         self.begin(
@@ -262,16 +252,7 @@ impl Port {
 
     fn plan(&mut self, plan: &Plan) -> Told {
         let data = plan.data.to_bytes();
-        let stage = plan.stage;
-        let call = calls::Call::SubmitControlPlan(calls::Plan {
-            device: convert::to_device_id(plan.device),
-            profile: convert::to_profile(plan.profile),
-            setup: convert::to_setup(plan.setup),
-            data_stage: stage.map(|(direction, length)| (convert::to_direction(direction), length)),
-            status_direction: plan.status.map(convert::to_direction),
-            data: &data,
-            reading: plan.reading.map_err(convert::to_error),
-        });
+        let call = calls::Call::SubmitControlPlan(convert::to_plan(plan, &data));
         self.begin(
             &call,
             plan.device.slot,
@@ -337,13 +318,8 @@ impl Port {
 
     fn complete(&mut self, done: &Completion) -> Result<Outcome, String> {
         let data = done.data.as_ref().map(script::Data::to_bytes);
-        self.made(&calls::Call::PollReply(Ok(Some(calls::Completion {
-            actual_length: done.length,
-            completion_code: done.code,
-            data: data.as_deref(),
-            error: done.error.map(convert::to_error),
-            quiescent: done.quiescent,
-        }))))
+        let done = convert::to_completion(done, data.as_deref());
+        self.made(&calls::Call::PollReply(Ok(Some(done))))
     }
 }
 

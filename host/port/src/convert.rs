@@ -174,3 +174,46 @@ pub fn to_snapshot(
         state: to_device_state(state),
     }
 }
+
+/// With the bytes of its data.
+pub fn to_submit<'a>(submit: &'a script::Submit, data: &'a [u8]) -> calls::Submit<'a> {
+    calls::Submit {
+        device: to_device_id(submit.device),
+        endpoint: submit.endpoint,
+        transfer_type: to_transfer_type(submit.transfer_type),
+        direction: to_direction(submit.direction),
+        length: submit.length,
+        setup: submit.setup.map(to_setup),
+        data,
+        packets: submit.packets.as_deref(),
+        readings: submit.readings.map(|it| it.map_err(to_error)),
+    }
+}
+
+/// With the bytes of its data.
+pub fn to_plan<'a>(plan: &script::Plan, data: &'a [u8]) -> calls::Plan<'a> {
+    let stage = plan.stage;
+    calls::Plan {
+        device: to_device_id(plan.device),
+        profile: to_profile(plan.profile),
+        setup: to_setup(plan.setup),
+        data_stage: stage.map(|(direction, length)| (to_direction(direction), length)),
+        status_direction: plan.status.map(to_direction),
+        data,
+        reading: plan.reading.map_err(to_error),
+    }
+}
+
+/// With the bytes of its data.
+pub fn to_completion<'a>(
+    done: &script::Completion,
+    data: Option<&'a [u8]>,
+) -> calls::Completion<'a> {
+    calls::Completion {
+        actual_length: done.length,
+        completion_code: done.code,
+        data,
+        error: done.error.map(to_error),
+        quiescent: done.quiescent,
+    }
+}

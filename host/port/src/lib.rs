@@ -5,7 +5,7 @@
 //! the safe crate's `UsbSession` with a backend that replies as the line says.
 mod backend;
 mod calls;
-mod convert;
+pub mod convert;
 mod reads;
 mod session;
 

@@ -1,0 +1,96 @@
+// Runs recorded calls in the word format (docs/CALLS.md) and prints their answers, which are held to those of the unchanged Rust.
+// A line of input is a call: its words, and after `/` its lent bytes, as decimal numbers. `=` prints the controller's state and what the
+// device holds. `#` begins a comment. A line that is none of these is answered by `bad line`, and nothing is run.
+use libc::STDIN_FILENO;
+use parse::Count;
+
+mod parse;
+mod show;
+
+fn main() {
+    let mut text = [0u8; 1048576];
+    let mut session = [0u64; 26];
+    let mut bus = [0u64; 10750];
+    let mut rows = [0u64; 4320];
+    let mut area = [0u8; 655360];
+    run(&mut text, &mut session, &mut bus, &mut rows, &mut area);
+}
+
+fn run(text: &mut [u8], session: &mut [u64], bus: &mut [u64], rows: &mut [u64], area: &mut [u8]) {
+    let n = io::read_full(STDIN_FILENO, text);
+    replay(&text[0..n], session, bus, rows, area);
+}
+
+fn replay(text: &[u8], session: &mut [u64], bus: &mut [u64], rows: &mut [u64], area: &mut [u8]) {
+    let mut at = 0;
+    while at < text.len() {
+        let end = parse::find(text, at, b'\n');
+        run_line(&text[at..end], session, bus, rows, area);
+        at = end + 1;
+    }
+}
+
+fn run_line(line: &[u8], session: &mut [u64], bus: &mut [u64], rows: &mut [u64], area: &mut [u8]) {
+    if line.len() == 0 {
+        return;
+    }
+    if line[0] == b'#' {
+        return;
+    }
+    if line[0] == b'=' {
+        show_state(session, bus, rows, area);
+        return;
+    }
+    run_call(line, session, bus, rows, area);
+}
+
+fn run_call(line: &[u8], session: &mut [u64], bus: &mut [u64], rows: &mut [u64], area: &mut [u8]) {
+    let mut call = [0u64; 256];
+    let mut bytes = [0u8; 4096];
+    let Count::Of(words) = parse::words(line, &mut call) else {
+        show::bad_line();
+        return;
+    };
+    let Count::Of(given) = parse::bytes(line, &mut bytes) else {
+        show::bad_line();
+        return;
+    };
+    answer(&call[0..words], &bytes[0..given], session, bus, rows, area);
+}
+
+fn answer(
+    call: &[u64],
+    bytes: &[u8],
+    session: &mut [u64],
+    bus: &mut [u64],
+    rows: &mut [u64],
+    area: &mut [u8],
+) {
+    let mut out = [0u64; 32];
+    let status = dispatch::apply(session, bus, rows, area, call, bytes, &mut out);
+    if status != 0 {
+        show::status(status);
+        return;
+    }
+    show::answer(&out, area);
+}
+
+// A count that takes no arguments: 20 and 21.
+fn number_of(
+    call: u64,
+    session: &mut [u64],
+    bus: &mut [u64],
+    rows: &mut [u64],
+    area: &mut [u8],
+) -> u64 {
+    let mut out = [0u64; 32];
+    let words = [call];
+    dispatch::apply(session, bus, rows, area, &words, b"", &mut out);
+    out[1]
+}
+
+fn show_state(session: &mut [u64], bus: &mut [u64], rows: &mut [u64], area: &mut [u8]) {
+    let held = number_of(20, session, bus, rows, area);
+    let bytes = number_of(21, session, bus, rows, area);
+    show::state(session, held, bytes);
+}
