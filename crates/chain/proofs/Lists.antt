@@ -42,6 +42,10 @@ module _ {A : Type 0} where
   count-pos p (x ∷ xs) zero d h e = rw e (omega arith)
   count-pos p (x ∷ xs) (suc i) d h e = omega (arith, count-pos p xs i d (le-of-suc-le-suc h) e)
 
+  pub count-most : (p : A → Bool) (l : List A) → count p l ≤ length l
+  count-most p [] = omega arith
+  count-most p (x ∷ xs) = caseB (p x) (λ e. rw e (omega (arith, count-most p xs))) (λ e. rw e (omega (arith, count-most p xs)))
+
   pub record Witness (p : A → Bool) (l : List A) (d : A) : Type 0 where
     pub index : ℕ
     pub below : index < length l
@@ -138,9 +142,26 @@ module _ {A : Type 0} where
   sum-suc f (x ∷ xs) zero d h = omega arith
   sum-suc f (x ∷ xs) (suc i) d h = omega (arith, sum-suc f xs i d (le-of-suc-le-suc h))
 
+  -- a part's sum is at most the whole's
+  pub sum-take : (f : A → ℕ) (l : List A) (i : ℕ) → sumBy f (take i l) ≤ sumBy f l
+  sum-take f [] zero = omega arith
+  sum-take f [] (suc i) = omega arith
+  sum-take f (x ∷ xs) zero = omega arith
+  sum-take f (x ∷ xs) (suc i) = omega (arith, sum-take f xs i)
+
+  -- inside a list the default does not matter
+  pub getD-any : (l : List A) (i : ℕ) (a b : A) → i < length l → getD l i a ≡ getD l i b
+  getD-any [] i a b h = absurd (omega arith)
+  getD-any (x ∷ xs) zero a b h = refl
+  getD-any (x ∷ xs) (suc i) a b h = getD-any xs i a b (le-of-suc-le-suc h)
+
   pub find-le : (p : A → Bool) (l : List A) → find p l ≤ length l
   find-le p [] = omega arith
   find-le p (x ∷ xs) = caseB (p x) (λ e. rw e (omega arith)) (λ e. rw e (omega (arith, find-le p xs)))
+
+  pub find-all : (p : A → Bool) (l : List A) (d : A) → ((i : ℕ) → i < length l → p (getD l i d) ≡ false) → find p l ≡ length l
+  find-all p [] d h = refl
+  find-all p (x ∷ xs) d h = rw (h 0 (omega arith)) (ap suc (find-all p xs d (λ i k. h (suc i) (omega arith))))
 
   -- a search that has come to i, past elements that fail, with `i ≤ find p l` for its invariant
   module _ (p : A → Bool) (d : A) where

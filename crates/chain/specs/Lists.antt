@@ -1,8 +1,8 @@
 -- Sums, counts, searches and changes over a list, for any type of element. Assumes nothing.
 use Prim.Native.Nat.{ℕ, suc, _+_}
-use mathlib.Core.Bool.{Bool, true, false, cond}
-use mathlib.Core.List.{List, [], _∷_}
-use lib.ListN.{length}
+use mathlib.Core.Bool.{Bool, cond}
+use mathlib.Core.List.{List, [], _∷_, _++_}
+use lib.ListN.{length, take, drop, replicate}
 use lib.Dec.{ltb}
 use Rattle.chain.specs.declared.Found.{Found}
 use Rattle.chain.specs.declared.Found.the-variants.{At, Nothing}
@@ -37,3 +37,7 @@ module _ {A : Type 0} where
   -- the answer of a search
   unfoldable pub foundIn : (A → Bool) → List A → Found
   foundIn p l = cond (anyIn p l) (At (find p l)) Nothing
+
+  -- a fixed list of n: the first n of l, and z in the places that are left
+  unfoldable pub listed : ℕ → A → List A → List A
+  listed n z l = take n l ++ drop (length l) (replicate n z)

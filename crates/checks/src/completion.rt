@@ -14,7 +14,7 @@ pub enum CompletionTest {
     Invalid,
 }
 
-fn has_error(e: OptionError) -> bool
+pub fn has_error(e: OptionError) -> bool
     ensures { λ r. ⌜ r ≡ hasError e ⌝ }
 {
     match e {

@@ -1,10 +1,10 @@
 -- What a few words of a row say of it: the laws of the column readers. Assumes nothing.
-use Prim.Native.Nat.{ℕ, _<_}
+use Prim.Native.Nat.{ℕ, _+_, _%_, _<_, _≤_}
 use mathlib.Core.Path.{_≡_, sym, ap, _∙_}
 use mathlib.Core.Bool.{Bool, true, false}
 use mathlib.Core.List.{List}
 use native.Mathlib.Omega.{arith}
-use lib.ListN.{length, drop}
+use lib.ListN.{length, getD, take, drop, List·getD-eq-default}
 use lib.Seq.{getD-take, getD-drop}
 use lib.Dec.{eqb}
 use borrow.Author.Tests.{ne-eqb}
@@ -12,7 +12,9 @@ use Rattle.chain.proofs.Chain.{caseB, and-false, not-not}
 use Rattle.words.specs.Words.{flagOf}
 use Rattle.models.specs.Requests.{deviceMayAccess, isUncertainFailure}
 use Rattle.rows.specs.Codec.{rowOf, metadataOf, stateOf}
-use Rattle.rows.specs.Table.{wordsAt, wordAt, rowsOf, rowCount, rowAt, isHeld, isUncertain}
+use Rattle.models.specs.declared.DeviceId.{DeviceId}
+use Rattle.models.specs.declared.RequestId.{RequestId}
+use Rattle.rows.specs.Table.{wordsAt, wordAt, rowsOf, rowCount, emptyRow, rowAt, idIn, tokenIn, isHeld, isUncertain}
 use Rattle.rows.specs.declared.Row.{Row}
 use Rattle.rows.proofs.Placed.{row-is}
 
@@ -25,15 +27,50 @@ pub used-is : (l : List ℕ) (i w : ℕ) (b : Bool) → i < length (rowsOf l) �
 unfolding rowOf
 used-is l i w b h e f = f ∙ ap flagOf e ∙ ap (λ (r : Row). r .used) (row-is l i h)
 
+-- word k of the metadata
+meta-word : (w : List ℕ) (k : ℕ) → k < 13 → getD (take 13 (drop 5 w)) k 0 ≡ getD w (5 + k) 0
+meta-word w k h = getD-take 13 (drop 5 w) k 0 h ∙ getD-drop 5 w k 0
+
 pub length-is : (l : List ℕ) (i w : ℕ) → i < length (rowsOf l) → w ≡ wordAt l i 11 → w ≡ rowAt l i .metadata .«requested_length»
 unfolding rowOf metadataOf
-length-is l i w h e =
-    let ws = wordsAt (rowCount l) l i in
-    e ∙ sym (getD-take 13 (drop 5 ws) 6 0 (omega arith) ∙ getD-drop 5 ws 6 0) ∙ ap (λ (r : Row). r .metadata .«requested_length») (row-is l i h)
+length-is l i w h e = e ∙ sym (meta-word (wordsAt (rowCount l) l i) 6 (omega arith)) ∙ ap (λ (r : Row). r .metadata .«requested_length») (row-is l i h)
+
+pub endpoint-is : (l : List ℕ) (i w : ℕ) → i < length (rowsOf l) → w ≡ wordAt l i 8 → w % 256 ≡ rowAt l i .metadata .endpoint
+unfolding rowOf metadataOf
+endpoint-is l i w h e =
+    ap (λ (n : ℕ). n % 256) (e ∙ sym (meta-word (wordsAt (rowCount l) l i) 3 (omega arith))) ∙ ap (λ (r : Row). r .metadata .endpoint) (row-is l i h)
+
+pub device-is : (l : List ℕ) (i s g p : ℕ) → i < length (rowsOf l) → s ≡ wordAt l i 5 → g ≡ wordAt l i 6 → p ≡ wordAt l i 7
+    → _≡_ {A = DeviceId} (record { session = s; generation = g; slot = p % 256 }) (rowAt l i .metadata .device)
+unfolding rowOf metadataOf
+device-is l i s g p h es eg ep =
+    let m = meta-word (wordsAt (rowCount l) l i) in
+    rw (es, eg, ep, ← m 0 (omega arith), ← m 1 (omega arith), ← m 2 (omega arith)) (ap (λ (r : Row). r .metadata .device) (row-is l i h))
+
+pub id-is : (l : List ℕ) (i s g q : ℕ) → i < length (rowsOf l) → s ≡ wordAt l i 3 → g ≡ wordAt l i 4 → q ≡ rowAt l i .id .sequence
+    → _≡_ {A = RequestId} (record { session = s; generation = g; sequence = q }) (rowAt l i .id)
+unfolding rowOf
+id-is l i s g q h es eg eq =
+    let a : s ≡ rowAt l i .id .session = es ∙ ap (λ (r : Row). r .id .session) (row-is l i h) in
+    let b : g ≡ rowAt l i .id .generation = eg ∙ ap (λ (r : Row). r .id .generation) (row-is l i h) in
+    λ k. record { session = a k; generation = b k; sequence = eq k }
 
 pub token-is : (l : List ℕ) (i w : ℕ) → i < length (rowsOf l) → w ≡ wordAt l i 18 → w ≡ rowAt l i .token
 unfolding rowOf
 token-is l i w h e = e ∙ ap (λ (r : Row). r .token) (row-is l i h)
+
+-- where there is no row i
+module _ (l : List ℕ) (i n : ℕ) (en : n ≡ length (rowsOf l)) (h : n ≤ i) where
+  outside : rowAt l i ≡ emptyRow
+  outside = let q : length (rowsOf l) ≤ i = omega arith in List·getD-eq-default (rowsOf l) emptyRow q
+
+  pub id-out : _≡_ {A = RequestId} (record { session = 0; generation = 0; sequence = 0 }) (idIn (rowsOf l) i)
+  unfolding emptyRow rowOf
+  id-out = sym (ap (λ (r : Row). r .id) outside)
+
+  pub token-out : 0 ≡ tokenIn (rowsOf l) i
+  unfolding emptyRow rowOf
+  token-out = sym (ap (λ (r : Row). r .token) outside)
 
 -- of a row by its words: free, or with a tag
 no-failure : (tag a b c d e f : ℕ) → (tag ≡ 2 → ⊥) → isUncertainFailure (stateOf tag a b c d e f) ≡ false

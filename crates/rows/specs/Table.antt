@@ -7,6 +7,7 @@ use lib.ListN.{length, getD, set}
 use Rattle.words.specs.Words.{flagWord}
 use Rattle.words.specs.Records.{tab, splice, part}
 use Rattle.models.specs.Requests.{deviceMayAccess, isUncertainFailure}
+use Rattle.models.specs.declared.RequestId.{RequestId}
 use Rattle.rows.specs.Codec.{rowOf, recordOf, stateWords}
 use Rattle.rows.specs.declared.Row.{Row}
 
@@ -47,9 +48,19 @@ putRow l i r = putWords (rowCount l) l i (r .id .sequence) (flagWord (r .used)) 
 unfoldable pub emptyRow : Row
 emptyRow = rowOf []
 
+-- row i, and its id and token; outside, those of the free row
+abbrev pub rowIn : List Row → ℕ → Row
+rowIn rows i = getD rows i emptyRow
+
+abbrev pub idIn : List Row → ℕ → RequestId
+idIn rows i = rowIn rows i .id
+
+abbrev pub tokenIn : List Row → ℕ → ℕ
+tokenIn rows i = rowIn rows i .token
+
 -- row i of the words
 abbrev pub rowAt : List ℕ → ℕ → Row
-rowAt l i = getD (rowsOf l) i emptyRow
+rowAt l i = rowIn (rowsOf l) i
 
 -- document 01's "held" row: the controller may still write to its bytes
 unfoldable pub isHeld : Row → Bool

@@ -13,7 +13,7 @@ ghost use mathlib.Core.Path.{_≡_};
 ghost use mathlib.Core.List.{_∷_};
 ghost use lib.ListN.{length};
 ghost use Rattle.words.specs.Words.{flagWord};
-ghost use Rattle.rows.specs.Codec.{setupOf, setupWords, metadataOf, stateOf, shortWords, failedWords, stateWords, rowOf, recordOf};
+ghost use Rattle.rows.specs.Codec.{setupOf, setupWords, metadataOf, errorOf, stateOf, shortWords, failedWords, stateWords, rowOf, recordOf};
 ghost use Rattle.models.specs.declared.RequestState.the-variants as RequestState;
 
 // The words of an optional SETUP packet.
@@ -167,6 +167,17 @@ pub fn state_words(s: RequestState) -> StateWords
     }
 }
 
+pub fn to_error(category: u64, message: u64, os_code: u64, code: u64) -> OperationError
+    ensures { λ r. ⌜ r ≡ errorOf category message «os_code» code ⌝ }
+{
+    OperationError {
+        category: codes::to_category(category),
+        message: (message % 65536) as u16,
+        os_code: words::to_option_i32(os_code),
+        completion_code: words::to_option_u32(code),
+    }
+}
+
 pub fn to_state(tag: u64, a: u64, b: u64, c: u64, d: u64, e: u64, f: u64) -> RequestState
     ensures { λ r. ⌜ r ≡ stateOf tag a b c d e f ⌝ }
 {
@@ -184,14 +195,8 @@ pub fn to_state(tag: u64, a: u64, b: u64, c: u64, d: u64, e: u64, f: u64) -> Req
         };
     }
     if tag == 2 {
-        let error = OperationError {
-            category: codes::to_category(a),
-            message: (b % 65536) as u16,
-            os_code: words::to_option_i32(d),
-            completion_code: words::to_option_u32(e),
-        };
         return RequestState::Failed {
-            error,
+            error: to_error(a, b, d, e),
             completion_code: words::to_option_u32(f),
             quiescent: words::to_flag(c),
         };

@@ -1,5 +1,5 @@
 -- Laws of the loops that fill a slice from its front, and of a part of a slice that is put back. Assumes nothing.
-use Prim.Native.Nat.{ℕ, _+_, _-_, _<_, _≤_}
+use Prim.Native.Nat.{ℕ, _+_, _-_, _<_, _≤_, min}
 use mathlib.Core.Path.{_≡_, sym, _∙_}
 use mathlib.Core.List.{List}
 use native.Mathlib.Omega.{arith}
@@ -7,7 +7,7 @@ use native.Mathlib.Numerals.{add-one}
 use lib.ListN.{length, getD, take, set, replicate, length-replicate, getD-replicate}
 use lib.Seq.{take-suc, take-suc-set, take-all, length-take-le}
 use borrow.Rule.Slice.PartMut.{putMid, midOf, post-is, mid-len}
-use Rattle.words.specs.Records.{splice}
+use Rattle.words.specs.Records.{splice, spliceCut}
 
 module _ {A : Type 0} where
   -- the first k of the n elements of l are those of s
@@ -36,6 +36,10 @@ module _ {A : Type 0} where
   -- the part [at, at + n) of l is lent out and comes back as q
   pub copied : (at n : ℕ) (q s l : List A) → q ≡ take n s → n ≤ length s → putMid at (at + n - at) l q ≡ splice at (take n s) l
   copied at n q s l e h = rw e (put-back at n (take n s) l (length-take-le n s h))
+
+  -- as much of s as there is room for
+  pub copied-cut : (at n m : ℕ) (s l after : List A) → m ≡ min (length s) n → after ≡ splice at (take m s) l → after ≡ spliceCut at n s l
+  copied-cut at n m s l after em e = e ∙ rw em
 
   pub cleared : (at n : ℕ) (x : A) (q l : List A) → q ≡ replicate (length (midOf at (at + n - at) l)) x → at + n ≤ length l
       → putMid at (at + n - at) l q ≡ splice at (replicate n x) l

@@ -1,13 +1,14 @@
 -- Laws of `tab`, of a part that is put into a list, and of records of w words. Assumes nothing.
 use Prim.Native.Nat.{ℕ, zero, suc, _+_, _-_, _*_, _<_, _≤_}
 use mathlib.Core.Path.{_≡_, refl, sym, ap, _∙_}
-use mathlib.Core.List.{List, [], _∷_, _++_, append-assoc}
+use mathlib.Core.List.{List, [], _∷_, _++_, map, append-assoc}
 use mathlib.Core.Logic.{_⊎_, inl, inr, ⊎-elim}
 use native.Mathlib.Nat.{le-of-suc-le-suc, not-suc-le-zero, suc-mul, mul-le-mul-right}
 use native.Mathlib.Numerals.{add-one}
 use native.Mathlib.Omega.{arith}
 use lib.ListN.{length, getD, set, take, drop, replicate, length-append, length-take, length-drop, length-replicate, getD-replicate, take-append-drop}
 use lib.Seq.{getD-take, getD-drop, take-at, drop-at, drop-drop, take-append-le, drop-append-le, length-take-le, set-split, ext-getD}
+use Rattle.chain.specs.Lists.{sumBy}
 use Rattle.words.specs.Records.{tab, splice, part, chunks}
 
 module _ {A : Type 0} where
@@ -43,6 +44,19 @@ module _ {A : Type 0} where
   pub tab-all : (g : ℕ → A) (n : ℕ) (x : A) → ((j : ℕ) → j < n → g j ≡ x) → tab g n ≡ replicate n x
   tab-all g zero x h = refl
   tab-all g (suc n) x h = rw (h zero (omega arith), tab-all (next g) n x (λ j l. h (suc j) (omega arith)))
+
+  pub tab-list : (l : List A) (d : A) → tab (λ (k : ℕ). getD l k d) (length l) ≡ l
+  tab-list [] d = refl
+  tab-list (x ∷ l) d = ap {B = List A} (λ z. x ∷ z) (tab-list l d)
+
+module _ {A B : Type 0} where
+  pub map-tab : (g : A → B) (f : ℕ → A) (n : ℕ) → map g (tab f n) ≡ tab (λ (k : ℕ). g (f k)) n
+  map-tab g f zero = refl
+  map-tab g f (suc n) = ap {B = List B} (λ z. g (f 0) ∷ z) (map-tab g (next f) n)
+
+  pub sum-tab : (p : A → ℕ) (f : ℕ → A) (q : B → ℕ) (g : ℕ → B) → ((k : ℕ) → p (f k) ≡ q (g k)) → (n : ℕ) → sumBy p (tab f n) ≡ sumBy q (tab g n)
+  sum-tab p f q g h zero = refl
+  sum-tab p f q g h (suc n) = omega (arith, h 0, sum-tab p (next f) q (next g) (λ k. h (suc k)) n)
 
 pub le-or-lt : (a b : ℕ) → (a ≤ b) ⊎ (b < a)
 le-or-lt zero b = inl (omega arith)

@@ -1,8 +1,8 @@
 // Parts of a lent slice, copied and cleared.
 ghost use mathlib.Core.Path.{_≡_};
-ghost use Prim.Native.Nat.{_+_, _≤_};
+ghost use Prim.Native.Nat.{_+_, _≤_, min};
 ghost use lib.ListN.{length, take, replicate};
-ghost use Rattle.words.specs.Records.{splice};
+ghost use Rattle.words.specs.Records.{splice, spliceCut};
 
 // The first n bytes of src, to dst from at on.
 pub fn copy_bytes(dst: &mut [u8], at: usize, src: &[u8], n: usize)
@@ -11,6 +11,21 @@ pub fn copy_bytes(dst: &mut [u8], at: usize, src: &[u8], n: usize)
 {
     let end = at + n;
     fill_bytes(&mut dst[at..end], &src[..n]);
+}
+
+// The bytes of src, to the room of n bytes from at on: cut at its end.
+pub fn copy_cut(dst: &mut [u8], at: usize, n: usize, src: &[u8])
+    requires { ⌜ at + n ≤ length (now dst) ⌝ }
+    ensures { λ _. ⌜ now (dst .exit) ≡ spliceCut at n (now (src .entry)) (now (dst .entry)) ⌝ }
+{
+    let m = least(src.len(), n);
+    copy_bytes(dst, at, src, m);
+}
+
+pub fn least(a: usize, b: usize) -> usize
+    ensures { λ r. ⌜ r ≡ min a b ⌝ }
+{
+    if a < b { a } else { b }
 }
 
 // n zero bytes, to dst from at on.

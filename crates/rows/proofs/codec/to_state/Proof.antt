@@ -10,7 +10,7 @@ returns-2 : tie.Need-returns-2
 returns-2 c = simp (ne-eqb _ _ ((c .before .before .if1) .left), eq-eqb _ _ ((c .before .if2) .taken), (c .to-flag3) .ensures)
 
 returns-3 : tie.Need-returns-3
-returns-3 c = simp (ne-eqb _ _ ((c .before .before .before .before .before .before .before .if1) .left), ne-eqb _ _ ((c .before .before .before .before .before .before .if2) .left), eq-eqb _ _ ((c .before .before .before .before .before .if3) .taken), (c .before .before .before .before .to-category) .ensures, (c .before .before .before .to-option-i32) .ensures, (c .before .before .to-option-u32) .ensures, (c .before .to-option-u322) .ensures, (c .to-flag4) .ensures)
+returns-3 c = simp (ne-eqb _ _ ((c .before .before .before .before .before .if1) .left), ne-eqb _ _ ((c .before .before .before .before .if2) .left), eq-eqb _ _ ((c .before .before .before .if3) .taken), (c .before .before .to-error) .ensures, (c .before .to-option-u32) .ensures, (c .to-flag4) .ensures)
 
 returns-4 : tie.Need-returns-4
 returns-4 c = simp (ne-eqb _ _ ((c .before .before .if1) .left), ne-eqb _ _ ((c .before .if2) .left), ne-eqb _ _ ((c .if3) .left))
@@ -25,9 +25,6 @@ to-state-spec =
     (λ c. search needs)
     (λ c κs. search needs)
     returns-2
-    (λ c κs. search needs)
-    (λ c. search needs)
-    (λ c κs. search needs)
     (λ c κs. search needs)
     (λ c κs. search needs)
     (λ c κs. search needs)

@@ -1,0 +1,7 @@
+use Rattle.rows.proofs.Scans.{device-is}
+use borrow.Author.Needs.{needs}
+use Rattle.rows.proofs.columns.device_at.Statement.{statement}
+use Rattle.rows.proofs.columns.device_at.Tie as tie
+
+pub device-at-spec : {M : Type 1} → statement M
+device-at-spec = tie.close (tie.spec (λ c κs. search needs) (λ c κs. search needs) (λ c κs. search needs) (λ c. search needs) (λ c. search device-is))

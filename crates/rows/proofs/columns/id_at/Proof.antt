@@ -1,0 +1,7 @@
+use Rattle.rows.proofs.Scans.{id-is}
+use borrow.Author.Needs.{needs}
+use Rattle.rows.proofs.columns.id_at.Statement.{statement}
+use Rattle.rows.proofs.columns.id_at.Tie as tie
+
+pub id-at-spec : {M : Type 1} → statement M
+id-at-spec = tie.close (tie.spec (λ c κs. search needs) (λ c κs. search needs) (λ c κs. search needs) (λ c. search id-is))
