@@ -1,15 +1,15 @@
 -- One law for each way out of a poll's reply: its premises are the facts in hand there. Assumes nothing.
-use Prim.Native.Nat.{ℕ, _*_, min}
+use Prim.Native.Nat.{ℕ, _*_}
 use mathlib.Core.Bool.{Bool, true, false, not, _&&_}
 use mathlib.Core.List.{List}
 use mathlib.Core.Path.{_≡_, refl, sym, ap, _∙_}
 use borrow.Author.Tests.{not-true, not-false}
-use lib.ListN.{length, getD, take}
+use lib.ListN.{length, getD}
 use Rattle.chain.specs.Lists.{foundIn}
 use Rattle.chain.specs.declared.Found.{Found}
 use Rattle.chain.specs.declared.Found.the-variants as found
 use Rattle.chain.proofs.Chain.{takes, passes}
-use Rattle.words.specs.Records.{splice}
+use Rattle.words.specs.Records.{spliceCut}
 use Rattle.words.specs.declared.OptionU32.{OptionU32}
 use Rattle.words.specs.declared.OptionU32.the-variants as u32
 use Rattle.words.specs.declared.OptionU64.{OptionU64}
@@ -128,10 +128,9 @@ module _ (at room : ℕ) (bytes : List ℕ) (stored : Bool) (area : List ℕ) wh
   unfolding storedIn
   data-left t = passes (List ℕ) _ _ _ _ (not-true stored t) refl
 
-  pub data-stored : (n : ℕ) (after : List ℕ) → not stored ≡ false → n ≡ min (length bytes) room → after ≡ splice at (take n bytes) area
-      → after ≡ storedIn at room bytes stored area
+  pub data-stored : (after : List ℕ) → not stored ≡ false → after ≡ spliceCut at room bytes area → after ≡ storedIn at room bytes stored area
   unfolding storedIn
-  data-stored n after t en ea = takes (List ℕ) _ _ _ _ (not-false stored t) (ea ∙ rw en)
+  data-stored after t ea = takes (List ℕ) _ _ _ _ (not-false stored t) ea
 
 -- the row takes the change
 module _ (j : Judgement) (idle : Session) (i at room : ℕ) (bytes : List ℕ) (store : Store) (area : List ℕ) (row : Row) (m : Step) (em : m ≡ changeRow row (j .change)) where

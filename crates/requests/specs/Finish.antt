@@ -1,13 +1,13 @@
 -- The backend's reply to a poll (document 01, "Request row"). Assumes nothing.
-use Prim.Native.Nat.{ℕ, _*_, min}
+use Prim.Native.Nat.{ℕ, _*_}
 use mathlib.Core.Bool.{Bool, true, false, not, _&&_}
 use mathlib.Core.List.{List}
-use lib.ListN.{length, getD, take}
+use lib.ListN.{length, getD}
 use Rattle.chain.specs.Chain.{_if_else_}
 use Rattle.chain.specs.Lists.{foundIn}
 use Rattle.chain.specs.declared.Found.{Found}
 use Rattle.chain.specs.declared.Found.the-variants as found
-use Rattle.words.specs.Records.{splice}
+use Rattle.words.specs.Records.{spliceCut}
 use Rattle.words.specs.declared.OptionU32.{OptionU32}
 use Rattle.words.specs.declared.OptionU32.the-variants as u32
 use Rattle.words.specs.declared.OptionU64.{OptionU64}
@@ -111,7 +111,7 @@ finishTo r store area = record { result = r; store = store; area = area }
 
 -- a valid completion's data overwrites the first of the row's bytes only, cut at the row's end
 unfoldable pub storedIn : ℕ → ℕ → List ℕ → Bool → List ℕ → List ℕ
-storedIn at room bytes stored area = splice at (take (min (length bytes) room) bytes) area if stored else area
+storedIn at room bytes stored area = spliceCut at room bytes area if stored else area
 
 -- the row takes the change; one that is not Pending, which no call leads to, is 41 and nothing else happens
 unfoldable pub settled : Step → Judgement → Session → ℕ → ℕ → ℕ → List ℕ → Store → List ℕ → FinishTo

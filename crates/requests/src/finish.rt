@@ -27,7 +27,7 @@ use words::OptionU32;
 use words::OptionU64;
 use words::slices;
 ghost use mathlib.Core.Path.{_≡_};
-ghost use Prim.Native.Nat.{_+_, _<_, _≤_, min};
+ghost use Prim.Native.Nat.{_+_, _<_, _≤_};
 ghost use lib.ListN.{length};
 ghost use Rattle.rows.specs.Table.{rowsOf};
 ghost use Rattle.rows.specs.Store.{storeOf};
@@ -169,12 +169,6 @@ fn judge(session: Session, row: Row, completion: BackendCompletion, given: u64) 
     }
 }
 
-fn least(a: usize, b: usize) -> usize
-    ensures { λ r. ⌜ r ≡ min a b ⌝ }
-{
-    if a < b { a } else { b }
-}
-
 // The data of a valid completion overwrites the row's first bytes, cut at the row's end.
 fn store_data(area: &mut [u8], at: usize, room: usize, bytes: &[u8], stored: bool)
     requires { ⌜ at + room ≤ length (now area) ⌝ }
@@ -183,8 +177,7 @@ fn store_data(area: &mut [u8], at: usize, room: usize, bytes: &[u8], stored: boo
     if !stored {
         return;
     }
-    let n = least(bytes.len(), room);
-    slices::copy_bytes(area, at, bytes, n);
+    slices::copy_cut(area, at, room, bytes);
 }
 
 // The one place where a poll's reply changes rows and area. `idle` is the session without the poll.
