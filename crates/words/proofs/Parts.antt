@@ -1,13 +1,43 @@
--- Laws of the loops that fill a slice from its front, and of a part of a slice that is put back. Assumes nothing.
+-- Laws of words that are read, of the loops that fill a slice from its front, and of a part of a slice that is put back. Assumes nothing.
 use Prim.Native.Nat.{ℕ, _+_, _-_, _<_, _≤_, min}
 use mathlib.Core.Path.{_≡_, sym, _∙_}
-use mathlib.Core.List.{List}
+use mathlib.Core.List.{List, []}
 use native.Mathlib.Omega.{arith}
+use native.Mathlib.Nat.{min-eq-left, min-eq-right}
 use native.Mathlib.Numerals.{add-one}
-use lib.ListN.{length, getD, take, set, replicate, length-replicate, getD-replicate}
-use lib.Seq.{take-suc, take-suc-set, take-all, length-take-le}
+use lib.Dec.{leb}
+use lib.ListN.{length, getD, take, drop, set, replicate, length-drop, length-replicate, getD-replicate, drop-of-length-le, List·getD-eq-default}
+use lib.Seq.{take-suc, take-suc-set, take-all, take-length, drop-length, length-take-le}
+use borrow.Author.Tests.{leb-true, leb-false}
 use borrow.Rule.Slice.PartMut.{putMid, midOf, post-is, mid-len}
+use Rattle.chain.proofs.Chain.{caseB}
 use Rattle.words.specs.Records.{splice, spliceCut}
+
+-- a word that is missing says 0
+pub missing : (w : List ℕ) (i : ℕ) → length w ≤ i → 0 ≡ getD w i 0
+missing w i h = sym (List·getD-eq-default w 0 h)
+
+module _ (l : List ℕ) (n : ℕ) where
+  pub rest-some : take (length l - n) (drop n l) ≡ drop n l
+  rest-some = take-all (length l - n) (drop n l) (omega (arith, length-drop n l))
+
+  pub rest-none : length l ≤ n → [] ≡ drop n l
+  rest-none h = sym (drop-of-length-le l h)
+
+  pub first-all : length l ≤ n → l ≡ take n l
+  first-all h = sym (take-all n l h)
+
+-- a number that is cut at the length takes and drops as much
+module _ {A : Type 0} (n : ℕ) (l : List A) where
+  pub take-cut : take (min n (length l)) l ≡ take n l
+  take-cut = caseB (leb n (length l))
+      (λ e. rw (min-eq-left (leb-true n (length l) e)))
+      (λ e. let h : length l ≤ n = omega (arith, leb-false n (length l) e) in rw (min-eq-right h, take-length l, take-all n l h))
+
+  pub drop-cut : drop (min n (length l)) l ≡ drop n l
+  drop-cut = caseB (leb n (length l))
+      (λ e. rw (min-eq-left (leb-true n (length l) e)))
+      (λ e. let h : length l ≤ n = omega (arith, leb-false n (length l) e) in rw (min-eq-right h, drop-length l, drop-of-length-le l h))
 
 module _ {A : Type 0} where
   -- the first k of the n elements of l are those of s

@@ -1,8 +1,38 @@
-// Parts of a lent slice, copied and cleared.
+// Parts of a lent slice, read, copied and cleared.
 ghost use mathlib.Core.Path.{_≡_};
 ghost use Prim.Native.Nat.{_+_, _≤_, min};
-ghost use lib.ListN.{length, take, replicate};
+ghost use lib.ListN.{length, getD, take, drop, replicate};
 ghost use Rattle.words.specs.Records.{splice, spliceCut};
+
+// Word i; 0 where there is none.
+pub fn word_at(w: &[u64], i: usize) -> u64
+    ensures { λ r. ⌜ r ≡ getD (now (w .entry)) i 0 ⌝ }
+{
+    if i < w.len() {
+        return w[i];
+    }
+    0
+}
+
+// The words from n on; none where there are fewer.
+pub fn rest(w: &[u64], n: usize) -> &[u64]
+    ensures { λ r. ⌜ now r ≡ drop n (now (w .entry)) ⌝ }
+{
+    if n < w.len() {
+        return &w[n..];
+    }
+    &w[0..0]
+}
+
+// The first n words; all where there are fewer.
+pub fn first(w: &[u64], n: usize) -> &[u64]
+    ensures { λ r. ⌜ now r ≡ take n (now (w .entry)) ⌝ }
+{
+    if n < w.len() {
+        return &w[..n];
+    }
+    w
+}
 
 // The first n bytes of src, to dst from at on.
 pub fn copy_bytes(dst: &mut [u8], at: usize, src: &[u8], n: usize)
