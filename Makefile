@@ -1,17 +1,15 @@
 # make run: proves and runs the programs `examples` and `life`; make test: the merge gate; make fmt: lays every file out.
+SHELL := /bin/bash
+.SHELLFLAGS := -o pipefail -c
 .PHONY: run test fmt staticlib oracle compare
 
 run:
-	rt check examples life
+	@rt check examples life | .ci/progress examples life
 	./target/bin/examples
 	./target/bin/life
 
-# `rt ci` removes target/ and proves all again, so it comes last: the static library is proved and built for the host's part before.
 test:
-	rt fmt --check
-	$(MAKE) --no-print-directory staticlib
-	$(MAKE) --no-print-directory -C host check
-	rt ci
+	.ci/run
 
 fmt:
 	rt fmt
