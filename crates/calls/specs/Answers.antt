@@ -4,18 +4,22 @@ use Rattle.models.specs.declared.Verdict.the-variants as verdict
 use Rattle.session.specs.declared.Session.{Session}
 use Rattle.session.specs.declared.lifecycle.Opened.{Opened}
 use Rattle.session.specs.declared.lifecycle.Opened.the-variants as opened
-use Rattle.requests.specs.declared.SubmitAnswer.{SubmitAnswer}
-use Rattle.requests.specs.declared.SubmitAnswer.the-variants as submit
-use Rattle.requests.specs.declared.PlanAnswer.{PlanAnswer}
-use Rattle.requests.specs.declared.PlanAnswer.the-variants as plan
-use Rattle.requests.specs.declared.ReportAnswer.{ReportAnswer}
-use Rattle.requests.specs.declared.ReportAnswer.the-variants as report
-use Rattle.requests.specs.declared.PollAnswer.{PollAnswer}
-use Rattle.requests.specs.declared.PollAnswer.the-variants as poll
-use Rattle.requests.specs.declared.NextReport.{NextReport}
-use Rattle.requests.specs.declared.NextReport.the-variants as next
-use Rattle.requests.specs.declared.Tally.{Tally}
-use Rattle.requests.specs.declared.Tally.the-variants as tally
+use Rattle.submissions.specs.declared.SubmitAnswer.{SubmitAnswer}
+use Rattle.submissions.specs.declared.SubmitAnswer.the-variants as submit
+use Rattle.submissions.specs.declared.PlanAnswer.{PlanAnswer}
+use Rattle.submissions.specs.declared.PlanAnswer.the-variants as plan
+use Rattle.reports.specs.declared.ReportAnswer.{ReportAnswer}
+use Rattle.reports.specs.declared.ReportAnswer.the-variants as report
+use Rattle.polls.specs.declared.PollAnswer.{PollAnswer}
+use Rattle.polls.specs.declared.PollAnswer.the-variants as poll
+use Rattle.reports.specs.declared.NextReport.{NextReport}
+use Rattle.reports.specs.declared.NextReport.the-variants as next
+use Rattle.reports.specs.declared.Tally.{Tally}
+use Rattle.reports.specs.declared.Tally.the-variants as tally
+use Rattle.recovery.specs.declared.BeginAnswer.{BeginAnswer}
+use Rattle.recovery.specs.declared.BeginAnswer.the-variants as begin
+use Rattle.recovery.specs.declared.RecoveryAnswer.{RecoveryAnswer}
+use Rattle.recovery.specs.declared.RecoveryAnswer.the-variants as recovery
 use Rattle.calls.specs.declared.Answer.{Answer}
 use Rattle.calls.specs.declared.Answer.the-variants as answer
 use Rattle.calls.specs.declared.Outcome.{Outcome}
@@ -57,3 +61,11 @@ ofNext (next.Report x) = answer.Report x
 abbrev pub ofTally : Tally → Answer
 ofTally (tally.Refused r) = answer.Refused r
 ofTally (tally.Number n) = answer.Number n
+
+abbrev pub ofBegin : BeginAnswer → Answer
+ofBegin (begin.Refused r) = answer.Refused r
+ofBegin (begin.Recover x) = answer.Recovering x
+
+abbrev pub ofRecovery : RecoveryAnswer → Answer
+ofRecovery (recovery.Refused r) = answer.Refused r
+ofRecovery (recovery.Report x) = answer.Recovered x

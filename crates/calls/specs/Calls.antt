@@ -12,9 +12,10 @@ use Rattle.models.specs.declared.RequestSpec.{RequestSpec}
 use Rattle.bus.specs.declared.PortRow.{PortRow}
 use Rattle.session.specs.declared.lifecycle.AcquireReply.{AcquireReply}
 use Rattle.session.specs.declared.lifecycle.Opening.{Opening}
-use Rattle.requests.specs.declared.OptionId.{OptionId}
-use Rattle.requests.specs.declared.PollReply.{PollReply}
-use Rattle.requests.specs.declared.SubmitReply.{SubmitReply}
+use Rattle.reports.specs.declared.OptionId.{OptionId}
+use Rattle.polls.specs.declared.PollReply.{PollReply}
+use Rattle.submissions.specs.declared.SubmitReply.{SubmitReply}
+use Rattle.recovery.specs.declared.RecoveryReply.{RecoveryReply}
 
 pub data Call : Type 0 where
   Open : Opening → Call
@@ -30,6 +31,10 @@ pub data Call : Type 0 where
   ReplySubmit : SubmitReply → Call
   Poll : RequestId → Call
   ReplyPoll : PollReply → List ℕ → Call
+  AbortRequest : RequestId → Call
+  ResetEndpoint : RequestId → Bool → Call
+  -- tokens of completed requests, their completions' words, tokens of aborted requests, the data area
+  ReplyRecovery : RecoveryReply → List ℕ → List ℕ → List ℕ → List ℕ → Call
   Cancel : RequestId → Call
   Timeout : RequestId → Call
   Reclaim : RequestId → Call

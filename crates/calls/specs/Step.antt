@@ -15,16 +15,21 @@ use Rattle.session.specs.Lifecycle.{OpenedTo, CalledTo, openOf, acquireOf, init
 use Rattle.session.specs.Place.{setDeviceOf, setPortOf, setEndpointsOf, setReconcileOf}
 use Rattle.session.specs.declared.Called.{Called}
 use Rattle.session.specs.declared.Session.{Session}
-use Rattle.requests.specs.Answers.{ReportedTo}
-use Rattle.requests.specs.Submit.{SubmitTo, PlanTo, storeFits, submitOf, submitPlanOf}
-use Rattle.requests.specs.Reply.{submitReplyOf}
-use Rattle.requests.specs.Poll.{pollOf}
-use Rattle.requests.specs.Finish.{FinishTo, finishOf}
-use Rattle.requests.specs.Change.{changeOf}
-use Rattle.requests.specs.Status.{statusOf, nextOf, shownCount, completedPart, heldCountOf, heldBytesOf}
-use Rattle.requests.specs.declared.Polled.{Polled}
-use Rattle.calls.specs.Calls.{Call, Open, SetDevice, SetPort, SetEndpoints, SetReconcile, Acquire, Initialize, Close, Submit, SubmitPlan, ReplySubmit, Poll, ReplyPoll, Cancel, Timeout, Reclaim, Status, Reports, CountReports, CompletedBytes, HeldCount, HeldBytes}
-use Rattle.calls.specs.Answers.{outcome, ofOpened, ofVerdict, ofSubmit, ofPlan, ofReport, ofPoll, ofNext, ofTally}
+use Rattle.reports.specs.Answers.{ReportedTo}
+use Rattle.submissions.specs.Submit.{SubmitTo, PlanTo, storeFits, submitOf, submitPlanOf}
+use Rattle.submissions.specs.Reply.{submitReplyOf}
+use Rattle.polls.specs.Poll.{pollOf}
+use Rattle.polls.specs.Finish.{FinishTo, finishOf}
+use Rattle.reports.specs.Change.{changeOf}
+use Rattle.reports.specs.Status.{statusOf, nextOf, shownCount, completedPart, heldCountOf, heldBytesOf}
+use Rattle.polls.specs.declared.Polled.{Polled}
+use Rattle.session.specs.declared.RecoveryKind.the-variants as kind
+use Rattle.recovery.specs.Begin.{beginOf}
+use Rattle.recovery.specs.Reply.{RecoveredTo, recoveryReplyOf}
+use Rattle.recovery.specs.declared.Begun.{Begun}
+use Rattle.recovery.specs.declared.RecoveryReply.{RecoveryReply}
+use Rattle.calls.specs.Calls.{Call, Open, SetDevice, SetPort, SetEndpoints, SetReconcile, Acquire, Initialize, Close, Submit, SubmitPlan, ReplySubmit, Poll, ReplyPoll, AbortRequest, ResetEndpoint, ReplyRecovery, Cancel, Timeout, Reclaim, Status, Reports, CountReports, CompletedBytes, HeldCount, HeldBytes}
+use Rattle.calls.specs.Answers.{outcome, ofOpened, ofVerdict, ofSubmit, ofPlan, ofReport, ofPoll, ofNext, ofTally, ofBegin, ofRecovery}
 use Rattle.calls.specs.declared.Answer.{Answer}
 use Rattle.calls.specs.declared.Answer.the-variants as answer
 use Rattle.calls.specs.declared.Outcome.{Outcome}
@@ -87,6 +92,16 @@ polls o w = after (outcome (ofPoll (o .answer)) (o .session)) (w .bus) (w .store
 abbrev pub finishes : FinishTo → World → After
 finishes o w = after (outcome (ofReport (o .result .answer)) (o .result .session)) (w .bus) (o .store) (o .area)
 
+abbrev pub begins : Begun → World → After
+begins o w = after (outcome (ofBegin (o .answer)) (o .session)) (w .bus) (w .store) (w .area)
+
+abbrev pub recovers : RecoveredTo → World → After
+recovers o w = after (outcome (ofRecovery (o .result .answer)) (o .result .session)) (w .bus) (o .store) (o .area)
+
+abbrev pub recoversOf : RecoveryReply → List ℕ → List ℕ → List ℕ → List ℕ → World → RecoveredTo
+recoversOf reply tokens words aborted bytes w =
+    recoveryReplyOf (w .session) (rowsFitIn w && areaFitsIn w) reply tokens words aborted bytes (w .store) (w .area)
+
 -- an answer that leaves all as it is
 abbrev pub reads : Answer → World → After
 reads a w = after (outcome a (w .session)) (w .bus) (w .store) (w .area)
@@ -112,6 +127,9 @@ stepOf (SubmitPlan q bytes first) w = plans (submitPlanOf (w .session) (storeFit
 stepOf (ReplySubmit reply) w = reports (submitReplyOf (w .session) (rowsFitIn w) reply (w .store)) w
 stepOf (Poll id) w = polls (pollOf (w .session) (rowsFitIn w) id (w .store .rows)) w
 stepOf (ReplyPoll reply bytes) w = finishes (finishOf (w .session) (rowsFitIn w && areaFitsIn w) reply bytes (w .store) (w .area)) w
+stepOf (AbortRequest id) w = begins (beginOf (w .session) (rowsFitIn w) id kind.Abort (w .store .rows)) w
+stepOf (ResetEndpoint id preserve) w = begins (beginOf (w .session) (rowsFitIn w) id (kind.Reset preserve) (w .store .rows)) w
+stepOf (ReplyRecovery reply tokens words aborted bytes) w = recovers (recoversOf reply tokens words aborted bytes w) w
 stepOf (Cancel id) w = changes id change.LogicalCancel w
 stepOf (Timeout id) w = changes id change.Timeout w
 stepOf (Reclaim id) w = changes id change.Reclaim w

@@ -1,16 +1,14 @@
 // Every call of the library with one type of answer, so that one C function and one theorem over lists of calls serve them all.
 use models::Refusal;
 use models::RequestReport;
-use requests::Part;
-use requests::PlanSubmission;
-use requests::Submission;
+use recovery::AbortReport;
+use recovery::Recovery;
+use reports::Part;
 use session::Session;
+use submissions::PlanSubmission;
+use submissions::Submission;
 
 pub mod answers;
-pub mod arguments;
-pub mod encode;
-pub mod form;
-pub mod state;
 
 // What a call answers.
 pub enum Answer {
@@ -23,6 +21,8 @@ pub enum Answer {
     Asked(u64),
     Number(u64),
     Bytes(Part),
+    Recovering(Recovery),
+    Recovered(AbortReport),
 }
 
 // An answer with the session after it.

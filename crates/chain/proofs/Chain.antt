@@ -57,10 +57,6 @@ pub not-not : (a : Bool) → not (not a) ≡ a
 not-not true = refl
 not-not false = refl
 
-pub and-left : (a b : Bool) → (a && b) ≡ false → a ≡ true → b ≡ false
-and-left true b e f = e
-and-left false b e f = cc
-
 pub ruleset chain = (takes, passes, eq-eqb, ne-eqb, eq-not, ne-not, lt-ltb, le-ltb, le-leb, lt-leb, through, not-through)
 
 -- what holds of both ways holds of the chain

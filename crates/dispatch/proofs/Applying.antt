@@ -1,74 +1,126 @@
 -- One law for each group of calls, and for a call that was answered: its premises are the facts in hand there. Assumes nothing.
 use Prim.Native.Nat.{ℕ, _<_, _≤_}
 use mathlib.Core.Bool.{Bool, false, not}
-use mathlib.Core.List.{List}
-use mathlib.Core.Path.{_≡_, ap, _∙_}
+use mathlib.Core.List.{List, []}
+use mathlib.Core.Path.{_≡_, refl, sym, ap, _∙_}
 use lib.ListN.{length, getD}
-use Rattle.chain.proofs.Chain.{chain}
+use Rattle.chain.proofs.Chain.{chain, if-all}
+use Rattle.words.specs.Records.{splice}
 use Rattle.rows.specs.Store.{Store}
 use Rattle.bus.specs.Tables.{Bus}
 use Rattle.session.specs.declared.Session.{Session}
-use Rattle.calls.specs.Encode.{answerWords, written}
-use Rattle.calls.specs.Form.{isCall}
-use Rattle.calls.specs.State.{Kept, keptOf, keptAs, sessionOf}
+use Rattle.calls.specs.Calls.{Call}
+use Rattle.answer_words.specs.Encode.{answerWords, written}
+use Rattle.call_words.specs.Form.{isCall}
+use Rattle.answer_words.specs.Lists.{listsOf}
+use Rattle.session_words.specs.State.{Kept, keptOf, keptAs, sessionOf}
 use Rattle.calls.specs.Step.{World, world, After, after, stepOf}
 use Rattle.calls.specs.declared.Outcome.{Outcome}
-use Rattle.dispatch.specs.Apply.{StepsRows, StepsStore, done, answered, applyOf}
-use Rattle.dispatch.specs.Decode.{placingOf, movingOf, submissionOf, replyingOf, changingOf, reportingOf, callOf}
-use Rattle.dispatch.proofs.Steps.{said}
+use Rattle.answer_words.proofs.Room.{lists-put}
+use Rattle.dispatch.specs.Apply.{StepsRows, StepsStore, RunsStore, Ran, ran, runOf, done, answered, applyOf}
+use Rattle.dispatch.specs.Decode.{placingOf, movingOf, submissionOf, replyingOf, changingOf, reportingOf, recoveringOf, callOf}
+use Rattle.dispatch.proofs.Steps.{unlisted, ran-said}
 
-module _ (n : ℕ) (w bytes : List ℕ) (en : n ≡ getD w 0 0) where
+-- ---- calls without lists
+abbrev Unlisted : World → Call → Type 0
+Unlisted v c = listsOf c v ≡ []
+
+module _ (n : ℕ) (w bytes : List ℕ) (v : World) where
+  placing-none : Unlisted v (placingOf n w)
+  unfolding placingOf listsOf
+  placing-none = if-all (Unlisted v) _ _ _ refl (if-all (Unlisted v) _ _ _ refl (if-all (Unlisted v) _ _ _ refl (if-all (Unlisted v) _ _ _ refl refl)))
+
+  moving-none : Unlisted v (movingOf n w)
+  unfolding movingOf listsOf
+  moving-none = if-all (Unlisted v) _ _ _ refl (if-all (Unlisted v) _ _ _ refl refl)
+
+  submission-none : Unlisted v (submissionOf n w bytes)
+  unfolding submissionOf listsOf
+  submission-none = if-all (Unlisted v) _ _ _ refl refl
+
+  replying-none : Unlisted v (replyingOf n w bytes)
+  unfolding replyingOf listsOf
+  replying-none = if-all (Unlisted v) _ _ _ refl (if-all (Unlisted v) _ _ _ refl refl)
+
+  changing-none : Unlisted v (changingOf n w)
+  unfolding changingOf listsOf
+  changing-none = if-all (Unlisted v) _ _ _ refl (if-all (Unlisted v) _ _ _ refl refl)
+
+  reporting-none : Unlisted v (reportingOf n w)
+  unfolding reportingOf listsOf
+  reporting-none =
+      if-all (Unlisted v) _ _ _ refl
+      (if-all (Unlisted v) _ _ _ refl (if-all (Unlisted v) _ _ _ refl (if-all (Unlisted v) _ _ _ refl (if-all (Unlisted v) _ _ _ refl refl))))
+
+-- ---- the call that the words say; l is lent for lists
+module _ (n : ℕ) (w bytes l : List ℕ) (en : n ≡ getD w 0 0) where
   -- 0 to 4
-  pub place-said : (a : After) (v : World) → n ≤ 4 → a ≡ stepOf (placingOf n w) v → a ≡ stepOf (callOf w bytes) v
+  pub place-said : (a : After) (v : World) → n ≤ 4 → a ≡ stepOf (placingOf n w) v → ran a l ≡ runOf (callOf w bytes) v l
   unfolding callOf
-  place-said a v t h = said (placingOf n w) (callOf w bytes) v a (rw (← en) (search chain depth 20)) h
+  place-said a v t h = unlisted (placingOf n w) (callOf w bytes) v a l (rw (← en) (search chain depth 20)) (placing-none n w bytes v) h
 
   module _ (n4 : 4 < n) where
     -- 5 to 7
     pub move-said : (r : Outcome) (next store : Store) (s : Session) (b : Bus) (area : List ℕ) → n ≤ 7 → StepsRows r next (movingOf n w) s store
-        → after r b next area ≡ stepOf (callOf w bytes) (world s b store area)
+        → ran (after r b next area) l ≡ runOf (callOf w bytes) (world s b store area) l
     unfolding callOf
     move-said r next store s b area t h =
-        said (movingOf n w) (callOf w bytes) (world s b store area) _ (rw (← en) (search chain depth 20)) (h b area)
+        let v = world s b store area in
+        unlisted (movingOf n w) (callOf w bytes) v _ l (rw (← en) (search chain depth 20)) (moving-none n w bytes v) (h b area)
 
     module _ (n7 : 7 < n) where
       -- 8 and 9
-      pub submit-said : (a : After) (v : World) → n ≤ 9 → a ≡ stepOf (submissionOf n w bytes) v → a ≡ stepOf (callOf w bytes) v
+      pub submit-said : (a : After) (v : World) → n ≤ 9 → a ≡ stepOf (submissionOf n w bytes) v → ran a l ≡ runOf (callOf w bytes) v l
       unfolding callOf
       submit-said a v t h =
-          said (submissionOf n w bytes) (callOf w bytes) v a (rw (← en) (search chain depth 20)) h
+          unlisted (submissionOf n w bytes) (callOf w bytes) v a l (rw (← en) (search chain depth 20)) (submission-none n w bytes v) h
 
       module _ (n9 : 9 < n) (r : Outcome) (next store : Store) (s : Session) (b : Bus) where
         -- 10 to 12
         pub reply-said : (left area : List ℕ) → n ≤ 12 → StepsStore r next left (replyingOf n w bytes) s store area
-            → after r b next left ≡ stepOf (callOf w bytes) (world s b store area)
+            → ran (after r b next left) l ≡ runOf (callOf w bytes) (world s b store area) l
         unfolding callOf
         reply-said left area t h =
-            said (replyingOf n w bytes) (callOf w bytes) (world s b store area) _ (rw (← en) (search chain depth 20)) (h b)
+            let v = world s b store area in
+            unlisted (replyingOf n w bytes) (callOf w bytes) v _ l (rw (← en) (search chain depth 20)) (replying-none n w bytes v) (h b)
 
         module _ (n12 : 12 < n) (area : List ℕ) where
+          abbrev handed : World
+          handed = world s b store area
+
           -- 13 to 15
-          pub change-said : n ≤ 15 → StepsRows r next (changingOf n w) s store → after r b next area ≡ stepOf (callOf w bytes) (world s b store area)
+          pub change-said : n ≤ 15 → StepsRows r next (changingOf n w) s store → ran (after r b next area) l ≡ runOf (callOf w bytes) handed l
           unfolding callOf
           change-said t h =
-              said (changingOf n w) (callOf w bytes) (world s b store area) _ (rw (← en) (search chain depth 20)) (h b area)
+              unlisted (changingOf n w) (callOf w bytes) handed _ l (rw (← en) (search chain depth 20)) (changing-none n w bytes handed) (h b area)
 
-          -- 16 to 21
-          pub report-said : 15 < n → StepsStore r next area (reportingOf n w) s store area → after r b next area ≡ stepOf (callOf w bytes) (world s b store area)
-          unfolding callOf
-          report-said n15 h =
-              said (reportingOf n w) (callOf w bytes) (world s b store area) _ (rw (← en) (search chain depth 20)) (h b)
+          module _ (n15 : 15 < n) where
+            -- 16 to 21
+            pub report-said : n ≤ 21 → StepsStore r next area (reportingOf n w) s store area → ran (after r b next area) l ≡ runOf (callOf w bytes) handed l
+            unfolding callOf
+            report-said t h =
+                unlisted (reportingOf n w) (callOf w bytes) handed _ l (rw (← en) (search chain depth 20)) (reporting-none n w bytes handed) (h b)
 
--- what was lent before is s, b, store, area and out, and after it s', b', store', area' and out'
-pub apply-done : (s call bytes out s' out' area area' : List ℕ) (b b' : Bus) (store store' : Store) (t : Bool) (before : Session) (x : Outcome)
-    → t ≡ isCall call → not t ≡ false → length s ≡ 26 → 32 ≤ length out → before ≡ sessionOf s
-    → after x b' store' area' ≡ stepOf (callOf call bytes) (world before b store area) → keptOf s' ≡ keptAs s (x .session)
-    → out' ≡ written (answerWords (x .answer)) out → done 0 (keptOf s') b' store' area' out' ≡ applyOf s b store area call bytes out
-unfolding applyOf
-apply-done s call bytes out s' out' area area' b b' store store' t before x et nt n k es h ek eo =
-    let z : done 0 (keptOf s') b' store' area' out' ≡ answered (stepOf (callOf call bytes) (world (sessionOf s) b store area)) s out =
-    ap (λ (o : Kept). done 0 o b' store' area' out') ek
-    ∙ ap (λ (o : List ℕ). done 0 (keptAs s (x .session)) b' store' area' o) eo
-    ∙ ap (λ (o : After). answered o s out) h
-    ∙ ap (λ (o : Session). answered (stepOf (callOf call bytes) (world o b store area)) s out) es in
+            -- 22 to 24
+            pub recover-said : (left m : List ℕ) → 21 < n → RunsStore r next left m (recoveringOf n w bytes) s store area l
+                → ran (after r b next left) m ≡ runOf (callOf w bytes) handed l
+            unfolding callOf
+            recover-said left m n21 h = ran-said (recoveringOf n w bytes) (callOf w bytes) handed _ l (rw (← en) (search chain depth 20)) (h b)
+
+-- what was lent before is s, b, store, area, out and l, and after it s', b', store', area', out' and l'
+pub apply-done : (s call bytes out l s' out' l' area area' : List ℕ) (b b' : Bus) (store store' : Store) (t : Bool) (before : Session) (x : Outcome)
+    → t ≡ isCall call → not t ≡ false → length s ≡ 26 → 32 ≤ length out → 386 ≤ length l → before ≡ sessionOf s
+    → ran (after x b' store' area') l' ≡ runOf (callOf call bytes) (world before b store area) l → keptOf s' ≡ keptAs s (x .session)
+    → out' ≡ written (answerWords (x .answer)) out → done 0 (keptOf s') b' store' area' out' l' ≡ applyOf s b store area call bytes out l
+unfolding runOf applyOf
+apply-done s call bytes out l s' out' l' area area' b b' store store' t before x et nt n k k' es h ek eo =
+    let c = callOf call bytes in
+    let v = world before b store area in
+    let el : l' ≡ splice 0 (listsOf c v) l = ap (λ (o : Ran). o .lists) h ∙ sym (lists-put c v l k') in
+    let z : done 0 (keptOf s') b' store' area' out' l' ≡ answered c (world (sessionOf s) b store area) s out l =
+    ap (λ (o : Kept). done 0 o b' store' area' out' l') ek
+    ∙ ap (λ (o : List ℕ). done 0 (keptAs s (x .session)) b' store' area' o l') eo
+    ∙ ap (λ (o : List ℕ). done 0 (keptAs s (x .session)) b' store' area' (written (answerWords (x .answer)) out) o) el
+    ∙ ap (λ (o : After). done 0 (keptAs s (o .result .session)) (o .bus) (o .store) (o .area) (written (answerWords (o .result .answer)) out) (splice 0 (listsOf c v) l)) (ap (λ (o : Ran). o .left) h)
+    ∙ ap (λ (o : Session). answered c (world o b store area) s out l) es in
     search (chain, z) depth 20

@@ -10,12 +10,12 @@ use Rattle.ledger.specs.declared.rules.Change.{Change}
 use Rattle.ledger.specs.declared.rules.Change.the-variants as change
 use Rattle.session.specs.Sizes.{rowsFit}
 use Rattle.session.specs.declared.Session.{Session}
-use Rattle.requests.specs.Answers.{reportedTo}
-use Rattle.requests.specs.Change.{changeOf}
-use Rattle.requests.specs.declared.Reported.{Reported}
+use Rattle.reports.specs.Answers.{reportedTo}
+use Rattle.reports.specs.Change.{changeOf}
+use Rattle.reports.specs.declared.Reported.{Reported}
 use Rattle.calls.specs.Answers.{outcome, ofReport}
 use Rattle.calls.specs.Calls.{Cancel, Timeout, Reclaim}
-use Rattle.calls.specs.State.{idAt}
+use Rattle.session_words.specs.State.{idAt}
 use Rattle.calls.specs.Step.{world, stepOf}
 use Rattle.calls.specs.declared.Outcome.{Outcome}
 use Rattle.dispatch.specs.Apply.{StepsRows}

@@ -1,8 +1,8 @@
 pub mod Applying
 pub mod Changing
 pub mod Moving
-pub mod Parts
 pub mod Placing
+pub mod Recovering
 pub mod Replying
 pub mod Reporting
 pub mod Steps

@@ -14,7 +14,7 @@ use Rattle.session.specs.declared.Called.{Called}
 use Rattle.session.specs.declared.Session.{Session}
 use Rattle.session.specs.declared.lifecycle.AcquireReply.{AcquireReply}
 use Rattle.calls.specs.Answers.{outcome, ofVerdict}
-use Rattle.calls.specs.Arguments.{acquireReplyOf, optionErrorAt}
+use Rattle.call_words.specs.Arguments.{acquireReplyOf, optionErrorAt}
 use Rattle.calls.specs.Calls.{Acquire, Initialize, Close}
 use Rattle.calls.specs.Step.{world, after, closes, stepOf}
 use Rattle.calls.specs.declared.Outcome.{Outcome}

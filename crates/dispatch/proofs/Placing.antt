@@ -19,7 +19,7 @@ use Rattle.session.specs.declared.Session.{Session}
 use Rattle.session.specs.declared.lifecycle.Opened.{Opened}
 use Rattle.session.specs.declared.lifecycle.Opening.{Opening}
 use Rattle.calls.specs.Answers.{outcome, ofOpened, ofVerdict}
-use Rattle.calls.specs.Arguments.{openingOf, snapshotOf, portRowOf}
+use Rattle.call_words.specs.Arguments.{openingOf, snapshotOf, portRowOf}
 use Rattle.calls.specs.Calls.{Open, SetDevice, SetPort, SetEndpoints, SetReconcile}
 use Rattle.calls.specs.Step.{World, world, After, after, opens, places, stepOf}
 use Rattle.calls.specs.declared.Outcome.{Outcome}

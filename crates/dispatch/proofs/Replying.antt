@@ -10,18 +10,18 @@ use Rattle.rows.specs.Store.{storeOf}
 use Rattle.rows.specs.Table.{rowsOf}
 use Rattle.session.specs.Sizes.{rowsFit, areaFits}
 use Rattle.session.specs.declared.Session.{Session}
-use Rattle.requests.specs.Answers.{reportedTo}
-use Rattle.requests.specs.Finish.{FinishTo, finishTo, finishOf}
-use Rattle.requests.specs.Poll.{pollOf}
-use Rattle.requests.specs.Reply.{submitReplyOf}
-use Rattle.requests.specs.declared.Polled.{Polled}
-use Rattle.requests.specs.declared.PollReply.{PollReply}
-use Rattle.requests.specs.declared.Reported.{Reported}
-use Rattle.requests.specs.declared.SubmitReply.{SubmitReply}
+use Rattle.reports.specs.Answers.{reportedTo}
+use Rattle.polls.specs.Finish.{FinishTo, finishTo, finishOf}
+use Rattle.polls.specs.Poll.{pollOf}
+use Rattle.submissions.specs.Reply.{submitReplyOf}
+use Rattle.polls.specs.declared.Polled.{Polled}
+use Rattle.polls.specs.declared.PollReply.{PollReply}
+use Rattle.reports.specs.declared.Reported.{Reported}
+use Rattle.submissions.specs.declared.SubmitReply.{SubmitReply}
 use Rattle.calls.specs.Answers.{outcome, ofReport, ofPoll}
-use Rattle.calls.specs.Arguments as arguments
+use Rattle.call_words.specs.Arguments as arguments
 use Rattle.calls.specs.Calls.{ReplySubmit, Poll, ReplyPoll}
-use Rattle.calls.specs.State.{idAt}
+use Rattle.session_words.specs.State.{idAt}
 use Rattle.calls.specs.Step.{world, after, polls, finishes, stepOf}
 use Rattle.calls.specs.declared.Outcome.{Outcome}
 use Rattle.dispatch.specs.Apply.{StepsStore}

@@ -11,16 +11,16 @@ use Rattle.rows.specs.Table.{rowsOf}
 use Rattle.bus.specs.Tables.{Bus}
 use Rattle.session.specs.Sizes.{rowsFit, areaFits}
 use Rattle.session.specs.declared.Session.{Session}
-use Rattle.requests.specs.Status.{statusOf, nextOf, shownCount, completedPart, heldCountOf, heldBytesOf}
-use Rattle.requests.specs.declared.NextReport.{NextReport}
-use Rattle.requests.specs.declared.OptionId.{OptionId}
-use Rattle.requests.specs.declared.Part.{Part}
-use Rattle.requests.specs.declared.ReportAnswer.{ReportAnswer}
-use Rattle.requests.specs.declared.Tally.{Tally}
+use Rattle.reports.specs.Status.{statusOf, nextOf, shownCount, completedPart, heldCountOf, heldBytesOf}
+use Rattle.reports.specs.declared.NextReport.{NextReport}
+use Rattle.reports.specs.declared.OptionId.{OptionId}
+use Rattle.reports.specs.declared.Part.{Part}
+use Rattle.reports.specs.declared.ReportAnswer.{ReportAnswer}
+use Rattle.reports.specs.declared.Tally.{Tally}
 use Rattle.calls.specs.Answers.{outcome, ofReport, ofNext, ofTally}
-use Rattle.calls.specs.Arguments.{optionIdOf}
+use Rattle.call_words.specs.Arguments.{optionIdOf}
 use Rattle.calls.specs.Calls.{Call, Status, Reports, CountReports, CompletedBytes, HeldCount, HeldBytes}
-use Rattle.calls.specs.State.{idAt}
+use Rattle.session_words.specs.State.{idAt}
 use Rattle.calls.specs.Step.{world, reads, stepOf}
 use Rattle.calls.specs.declared.Answer.{Answer}
 use Rattle.calls.specs.declared.Answer.the-variants as answer

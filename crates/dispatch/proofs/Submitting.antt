@@ -12,11 +12,11 @@ use Rattle.models.specs.declared.RequestSpec.{RequestSpec}
 use Rattle.rows.specs.Store.{storeOf}
 use Rattle.bus.specs.Tables.{busOf}
 use Rattle.session.specs.declared.Session.{Session}
-use Rattle.requests.specs.Submit.{submitTo, planTo, storeFits, submitOf, submitPlanOf}
-use Rattle.requests.specs.declared.PlanSubmitted.{PlanSubmitted}
-use Rattle.requests.specs.declared.Submitted.{Submitted}
+use Rattle.submissions.specs.Submit.{submitTo, planTo, storeFits, submitOf, submitPlanOf}
+use Rattle.submissions.specs.declared.PlanSubmitted.{PlanSubmitted}
+use Rattle.submissions.specs.declared.Submitted.{Submitted}
 use Rattle.calls.specs.Answers.{outcome, ofSubmit, ofPlan}
-use Rattle.calls.specs.Arguments.{readingAt, specOf, planOf}
+use Rattle.call_words.specs.Arguments.{readingAt, specOf, planOf}
 use Rattle.calls.specs.Calls.{Submit, SubmitPlan}
 use Rattle.calls.specs.Step.{world, after, submits, plans, stepOf}
 use Rattle.calls.specs.declared.Outcome.{Outcome}

@@ -5,9 +5,9 @@ use lib.ListN.{getD, drop}
 use lib.Dec.{eqb, leb}
 use Rattle.chain.specs.Chain.{_if_else_}
 use Rattle.words.specs.Words.{flagOf, optionU64Of}
-use Rattle.calls.specs.Calls.{Call, Open, SetDevice, SetPort, SetEndpoints, SetReconcile, Acquire, Initialize, Close, Submit, SubmitPlan, ReplySubmit, Poll, ReplyPoll, Cancel, Timeout, Reclaim, Status, Reports, CountReports, CompletedBytes, HeldCount, HeldBytes}
-use Rattle.calls.specs.State.{idAt}
-use Rattle.calls.specs.Arguments.{optionErrorAt, readingAt, openingOf, snapshotOf, portRowOf, acquireReplyOf, specOf, planOf, submitReplyOf, pollReplyOf, optionIdOf}
+use Rattle.calls.specs.Calls.{Call, Open, SetDevice, SetPort, SetEndpoints, SetReconcile, Acquire, Initialize, Close, Submit, SubmitPlan, ReplySubmit, Poll, ReplyPoll, AbortRequest, ResetEndpoint, ReplyRecovery, Cancel, Timeout, Reclaim, Status, Reports, CountReports, CompletedBytes, HeldCount, HeldBytes}
+use Rattle.session_words.specs.State.{idAt}
+use Rattle.call_words.specs.Arguments.{optionErrorAt, readingAt, openingOf, snapshotOf, portRowOf, acquireReplyOf, specOf, planOf, submitReplyOf, pollReplyOf, optionIdOf, backendAbortOf, completedOf, completionsOf, abortedOf}
 
 -- 0 to 4
 unfoldable pub placingOf : ℕ → List ℕ → Call
@@ -55,6 +55,13 @@ reportingOf n w =
     HeldCount if eqb n 20 else
     HeldBytes
 
+-- 22 to 24
+unfoldable pub recoveringOf : ℕ → List ℕ → List ℕ → Call
+recoveringOf n w bytes =
+    AbortRequest (idAt w 1) if eqb n 22 else
+    ResetEndpoint (idAt w 1) (flagOf (getD w 4 0)) if eqb n 23 else
+    ReplyRecovery (backendAbortOf w) (completedOf w) (completionsOf w) (abortedOf w) bytes
+
 unfoldable pub callOf : List ℕ → List ℕ → Call
 callOf w bytes =
     placingOf (getD w 0 0) w if leb (getD w 0 0) 4 else
@@ -62,4 +69,5 @@ callOf w bytes =
     submissionOf (getD w 0 0) w bytes if leb (getD w 0 0) 9 else
     replyingOf (getD w 0 0) w bytes if leb (getD w 0 0) 12 else
     changingOf (getD w 0 0) w if leb (getD w 0 0) 15 else
-    reportingOf (getD w 0 0) w
+    reportingOf (getD w 0 0) w if leb (getD w 0 0) 21 else
+    recoveringOf (getD w 0 0) w bytes

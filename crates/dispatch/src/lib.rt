@@ -1,41 +1,36 @@
 // One call on lent words. What C links is the step that the theorem over lists of calls speaks of.
+use answer_words::encode;
+use answer_words::lists;
+use call_words::arguments;
+use call_words::form;
 use calls::Answer;
 use calls::Outcome;
 use calls::answers;
-use calls::arguments;
-use calls::arguments::word_at;
-use calls::encode;
-use calls::form;
-use calls::state;
-use requests::change;
-use requests::finish;
-use requests::poll;
-use requests::reply;
-use requests::status;
-use requests::submit;
+use polls::finish;
+use polls::poll;
+use recovery::begin;
+use reports::change;
+use reports::status;
 use session::Session;
 use session::lifecycle;
 use session::place;
+use session_words::state;
+use submissions::reply;
+use submissions::submit;
+use words::slices;
+use words::slices::word_at;
 ghost use mathlib.Core.Path.{_≡_};
 ghost use Prim.Native.Nat.{_%_, _^_};
-ghost use lib.ListN.{getD, drop};
+ghost use lib.ListN.{getD};
 ghost use Rattle.rows.specs.Store.{storeOf};
 ghost use Rattle.bus.specs.Tables.{busOf};
 ghost use Rattle.calls.specs.Step.{world, after, stepOf};
-ghost use Rattle.calls.specs.State.{keptOf};
-ghost use Rattle.dispatch.specs.Decode.{placingOf, movingOf, submissionOf, replyingOf, changingOf, reportingOf, callOf};
-ghost use Rattle.dispatch.specs.Apply.{StepsRows, StepsStore, done, applyOf};
+ghost use Rattle.session_words.specs.State.{keptOf};
+ghost use Rattle.dispatch.specs.Decode.{placingOf, movingOf, submissionOf, replyingOf, changingOf, reportingOf, recoveringOf, callOf};
+ghost use Rattle.call_words.specs.Arguments.{backendAbortOf, completedOf, completionsOf, abortedOf};
+ghost use Rattle.calls.specs.Calls.{ReplyRecovery};
+ghost use Rattle.dispatch.specs.Apply.{StepsRows, StepsStore, RunsStore, ran, runOf, done, applyOf};
 ghost use Rattle.calls.specs.Answers.{outcome};
-
-// The words from n on; none where there are fewer.
-fn rest(w: &[u64], n: usize) -> &[u64]
-    ensures { λ r. ⌜ now r ≡ drop n (now (w .entry)) ⌝ }
-{
-    if n < w.len() {
-        return &w[n..];
-    }
-    &w[0..0]
-}
 
 fn byte_at(w: &[u64], i: usize) -> u8
     ensures { λ r. ⌜ r ≡ getD (now (w .entry)) i 0 % 2 ^ 8 ⌝ }
@@ -69,7 +64,7 @@ fn place_call(
         return answers::of_placed(place::set_port(session, bus, at, row), session);
     }
     if number == 3 {
-        let list = rest(call, 2);
+        let list = slices::rest(call, 2);
         return answers::of_placed(place::set_endpoints(session, bus, at, list), session);
     }
     let mark = words::to_flag(word_at(call, 2));
@@ -109,7 +104,7 @@ fn submit_call(
     if number == 8 {
         let q = arguments::spec(call);
         let given = words::to_flag(word_at(call, 26));
-        let packets = rest(call, 27);
+        let packets = slices::rest(call, 27);
         let second = arguments::reading_at(call, 20);
         return answers::of_submitted(submit::submit_request_packets(
             session,
@@ -144,7 +139,7 @@ fn reply_call(
         return answers::of_reported(reply::submit_reply(session, rows, answer));
     }
     if number == 11 {
-        let id = arguments::id_at(call, 1);
+        let id = state::id_at(call, 1);
         return answers::of_polled(poll::poll_request(session, rows, id));
     }
     let answer = arguments::poll_reply(call);
@@ -155,7 +150,7 @@ fn reply_call(
 fn change_call(number: u64, session: Session, rows: &mut [u64], call: &[u64]) -> Outcome
     ensures { λ r. ⌜ StepsRows r (storeOf (now (rows .exit))) (changingOf number (now (call .entry))) session (storeOf (now (rows .entry))) ⌝ }
 {
-    let id = arguments::id_at(call, 1);
+    let id = state::id_at(call, 1);
     if number == 13 {
         return answers::of_reported(change::logical_cancel_request(session, rows, id));
     }
@@ -176,7 +171,7 @@ fn report_call(number: u64, session: Session, rows: &[u64], area: &[u8], call: &
 fn report_answer(number: u64, session: Session, rows: &[u64], area: &[u8], call: &[u64]) -> Answer
     ensures { λ r. ⌜ StepsStore (outcome r session) (storeOf (now (rows .entry))) (now (area .entry)) (reportingOf number (now (call .entry))) session (storeOf (now (rows .entry))) (now (area .entry)) ⌝ }
 {
-    let id = arguments::id_at(call, 1);
+    let id = state::id_at(call, 1);
     if number == 16 {
         return answers::of_report(status::request_status(session, rows, id));
     }
@@ -196,6 +191,61 @@ fn report_answer(number: u64, session: Session, rows: &[u64], area: &[u8], call:
     answers::of_tally(status::held_bytes(session, rows))
 }
 
+// 22 to 24: recoveries, whatever the bus.
+fn recover_call(
+    number: u64,
+    session: Session,
+    rows: &mut [u64],
+    area: &mut [u8],
+    call: &[u64],
+    bytes: &[u8],
+    lists: &mut [u64],
+) -> Outcome
+    ensures { λ r. ⌜ RunsStore r (storeOf (now (rows .exit))) (now (area .exit)) (now (lists .exit)) (recoveringOf number (now (call .entry)) (now (bytes .entry))) session (storeOf (now (rows .entry))) (now (area .entry)) (now (lists .entry)) ⌝ }
+{
+    let id = state::id_at(call, 1);
+    if number == 22 {
+        let begun = begin::abort_request(session, rows, id);
+        lists::write_begun(lists, begun);
+        return answers::of_begun(begun);
+    }
+    if number == 23 {
+        let preserve = words::to_flag(word_at(call, 4));
+        let begun = begin::reset_endpoint_request(session, rows, id, preserve);
+        lists::write_begun(lists, begun);
+        return answers::of_begun(begun);
+    }
+    recovered(session, rows, area, call, bytes, lists)
+}
+
+fn recovered(
+    session: Session,
+    rows: &mut [u64],
+    area: &mut [u8],
+    call: &[u64],
+    bytes: &[u8],
+    lists: &mut [u64],
+) -> Outcome
+    ensures { λ r. ⌜ RunsStore r (storeOf (now (rows .exit))) (now (area .exit)) (now (lists .exit)) (ReplyRecovery (backendAbortOf (now (call .entry))) (completedOf (now (call .entry))) (completionsOf (now (call .entry))) (abortedOf (now (call .entry))) (now (bytes .entry))) session (storeOf (now (rows .entry))) (now (area .entry)) (now (lists .entry)) ⌝ }
+{
+    let answer = arguments::backend_abort(call);
+    let tokens = arguments::completed(call);
+    let completions = arguments::completions(call);
+    let aborted = arguments::aborted(call);
+    let recovered = recovery::reply::recovery_reply(
+        session,
+        rows,
+        area,
+        answer,
+        tokens,
+        completions,
+        aborted,
+        bytes,
+    );
+    lists::write_recovered(lists, recovered);
+    answers::of_recovered(recovered)
+}
+
 fn step(
     session: Session,
     bus: &mut [u64],
@@ -203,8 +253,9 @@ fn step(
     area: &mut [u8],
     call: &[u64],
     bytes: &[u8],
+    lists: &mut [u64],
 ) -> Outcome
-    ensures { λ r. ⌜ after r (busOf (now (bus .exit))) (storeOf (now (rows .exit))) (now (area .exit)) ≡ stepOf (callOf (now (call .entry)) (now (bytes .entry))) (world session (busOf (now (bus .entry))) (storeOf (now (rows .entry))) (now (area .entry))) ⌝ }
+    ensures { λ r. ⌜ ran (after r (busOf (now (bus .exit))) (storeOf (now (rows .exit))) (now (area .exit))) (now (lists .exit)) ≡ runOf (callOf (now (call .entry)) (now (bytes .entry))) (world session (busOf (now (bus .entry))) (storeOf (now (rows .entry))) (now (area .entry))) (now (lists .entry)) ⌝ }
 {
     let number = word_at(call, 0);
     if number <= 4 {
@@ -222,11 +273,14 @@ fn step(
     if number <= 15 {
         return change_call(number, session, rows, call);
     }
-    report_call(number, session, rows, area, call)
+    if number <= 21 {
+        return report_call(number, session, rows, area, call);
+    }
+    recover_call(number, session, rows, area, call, bytes, lists)
 }
 
-// Runs the call and writes the session and the answer. 0: it was answered; 1: no call; 2: not a session's words; 3: too few words for
-// the answer. In the last three nothing changes.
+// Runs the call and writes the session, the answer and its lists. 0: it was answered; 1: no call; 2: not a session's words; 3: too few
+// words for the answer; 4: too few words for lists. In the last four nothing changes.
 pub fn apply(
     session: &mut [u64],
     bus: &mut [u64],
@@ -235,8 +289,9 @@ pub fn apply(
     call: &[u64],
     bytes: &[u8],
     out: &mut [u64],
+    lists: &mut [u64],
 ) -> u64
-    ensures { λ r. ⌜ done r (keptOf (now (session .exit))) (busOf (now (bus .exit))) (storeOf (now (rows .exit))) (now (area .exit)) (now (out .exit)) ≡ applyOf (now (session .entry)) (busOf (now (bus .entry))) (storeOf (now (rows .entry))) (now (area .entry)) (now (call .entry)) (now (bytes .entry)) (now (out .entry)) ⌝ }
+    ensures { λ r. ⌜ done r (keptOf (now (session .exit))) (busOf (now (bus .exit))) (storeOf (now (rows .exit))) (now (area .exit)) (now (out .exit)) (now (lists .exit)) ≡ applyOf (now (session .entry)) (busOf (now (bus .entry))) (storeOf (now (rows .entry))) (now (area .entry)) (now (call .entry)) (now (bytes .entry)) (now (out .entry)) (now (lists .entry)) ⌝ }
 {
     if !form::is_call(call) {
         return 1;
@@ -247,8 +302,11 @@ pub fn apply(
     if out.len() < encode::WORDS {
         return 3;
     }
+    if lists.len() < lists::WORDS {
+        return 4;
+    }
     let before = state::to_session(session);
-    let outcome = step(before, bus, rows, area, call, bytes);
+    let outcome = step(before, bus, rows, area, call, bytes, lists);
     let next = outcome.session;
     let answer = outcome.answer;
     state::write_session(session, next);

@@ -2,7 +2,7 @@
 ghost use mathlib.Core.Path.{_≡_};
 ghost use Rattle.rows.specs.Store.{storeOf};
 ghost use Rattle.bus.specs.Tables.{busOf};
-ghost use Rattle.calls.specs.State.{keptOf};
+ghost use Rattle.session_words.specs.State.{keptOf};
 ghost use Rattle.dispatch.specs.Apply.{done, applyOf};
 
 #[no_mangle]
@@ -14,8 +14,9 @@ pub extern "C" fn tapewoad_apply(
     call: &[u64],
     bytes: &[u8],
     out: &mut [u64],
+    lists: &mut [u64],
 ) -> u64
-    ensures { λ r. ⌜ done r (keptOf (now (session .exit))) (busOf (now (bus .exit))) (storeOf (now (rows .exit))) (now (area .exit)) (now (out .exit)) ≡ applyOf (now (session .entry)) (busOf (now (bus .entry))) (storeOf (now (rows .entry))) (now (area .entry)) (now (call .entry)) (now (bytes .entry)) (now (out .entry)) ⌝ }
+    ensures { λ r. ⌜ done r (keptOf (now (session .exit))) (busOf (now (bus .exit))) (storeOf (now (rows .exit))) (now (area .exit)) (now (out .exit)) (now (lists .exit)) ≡ applyOf (now (session .entry)) (busOf (now (bus .entry))) (storeOf (now (rows .entry))) (now (area .entry)) (now (call .entry)) (now (bytes .entry)) (now (out .entry)) (now (lists .entry)) ⌝ }
 {
-    dispatch::apply(session, bus, rows, area, call, bytes, out)
+    dispatch::apply(session, bus, rows, area, call, bytes, out, lists)
 }

@@ -1,12 +1,14 @@
--- A short script of calls, computed by the definitions to its answers, its journal and its rows. Assumes nothing.
-use Prim.Native.Nat.{ℕ}
+-- Short scripts of calls, computed by the definitions to their answers, journals and rows, with the theorem applied to each. Assumes nothing.
+use Prim.Native.Nat.{ℕ, zero, suc}
 use mathlib.Core.Bool.{Bool, true, false, cond}
-use mathlib.Core.List.{List, [], _∷_, map}
-use mathlib.Core.Path.{_≡_, refl}
-use lib.ListN.{replicate}
+use mathlib.Core.List.{List, [], _∷_, _++_, map}
+use mathlib.Core.Path.{_≡_, refl, sym, ap, _∙_}
+use native.Mathlib.Omega.{arith}
+use lib.ListN.{length, getD, take, replicate}
 use Rattle.chain.specs.Chain.{_if_else_}
-use Rattle.chain.specs.Lists.{foundIn}
-use Rattle.words.specs.Records.{splice}
+use Rattle.chain.specs.Lists.{foundIn, listed}
+use Rattle.words.specs.Records.{splice, part}
+use Rattle.models.specs.Requests.{requestBefore}
 use Rattle.words.specs.declared.OptionI32.the-variants as i32
 use Rattle.words.specs.declared.OptionU32.the-variants as u32
 use Rattle.words.specs.declared.OptionU64.the-variants as u64
@@ -15,7 +17,7 @@ use Rattle.models.specs.declared.DeviceId.{DeviceId}
 use Rattle.models.specs.declared.DeviceSnapshot.{DeviceSnapshot}
 use Rattle.models.specs.declared.DeviceState.the-variants.{Configured}
 use Rattle.models.specs.declared.Direction.the-variants.{In}
-use Rattle.models.specs.declared.ErrorCategory.the-variants.{Validation}
+use Rattle.models.specs.declared.ErrorCategory.the-variants.{Validation, RecoveryRequired}
 use Rattle.models.specs.declared.OperationError.{OperationError}
 use Rattle.models.specs.declared.OptionError.{OptionError}
 use Rattle.models.specs.declared.OptionError.the-variants as error
@@ -23,16 +25,18 @@ use Rattle.models.specs.declared.OptionPorts.the-variants as ports
 use Rattle.models.specs.declared.OptionSetup.the-variants as setup
 use Rattle.models.specs.declared.PortReading.the-variants.{Word}
 use Rattle.models.specs.declared.RequestId.{RequestId}
+use Rattle.models.specs.declared.RequestState.{RequestState}
+use Rattle.models.specs.declared.RequestState.the-variants.{Pending, Completed, Failed, Aborted}
 use Rattle.models.specs.declared.TransferType.the-variants.{Bulk}
 use Rattle.rows.specs.Codec.{rowOf, recordOf}
-use Rattle.rows.specs.Store.{putIn, emptied}
-use Rattle.rows.specs.Table.{emptyRow, isHeld, putRow, putWords, rowCount}
+use Rattle.rows.specs.Store.{storeOf, putIn, emptied}
+use Rattle.rows.specs.Table.{emptyRow, isHeld, putRow, putWords, rowCount, rowsOf, isUncertain}
 use Rattle.rows.specs.declared.Row.{Row}
 use Rattle.ledger.specs.Apply.{applyBy, applyAt, applyOf}
-use Rattle.ledger.specs.Rules.{pendingRow, spendSequence, moved, freed, accepted, timeOutBy, timeOut, completedBy, completed, failedBy, failed, reclaimed, changeRow}
+use Rattle.ledger.specs.Rules.{pendingRow, spendSequence, moved, freed, accepted, timeOutBy, timeOut, completedBy, completed, failedBy, failed, abortConfirmed, reclaimed, changeRow}
 use Rattle.ledger.specs.Search.{isAt, isFree}
 use Rattle.ledger.specs.Tally.{saturate, heldCount, heldBytes}
-use Rattle.bus.specs.Tables.{cleared, putDevice, putEndpoints, putPort}
+use Rattle.bus.specs.Tables.{busOf, cleared, putDevice, putEndpoints, putPort}
 use Rattle.bus.specs.Layout as layout
 use Rattle.bus.specs.Ports as bus
 use Rattle.bus.specs.Endpoints as lists
@@ -40,31 +44,41 @@ use Rattle.checks.specs.Completion.{codeTested, testCode, testLength, testCompl
 use Rattle.checks.specs.Packets.{packetsChecked}
 use Rattle.checks.specs.Prepare as prepare
 use Rattle.checks.specs.Target as target
-use Rattle.session.specs.Session.{marked}
-use Rattle.session.specs.Lifecycle.{openOf, acquiredBy, acquireOf, initializedBy, initializeOf, closeOf}
+use Rattle.session.specs.Session.{isInitialized, raised, marked}
+use Rattle.session.specs.Lifecycle.{openOf, acquiredBy, acquireOf, initializedBy, initializeOf, closedBy, freshBy, closeOf}
 use Rattle.session.specs.Place.{placed, setDeviceOf, setPortOf, setEndpointsOf}
 use Rattle.session.specs.Sizes.{openFits, rowsFit, areaFits}
 use Rattle.session.specs.declared.InFlight.the-variants as flight
 use Rattle.session.specs.declared.OptionStall.the-variants as stall
+use Rattle.session.specs.declared.Session.{Session}
 use Rattle.session.specs.declared.lifecycle.AcquireReply.the-variants as acquire
 use Rattle.session.specs.declared.lifecycle.Opening.{Opening}
-use Rattle.requests.specs.Answers.{effect}
-use Rattle.requests.specs.Begin.{roomIn, writeOf, beginBy, beginOf, targetBy, targetOf}
-use Rattle.requests.specs.Change.{reportedBy, changeOf}
-use Rattle.requests.specs.Finish.{failedAs, judgedTest, judgedBy, judged, storedIn, settled, finishAt, finishBy, finishFound, finishIn, finishOf}
-use Rattle.requests.specs.Poll.{pollRow, pollBy, pollOf}
-use Rattle.requests.specs.Reply.{acceptedBy, discardedBy, submitReplyBy, submitReplyIn, submitReplyOf}
-use Rattle.requests.specs.Status.{heldCountOf, heldBytesOf}
-use Rattle.requests.specs.Submit.{submittedBy, preparedBy, roomBy, packetsBy, readyOf, submitBy, submitOf}
-use Rattle.requests.specs.declared.PollReply.the-variants as poll
-use Rattle.requests.specs.declared.SubmitReply.the-variants as submit
-use Rattle.calls.specs.Calls.{Call, Open, SetDevice, SetPort, SetEndpoints, Acquire, Initialize, Close, Submit, ReplySubmit, Poll, ReplyPoll, Timeout, Reclaim, HeldCount, HeldBytes}
-use Rattle.calls.specs.Step.{World, stepOf}
+use Rattle.reports.specs.Answers.{effect}
+use Rattle.submissions.specs.Begin.{roomIn, writeOf, beginBy, beginOf, targetBy, targetOf}
+use Rattle.reports.specs.Change.{reportedBy, changeOf}
+use Rattle.polls.specs.Finish.{stallOf, failedAs, judgedTest, judgedBy, judged, storedIn, settled, finishAt, finishBy, finishFound, finishIn, finishOf}
+use Rattle.polls.specs.Poll.{pollRow, pollBy, pollOf}
+use Rattle.submissions.specs.Reply.{acceptedBy, discardedBy, submitReplyBy, submitReplyIn, submitReplyOf}
+use Rattle.reports.specs.Status.{heldCountOf, heldBytesOf}
+use Rattle.submissions.specs.Submit.{submittedBy, preparedBy, roomBy, packetsBy, readyOf, submitBy, submitOf}
+use Rattle.polls.specs.declared.PollReply.the-variants as poll
+use Rattle.submissions.specs.declared.SubmitReply.the-variants as submit
+use Rattle.scope.specs.Affected.{isAffected, joined, affectedOf}
+use Rattle.recovery.specs.Begin as recoveryBegin
+use Rattle.recovery.specs.Entries.{storedAt, rowCompletedBy, testedBy, completeOne, abortedBy, abortOne}
+use Rattle.recovery.specs.Reply.{restoredBy, resetBy, sessionAfter, refusedAfter, abortsAfter, applyAll, concludedBy, scopedOf, doneOf, replyBy, replySized, replyIn, recoveryReplyOf}
+use Rattle.scope.specs.Returned.{broughtOf, broughtAt, returnedOf, listsAgree}
+use Rattle.scope.specs.Scope.{inScope}
+use Rattle.recovery.specs.declared.AbortReport.{AbortReport}
+use Rattle.recovery.specs.declared.RecoveryReply.{RecoveryReply}
+use Rattle.recovery.specs.declared.RecoveryReply.the-variants as reply
+use Rattle.calls.specs.Calls.{Call, Open, SetDevice, SetPort, SetEndpoints, Acquire, Initialize, Close, Submit, ReplySubmit, Poll, ReplyPoll, AbortRequest, ResetEndpoint, ReplyRecovery, Timeout, Reclaim, HeldCount, HeldBytes}
+use Rattle.calls.specs.Step.{World, world, stepOf}
 use Rattle.calls.specs.declared.Answer.{Answer}
 use Rattle.calls.specs.declared.Answer.the-variants as answer
-use Rattle.history.specs.Run.{Event, other, Answered, next, historyOf}
+use Rattle.history.specs.Run.{Event, own, other, Answered, next, endOf, historyOf}
 use Rattle.history.specs.Journal.{Entry, journalStep}
-use Rattle.history.specs.Claim.{calls, rowsAfter, entriesAfter, Claim}
+use Rattle.history.specs.Claim.{calls, rowsAfter, entriesAfter, recovers, Different, Recovered, Claim}
 use Rattle.history.proofs.Theorem.{history-claim}
 
 -- two rows of 8 bytes, one port
@@ -79,24 +93,29 @@ opening = record {
   «row_bytes» = 8;
 }
 
-abbrev before : World
-before = record {
-  session = record {
-    number = 0;
-    generation = 0;
-    «next_sequence» = 0;
-    ports = ports.None;
-    state = Closed;
-    «recovery_revision» = u64.None;
-    «recoverable_stall» = stall.None;
-    «in_flight» = flight.Nothing;
-    «row_count» = 0;
-    «row_bytes» = 0;
-  };
-  bus = cleared;
-  store = record { words = replicate 54 0; rows = replicate 2 emptyRow };
-  area = replicate 16 0;
+abbrev closed : Session
+closed = record {
+  number = 0;
+  generation = 0;
+  «next_sequence» = 0;
+  ports = ports.None;
+  state = Closed;
+  «recovery_revision» = u64.None;
+  «recoverable_stall» = stall.None;
+  «in_flight» = flight.Nothing;
+  «row_count» = 0;
+  «row_bytes» = 0;
 }
+
+-- the lent slices: a bus, two rows, and their 16 bytes
+abbrev busWords : List ℕ
+busWords = cleared .words
+
+abbrev before : World
+before = world closed (busOf busWords) (storeOf (replicate 54 0)) (replicate 16 0)
+
+abbrev start : World
+start = next (stepOf (Open opening) before)
 
 abbrev camera : DeviceId
 camera = record { session = 5; generation = 0; slot = 1 }
@@ -119,10 +138,22 @@ abbrev came : ℕ → Bool → OptionError → Call
 came n quiescent e = ReplyPoll
     (poll.Completion (record { «actual_length» = u64.Some n; «completion_code» = u32.Some 1; «has_data» = true; error = e; quiescent = quiescent })) (replicate n 0)
 
+-- code 6 with an error that says so: a stall
+abbrev stalls : Call
+stalls = ReplyPoll
+    (poll.Completion (record {
+      «actual_length» = u64.None;
+      «completion_code» = u32.Some 6;
+      «has_data» = false;
+      error = error.Some (record { category = RecoveryRequired; message = 1; «os_code» = i32.None; «completion_code» = u32.Some 6 });
+      quiescent = false;
+    })) []
+
 -- a close that is handed another session and its slices
 abbrev elsewhere : Event
 elsewhere = record { call = Close (u64.Some 6) error.None; handed = other before }
 
+-- ---- requests
 -- request 0 completes and is reclaimed, 1 is refused by the backend, 2 times out, fails and is not quiescent, 3 stays
 abbrev script : List Event
 script =
@@ -141,9 +172,64 @@ script =
     ∷ calls HeldCount ∷ calls HeldBytes
     ∷ []
 
-abbrev start : World
-start = next (stepOf (Open opening) before)
+-- ---- a recovery: requests 0 and 1 have the tokens 7 and 9; a reply is refused by 49; then 1 completes with 4 bytes, 0 is aborted and reclaimed
+abbrev whole : RecoveryReply
+whole = reply.Done (record { «restart_ready» = true; error = error.None })
 
+abbrev completion : List ℕ
+completion = 0 ∷ 0 ∷ 0 ∷ 0 ∷ 0 ∷ 1 ∷ 4 ∷ 2 ∷ 1 ∷ 1 ∷ 4 ∷ []
+
+-- the calls before the reply that succeeds, and those after it
+abbrev front : List Event
+front =
+    calls (SetPort 1 (record { generation = 1; reading = u32.Some 0x403 })) ∷ calls (SetDevice plugged) ∷ calls (SetEndpoints 1 (0x181 ∷ []))
+    ∷ calls (Acquire acquire.Acquired) ∷ calls (Initialize error.None)
+    ∷ calls (asks 8) ∷ calls (ReplySubmit (submit.Token 7))
+    ∷ calls (asks 4) ∷ calls (ReplySubmit (submit.Token 9))
+    ∷ calls (AbortRequest (id 0)) ∷ calls HeldCount ∷ calls (Timeout (id 1))
+    ∷ calls (ReplyRecovery whole (9 ∷ []) completion (7 ∷ []) (1 ∷ 2 ∷ 3 ∷ 4 ∷ 5 ∷ []))
+    ∷ []
+
+abbrev back : List Event
+back = calls (Reclaim (id 0)) ∷ calls HeldCount ∷ calls HeldBytes ∷ []
+
+abbrev succeeds : Event
+succeeds = recovers whole (9 ∷ []) completion (7 ∷ []) (1 ∷ 2 ∷ 3 ∷ 4 ∷ []) own
+
+abbrev recovery : List Event
+recovery = front ++ (succeeds ∷ back)
+
+abbrev report : AbortReport
+report = record { target = id 0; device = camera; endpoint = 0x81; completed = 1; aborted = 1; «restart_ready» = true; error = error.None }
+
+-- ---- a stall: request 0 fails, and a reset that aborts it makes the controller Initialized again; requests 1 and 2 have one token
+abbrev toReset : List Event
+toReset =
+    calls (SetPort 1 (record { generation = 1; reading = u32.Some 0x403 })) ∷ calls (SetDevice plugged) ∷ calls (SetEndpoints 1 (0x181 ∷ []))
+    ∷ calls (Acquire acquire.Acquired) ∷ calls (Initialize error.None)
+    ∷ calls (asks 8) ∷ calls (ReplySubmit (submit.Token 7))
+    ∷ calls (Poll (id 0)) ∷ calls stalls ∷ calls (asks 4)
+    ∷ calls (ResetEndpoint (id 0) false)
+    ∷ []
+
+abbrev aborts : Event
+aborts = recovers whole [] [] (7 ∷ []) [] own
+
+abbrev toAbort : List Event
+toAbort =
+    toReset ++ (aborts ∷ calls (Reclaim (id 0))
+    ∷ calls (asks 4) ∷ calls (ReplySubmit (submit.Token 7))
+    ∷ calls (asks 2) ∷ calls (ReplySubmit (submit.Token 7))
+    ∷ calls (AbortRequest (id 2))
+    ∷ [])
+
+abbrev closing : List Event
+closing = calls HeldCount ∷ calls HeldBytes ∷ calls (Close (u64.Some 6) error.None) ∷ calls HeldCount ∷ []
+
+abbrev stalled : List Event
+stalled = toAbort ++ (aborts ∷ closing)
+
+-- ---- what they compute to
 -- an answer's refusal, or the number that it is, or 0
 abbrev numberIn : Answer → ℕ
 numberIn (answer.Refused r) = r .number
@@ -155,31 +241,98 @@ numberIn answer.NoReport = 0
 numberIn (answer.Asked token) = 0
 numberIn (answer.Number n) = n
 numberIn (answer.Bytes x) = 0
+numberIn (answer.Recovering x) = 0
+numberIn (answer.Recovered x) = 0
 
 -- of an entry: sequence number, length, whether it is marked Failed, releases
 abbrev entryNumbers : Entry → List ℕ
 entryNumbers e = e .id .sequence ∷ e .requested ∷ cond (e .failed) 1 0 ∷ e .releases ∷ []
 
--- of a row: sequence number, length, whether it is held
+-- of a row: sequence number, length, state (4: no request) with a completion's length and code
+abbrev stateNumbers : RequestState → List ℕ
+stateNumbers (Pending cancel late) = 0 ∷ []
+stateNumbers (Completed actual code cancel) = 1 ∷ actual ∷ code ∷ []
+stateNumbers (Failed e code quiescent) = 2 ∷ []
+stateNumbers Aborted = 3 ∷ []
+
 abbrev rowNumbers : Row → List ℕ
-rowNumbers r = r .id .sequence ∷ r .metadata .«requested_length» ∷ cond (isHeld r) 1 0 ∷ []
+rowNumbers r = cond (r .used) (r .id .sequence ∷ r .metadata .«requested_length» ∷ stateNumbers (r .state)) (4 ∷ [])
+
+pub record Computed (es : List Event) (answers : List ℕ) (journal rows : List (List ℕ)) : Type 0 where
+  pub answers-are : map (λ (h : Answered). numberIn (h .answer)) (historyOf start es) ≡ answers
+  pub journal-is : map entryNumbers (entriesAfter start es) ≡ journal
+  pub rows-are : map rowNumbers (rowsAfter start es) ≡ rows
+  -- what is assumed of a list holds of this one, so the theorem speaks of it
+  pub claim : Claim start es
 
 pub record Shown : Type 0 where
-  pub answers : map (λ (h : Answered). numberIn (h .answer)) (historyOf start script)
-      ≡ 0 ∷ 0 ∷ 0 ∷ 0 ∷ 0 ∷ 0 ∷ 0 ∷ 0 ∷ 45 ∷ 7 ∷ 0 ∷ 0 ∷ 5 ∷ 0 ∷ 0 ∷ 0 ∷ 0 ∷ 0 ∷ 0 ∷ 0 ∷ 0 ∷ 42 ∷ 3 ∷ 2 ∷ 5 ∷ []
-  pub journal : map entryNumbers (entriesAfter start script)
-      ≡ (3 ∷ 2 ∷ 0 ∷ 0 ∷ []) ∷ (2 ∷ 3 ∷ 1 ∷ 0 ∷ []) ∷ (1 ∷ 4 ∷ 0 ∷ 1 ∷ []) ∷ (0 ∷ 8 ∷ 0 ∷ 1 ∷ []) ∷ []
-  pub rows : map rowNumbers (rowsAfter start script) ≡ (3 ∷ 2 ∷ 1 ∷ []) ∷ (2 ∷ 3 ∷ 1 ∷ []) ∷ []
-  -- what is assumed of a list holds of this one, so the theorem speaks of it
-  pub claim : Claim start script
+  pub requests : Computed script
+      (0 ∷ 0 ∷ 0 ∷ 0 ∷ 0 ∷ 0 ∷ 0 ∷ 0 ∷ 45 ∷ 7 ∷ 0 ∷ 0 ∷ 5 ∷ 0 ∷ 0 ∷ 0 ∷ 0 ∷ 0 ∷ 0 ∷ 0 ∷ 0 ∷ 42 ∷ 3 ∷ 2 ∷ 5 ∷ [])
+      ((3 ∷ 2 ∷ 0 ∷ 0 ∷ []) ∷ (2 ∷ 3 ∷ 1 ∷ 0 ∷ []) ∷ (1 ∷ 4 ∷ 0 ∷ 1 ∷ []) ∷ (0 ∷ 8 ∷ 0 ∷ 1 ∷ []) ∷ [])
+      ((3 ∷ 2 ∷ 0 ∷ []) ∷ (2 ∷ 3 ∷ 2 ∷ []) ∷ [])
+  pub recovery-is : Computed recovery
+      (0 ∷ 0 ∷ 0 ∷ 0 ∷ 0 ∷ 0 ∷ 0 ∷ 0 ∷ 0 ∷ 0 ∷ 2 ∷ 1 ∷ 49 ∷ 0 ∷ 0 ∷ 0 ∷ 0 ∷ [])
+      ((1 ∷ 4 ∷ 0 ∷ 1 ∷ []) ∷ (0 ∷ 8 ∷ 0 ∷ 1 ∷ []) ∷ [])
+      ((4 ∷ []) ∷ (1 ∷ 4 ∷ 1 ∷ 4 ∷ 1 ∷ []) ∷ [])
+  -- the claim's own words about this recovery
+  pub recovered : Recovered camera 0x81 (9 ∷ []) completion (7 ∷ []) (rowsAfter start front) (rowsAfter start (front ++ (succeeds ∷ [])))
+  -- 28 while the controller is RecoveryRequired
+  pub stalled-is : Computed stalled
+      (0 ∷ 0 ∷ 0 ∷ 0 ∷ 0 ∷ 0 ∷ 0 ∷ 0 ∷ 0 ∷ 28 ∷ 0 ∷ 0 ∷ 0 ∷ 0 ∷ 0 ∷ 0 ∷ 0 ∷ 0 ∷ 0 ∷ 1 ∷ 2 ∷ 0 ∷ 0 ∷ [])
+      ((2 ∷ 2 ∷ 0 ∷ 1 ∷ []) ∷ (1 ∷ 4 ∷ 0 ∷ 1 ∷ []) ∷ (0 ∷ 8 ∷ 1 ∷ 1 ∷ []) ∷ [])
+      ((4 ∷ []) ∷ (4 ∷ []) ∷ [])
+  pub restored : isInitialized (endOf start (toReset ++ (aborts ∷ [])) .session .state) ≡ true
+  -- a token means the lowest id that has it: 1 is aborted, 2 stays held
+  pub one-token : map rowNumbers (rowsAfter start (toAbort ++ (aborts ∷ []))) ≡ (1 ∷ 4 ∷ 3 ∷ []) ∷ (2 ∷ 2 ∷ 0 ∷ []) ∷ []
+
+-- two rows with the tokens 7 and 9
+two-apart : (l : List Row) → map (λ (r : Row). r .token) l ≡ 7 ∷ 9 ∷ [] → Different camera 0x81 l
+two-apart [] e = let z : _≡_ {A = ℕ} 0 1 = cc in absurd (omega arith)
+two-apart (r ∷ []) e = let z : _≡_ {A = ℕ} 0 1 = cc in absurd (omega arith)
+two-apart (r ∷ q ∷ []) e = go
+  where
+    first : r .token ≡ 7
+    first = ap (λ (l : List ℕ). getD l 0 0) e
+
+    second : q .token ≡ 9
+    second = ap (λ (l : List ℕ). getD l 1 0) e
+
+    go : Different camera 0x81 (r ∷ q ∷ [])
+    go zero zero hi hj a b t = refl
+    go zero (suc zero) hi hj a b t = absurd (omega (arith, first, second, t))
+    go zero (suc (suc j)) hi hj a b t = absurd (omega (arith, hj))
+    go (suc zero) zero hi hj a b t = absurd (omega (arith, first, second, t))
+    go (suc zero) (suc zero) hi hj a b t = refl
+    go (suc zero) (suc (suc j)) hi hj a b t = absurd (omega (arith, hj))
+    go (suc (suc i)) j hi hj a b t = absurd (omega (arith, hi))
+two-apart (r ∷ q ∷ p ∷ l) e = let z : _≡_ {A = ℕ} 2 3 = ap (λ (m : List ℕ). length (take 3 m)) (sym e) ∙ refl in absurd (omega arith)
 
 pub shown : Shown
-unfolding stepOf openOf openFits rowsFit areaFits cleared _if_else_ foundIn splice putIn emptied emptyRow isHeld putRow putWords rowCount rowOf recordOf applyBy applyAt applyOf pendingRow spendSequence moved freed accepted timeOutBy timeOut completedBy completed failedBy failed reclaimed changeRow isAt isFree saturate heldCount heldBytes putDevice putEndpoints putPort codeTested testCode testLength testCompletion packetsChecked marked acquiredBy acquireOf initializedBy initializeOf placed setDeviceOf setPortOf setEndpointsOf effect roomIn writeOf beginBy beginOf targetBy targetOf reportedBy changeOf failedAs judgedTest judgedBy judged storedIn settled finishAt finishBy finishFound finishIn finishOf pollRow pollBy pollOf acceptedBy discardedBy submitReplyBy submitReplyIn submitReplyOf heldCountOf heldBytesOf submittedBy preparedBy roomBy packetsBy readyOf submitBy submitOf bus.numberChecked bus.setPortBy bus.setPort bus.readingOf bus.validatedRow bus.validatedBy bus.validated bus.observedBy bus.observedRow bus.observePortBy bus.observePort bus.freshObserved bus.freshWord bus.freshReading bus.freshBy bus.freshPort lists.isEndpoint lists.setEndpoints prepare.dataChecked prepare.otherChecked prepare.specChecked prepare.preparedBy prepare.prepared target.knownBy target.knownDevice target.preparedDevice target.freshDevice target.checkDeviceBy target.checkDevice target.speedChecked target.endpointBy target.checkEndpoint target.targetBy target.checkTarget layout.deviceRecord journalStep closeOf
-shown = record {
-  answers = refl;
-  journal = refl;
-  rows = refl;
-  claim = history-claim opening before script refl refl
-      (refl, (refl, (refl, (refl, (refl, (refl, (refl, (refl, (refl, (refl, (refl, (refl, (refl, (refl, (refl, (refl, (refl, (refl, (refl, (refl, (refl, (refl, (refl, (refl, (refl, tt)))))))))))))))))))))))))
-      (refl, (refl, (refl, (refl, (refl, (refl, (refl, (refl, (refl, (refl, (refl, (refl, (refl, (refl, (refl, (refl, (refl, (refl, (refl, (refl, (refl, (refl, (refl, (refl, (refl, tt)))))))))))))))))))))))));
-}
+unfolding stepOf openOf openFits rowsFit areaFits cleared _if_else_ foundIn splice putIn emptied emptyRow isHeld putRow putWords rowCount rowOf recordOf applyBy applyAt applyOf pendingRow spendSequence moved freed accepted timeOutBy timeOut completedBy completed failedBy failed reclaimed changeRow isAt isFree saturate heldCount heldBytes putDevice putEndpoints putPort codeTested testCode testLength testCompletion packetsChecked marked acquiredBy acquireOf initializedBy initializeOf placed setDeviceOf setPortOf setEndpointsOf effect roomIn writeOf beginBy beginOf targetBy targetOf reportedBy changeOf failedAs judgedTest judgedBy judged storedIn settled finishAt finishBy finishFound finishIn finishOf pollRow pollBy pollOf acceptedBy discardedBy submitReplyBy submitReplyIn submitReplyOf heldCountOf heldBytesOf submittedBy preparedBy roomBy packetsBy readyOf submitBy submitOf bus.numberChecked bus.setPortBy bus.setPort bus.readingOf bus.validatedRow bus.validatedBy bus.validated bus.observedBy bus.observedRow bus.observePortBy bus.observePort bus.freshObserved bus.freshWord bus.freshReading bus.freshBy bus.freshPort lists.isEndpoint lists.setEndpoints prepare.dataChecked prepare.otherChecked prepare.specChecked prepare.preparedBy prepare.prepared target.knownBy target.knownDevice target.preparedDevice target.freshDevice target.checkDeviceBy target.checkDevice target.speedChecked target.endpointBy target.checkEndpoint target.targetBy target.checkTarget layout.deviceRecord journalStep closeOf recoveryBegin.beginOf recoveryBegin.beginBy recoveryBegin.beginRow recoveryBegin.begunAs listed isAffected joined affectedOf inScope broughtOf broughtAt returnedOf listsAgree storedAt rowCompletedBy testedBy completeOne abortedBy abortOne abortConfirmed restoredBy resetBy sessionAfter refusedAfter abortsAfter applyAll concludedBy scopedOf doneOf replyBy replySized replyIn recoveryReplyOf part requestBefore storeOf rowsOf busOf raised stallOf freshBy closedBy isUncertain
+shown =
+    let of-recovery = history-claim opening closed busWords (replicate 54 0) (replicate 16 0) recovery refl
+    (refl, (refl, (refl, (refl, (refl, (refl, (refl, (refl, (refl, (refl, (refl, (refl, (refl, (refl, (refl, (refl, (refl, tt)))))))))))))))))
+    (refl, (refl, (refl, (refl, (refl, (refl, (refl, (refl, (refl, (refl, (refl, (refl, (refl, (refl, (refl, (refl, (refl, tt))))))))))))))))) in
+    record {
+      requests = record {
+        answers-are = refl;
+        journal-is = refl;
+        rows-are = refl;
+        claim = history-claim opening closed busWords (replicate 54 0) (replicate 16 0) script refl
+            (refl, (refl, (refl, (refl, (refl, (refl, (refl, (refl, (refl, (refl, (refl, (refl, (refl, (refl, (refl, (refl, (refl, (refl, (refl, (refl, (refl, (refl, (refl, (refl, (refl, tt)))))))))))))))))))))))))
+            (refl, (refl, (refl, (refl, (refl, (refl, (refl, (refl, (refl, (refl, (refl, (refl, (refl, (refl, (refl, (refl, (refl, (refl, (refl, (refl, (refl, (refl, (refl, (refl, (refl, tt)))))))))))))))))))))))));
+      };
+      recovery-is = record { answers-are = refl; journal-is = refl; rows-are = refl; claim = of-recovery };
+      recovered = of-recovery .recovered front back own whole (9 ∷ []) completion (7 ∷ []) (1 ∷ 2 ∷ 3 ∷ 4 ∷ []) refl report refl refl refl
+          (two-apart (rowsAfter start front) refl);
+      stalled-is = record {
+        answers-are = refl;
+        journal-is = refl;
+        rows-are = refl;
+        claim = history-claim opening closed busWords (replicate 54 0) (replicate 16 0) stalled refl
+            (refl, (refl, (refl, (refl, (refl, (refl, (refl, (refl, (refl, (refl, (refl, (refl, (refl, (refl, (refl, (refl, (refl, (refl, (refl, (refl, (refl, (refl, (refl, tt)))))))))))))))))))))))
+            (refl, (refl, (refl, (refl, (refl, (refl, (refl, (refl, (refl, (refl, (refl, (refl, (refl, (refl, (refl, (refl, (refl, (refl, (refl, (refl, (refl, (refl, (refl, tt)))))))))))))))))))))));
+      };
+      restored = refl;
+      one-token = refl;
+    }

@@ -1,13 +1,12 @@
 -- The invariant of a session, its rows and the journal, and the moves that keep it. Assumes nothing.
 use Prim.Native.Nat.{ℕ, _≤_, _<_}
 use mathlib.Core.Path.{_≡_, refl, sym, ap, _∙_, subst}
-use mathlib.Core.Bool.{Bool, true, false, not, cond, _&&_, _||_, true≢false, false≢true}
+use mathlib.Core.Bool.{Bool, true, false, not, cond, _&&_, true≢false, false≢true}
 use mathlib.Core.List.{List, _∷_}
 use native.Mathlib.Omega.{arith}
 use lib.Dec.{eqb}
 use lib.ListN.{length, getD, set, replicate}
 use borrow.Author.Tests.{eq-eqb}
-use Rattle.chain.specs.Chain.{_if_else_}
 use Rattle.chain.specs.Lists.{sumBy, only, count}
 use Rattle.chain.proofs.Chain.{caseB, if-all}
 use Rattle.chain.proofs.Lists.{sum-eq, sum-le, sum-set, sum-one, sum-none, count-pos}
@@ -27,16 +26,12 @@ use Rattle.session.specs.declared.InFlight.{InFlight}
 use Rattle.session.specs.declared.InFlight.the-variants as flight
 use Rattle.session.specs.declared.OptionStall.{OptionStall}
 use Rattle.session.specs.declared.Session.{Session}
-use Rattle.requests.specs.Answers.{isMild, effect}
+use Rattle.reports.specs.Answers.{isMild, effect}
 use Rattle.history.specs.Run.{isIn, noted}
-use Rattle.history.specs.Journal.{Entry, Journal, isEntry, entryOf, atEntry, atWaiting, endedWith, idle, pollWaits, releasedAll}
-use Rattle.history.specs.Claim.{View, rowView}
+use Rattle.history.specs.Journal.{Entry, Journal, isEntry, entryOf, atEntry, atWaiting, endedWith, idle, pollWaits, releasedAll, View}
+use Rattle.history.specs.Claim.{rowView}
 use Rattle.history.proofs.Led.{rowW, each, Led, and-less, Changed, Alike, led-at, led-set, ids-kept}
-use Rattle.history.proofs.Changes.{none-held, none-at, closed-ids, led-closed}
-
-pub or-false : (a b : Bool) → (a || b) ≡ false → (a ≡ false) × (b ≡ false)
-or-false true b e = absurd (true≢false e)
-or-false false b e = (refl, e)
+use Rattle.history.proofs.Changes.{or-false, none-held, none-at, closed-ids, led-closed}
 
 -- the row of x, and not Pending
 abbrev pub stray : RequestId → Row → Bool

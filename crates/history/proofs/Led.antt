@@ -7,7 +7,9 @@ use mathlib.Core.List.{List}
 use native.Mathlib.Omega.{arith}
 use lib.Dec.{ltb}
 use lib.ListN.{length, getD, set}
-use Rattle.chain.specs.Lists.{sumBy, only, count, find}
+use borrow.Author.Tests.{lt-ltb, ltb-true, ltb-false}
+use Rattle.chain.specs.Lists.{sumBy, only, count, find, anyIn}
+use Rattle.chain.proofs.Chain.{caseB}
 use Rattle.chain.proofs.Lists.{sum-eq, sum-set, sum-one, count-pos, find-hit, find-some}
 use Rattle.models.specs.Requests.{deviceMayAccess, sameRequest}
 use Rattle.models.specs.declared.RequestId.{RequestId}
@@ -15,8 +17,8 @@ use Rattle.rows.specs.Codec.{rowOf}
 use Rattle.rows.specs.Table.{emptyRow, isHeld}
 use Rattle.rows.specs.declared.Row.{Row}
 use Rattle.ledger.specs.Search.{isAt}
-use Rattle.history.specs.Journal.{Entry, isOpen, isEntry, entryOf, atEntry, noEntry}
-use Rattle.history.specs.Claim.{View, rowView, entryView}
+use Rattle.history.specs.Journal.{Entry, isOpen, isEntry, entryOf, atEntry, noEntry, View, entryView}
+use Rattle.history.specs.Claim.{rowView}
 
 -- ---- weights
 
@@ -56,6 +58,10 @@ pub record Led (rows : List Row) (entries : List Entry) : Type 0 where
 
 -- ---- small facts
 
+pub cond-and : (a b : Bool) (n : ℕ) → cond (a && b) n 0 ≡ cond a (cond b n 0) 0
+cond-and true b n = refl
+cond-and false b n = refl
+
 held-at : (u d s : Bool) (n : ℕ) → cond (u && d) (cond s n 0) 0 ≡ cond (u && s) (cond (u && d) n 0) 0
 held-at true true s n = refl
 held-at true false true n = refl
@@ -73,6 +79,15 @@ open-at false false n = refl
 
 pub entry-at : (x : RequestId) (w : View → ℕ) (e : Entry) → entryW (at x w) e ≡ only (isEntry x) (entryW w) e
 entry-at x w e = open-at (isOpen e) (isEntry x e) (w (entryView e))
+
+pub any-count : {A : Type 0} (p : A → Bool) (l : List A) (d : A) → anyIn p l ≡ ltb 0 (count p l)
+any-count p l d =
+    caseB (ltb 0 (count p l))
+    (λ e. let h = ltb-true 0 (count p l) e in lt-ltb (find p l) (length l) (find-some p l h) ∙ sym e)
+    (λ e. let h = ltb-false 0 (count p l) e in
+    caseB (anyIn p l)
+    (λ y. let g = ltb-true (find p l) (length l) y in absurd (omega (arith, count-pos p l (find p l) d g (find-hit p l d g))))
+    (λ y. y ∙ sym e))
 
 -- what is not held weighs nothing, and neither does what has a release
 pub row-none : (w : View → ℕ) (r : Row) → isHeld r ≡ false → rowW w r ≡ 0

@@ -35,19 +35,18 @@ use Rattle.session.specs.Session.{marked, withFlight}
 use Rattle.session.specs.declared.InFlight.{InFlight}
 use Rattle.session.specs.declared.InFlight.the-variants as flight
 use Rattle.session.specs.declared.Session.{Session}
-use Rattle.requests.specs.Answers.{effect, ReportedTo, reportedTo}
-use Rattle.requests.specs.Reply.{acceptedBy, discardedBy, submitReplyBy, submitReplyIn, submitReplyOf}
-use Rattle.requests.specs.Poll.{pollRow, pollBy, pollOf}
-use Rattle.requests.specs.Finish.{failedAs, invalidAs, judgedTest, judgedBy, judged, FinishTo, settled, finishAt, finishBy, finishFound, finishIn, finishOf}
-use Rattle.requests.specs.declared.Polled.{Polled}
-use Rattle.requests.specs.declared.PollReply.{PollReply}
-use Rattle.requests.specs.declared.PollReply.the-variants as poll
-use Rattle.requests.specs.declared.SubmitReply.{SubmitReply}
-use Rattle.requests.specs.declared.SubmitReply.the-variants as submit
-use Rattle.requests.specs.declared.finish.Judgement.{Judgement}
+use Rattle.reports.specs.Answers.{effect, ReportedTo, reportedTo}
+use Rattle.submissions.specs.Reply.{acceptedBy, discardedBy, submitReplyBy, submitReplyIn, submitReplyOf}
+use Rattle.polls.specs.Poll.{pollRow, pollBy, pollOf}
+use Rattle.polls.specs.Finish.{failedAs, invalidAs, judgedTest, judgedBy, judged, FinishTo, settled, finishAt, finishBy, finishFound, finishIn, finishOf}
+use Rattle.polls.specs.declared.Polled.{Polled}
+use Rattle.polls.specs.declared.PollReply.{PollReply}
+use Rattle.polls.specs.declared.PollReply.the-variants as poll
+use Rattle.submissions.specs.declared.SubmitReply.{SubmitReply}
+use Rattle.submissions.specs.declared.SubmitReply.the-variants as submit
+use Rattle.polls.specs.declared.finish.Judgement.{Judgement}
 use Rattle.calls.specs.Answers.{ofReport, ofPoll}
-use Rattle.history.specs.Journal.{Entry, Journal, entryOf, atEntry, release, markFailed, acceptedAs, testedAs, settledBy, isAsked, endsBy, atWaiting, endedWith, idle, polledBy, pollWaits}
-use Rattle.history.specs.Claim.{View}
+use Rattle.history.specs.Journal.{Entry, Journal, entryOf, atEntry, release, markFailed, acceptedAs, testedAs, settledBy, isAsked, endsBy, atWaiting, endedWith, idle, polledBy, pollWaits, View}
 use Rattle.history.proofs.Led.{rowW, entryW, lengthOf, Changed, lone, entry-is}
 use Rattle.history.proofs.Changes.{pending-held, view-is, discard-change, token-change, settle-change, fail-change}
 use Rattle.history.proofs.Inv.{Inv, Live, stray, marks, stalls, effects, ends-idle, ends-at, poll-opens, live-pending, pending-live}

@@ -3,7 +3,7 @@ use Prim.Native.Nat.{ℕ, _*_, _<_, _≤_}
 use mathlib.Core.Bool.{Bool, true, false, not, _||_, true≢false}
 use mathlib.Core.List.{List}
 use mathlib.Core.Logic.{_⊎_, inl, inr}
-use mathlib.Core.Path.{_≡_, refl, ap}
+use mathlib.Core.Path.{_≡_, refl, subst}
 use borrow.Author.Tests.{not-false, ltb-false}
 use lib.Dec.{eqb}
 use lib.ListN.{length}
@@ -29,24 +29,24 @@ use Rattle.ledger.proofs.Placing.{found-row}
 use Rattle.checks.specs.Completion.{hasError, codeTested, testCode, testLength, testCompletion}
 use Rattle.checks.specs.declared.completion.CompletionTest.{CompletionTest}
 use Rattle.checks.specs.declared.completion.CompletionTest.the-variants as test
-use Rattle.session.specs.Session.{isBusy, isInitialized, withFlight}
+use Rattle.session.specs.Session.{isInitialized, withFlight}
 use Rattle.session.specs.declared.InFlight.{InFlight}
 use Rattle.session.specs.declared.InFlight.the-variants as flight
 use Rattle.session.specs.declared.Session.{Session}
-use Rattle.requests.specs.Answers.{effect}
-use Rattle.requests.specs.Finish.{FinishTo, failedAs, invalidAs, judgedTest, judgedBy, judged, settled, finishAt, finishBy, finishFound, finishIn, finishOf}
-use Rattle.requests.specs.declared.PollReply.{PollReply}
-use Rattle.requests.specs.declared.PollReply.the-variants as reply
-use Rattle.requests.specs.declared.finish.Judgement.{Judgement}
+use Rattle.reports.specs.Answers.{effect}
+use Rattle.polls.specs.Finish.{FinishTo, failedAs, invalidAs, judgedTest, judgedBy, judged, settled, finishAt, finishBy, finishFound, finishIn, finishOf}
+use Rattle.polls.specs.declared.PollReply.{PollReply}
+use Rattle.polls.specs.declared.PollReply.the-variants as reply
+use Rattle.polls.specs.declared.finish.Judgement.{Judgement}
 use Rattle.calls.specs.Step.{World, world}
-use Rattle.history.specs.Sound.{rowAt, Sound}
+use Rattle.history.specs.Sound.{rowAt, FlightReady, Sound}
 use Rattle.history.proofs.SoundMoves.{Moves, Idle, stays, marked-moves, effect-moves, moves-on, marked-idle, effect-idle, marked-apart}
 use Rattle.history.proofs.SoundRows.{Leads, kept, moved-idle, changed-certain, changed-uncertain}
 use Rattle.history.proofs.SoundSteps.{StepSound, StepCertain, complete-step, fail-step, quiet-step}
 use Rattle.history.proofs.SoundChange.{at-used}
 
 -- a valid completion is at most as long as requested, and its code is 1 or 13
-abbrev TestSound : ℕ → CompletionTest → Type 0
+abbrev pub TestSound : ℕ → CompletionTest → Type 0
 TestSound requested (test.Valid actual code) = (actual ≤ requested) × ((eqb code 1 || eqb code 13) ≡ true)
 TestSound requested test.MissingLength = Unit {0}
 TestSound requested test.Invalid = Unit {0}
@@ -68,7 +68,7 @@ module _ (c : BackendCompletion) (given requested : ℕ) where
       if-by (TestSound requested) _ _ _ (λ e. tt)
       (λ e. if-by (TestSound requested) _ _ _ (λ x. tt) (λ x. by-code actual (ltb-false _ _ (or-last (not (c .quiescent) || hasError (c .error)) _ e)) (c .«completion_code»)))
 
-  test-sound : TestSound requested (testCompletion c given requested)
+  pub test-sound : TestSound requested (testCompletion c given requested)
   unfolding testCompletion
   test-sound = by-length (c .«actual_length»)
 
@@ -159,7 +159,7 @@ module _ (w : World) (k : Sound w) (x : PollReply) (bytes : List ℕ) where
   by-flight (flight.Recovery target device endpoint kind) fits e = kept w k
   by-flight (flight.Poll id) fits e =
       if-by (FinishedSound w) _ _ _ (λ y. kept w k)
-      (λ y. by-place (k .ready (ap isBusy e)) id (foundIn (isAt id) (w .store .rows)) refl)
+      (λ y. by-place (subst (λ (g : InFlight). FlightReady g (w .session .state)) e (k .ready)) id (foundIn (isAt id) (w .store .rows)) refl)
 
   pub finish-sound : (fits : Bool) → FinishedSound w (finishOf (w .session) fits x bytes (w .store) (w .area))
   unfolding finishOf

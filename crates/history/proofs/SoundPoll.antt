@@ -13,8 +13,8 @@ use Rattle.ledger.specs.Search.{isAt}
 use Rattle.ledger.proofs.Placing.{found-row}
 use Rattle.session.specs.Session.{withFlight}
 use Rattle.session.specs.declared.InFlight.the-variants as flight
-use Rattle.requests.specs.Poll.{pollRow, pollBy, pollOf}
-use Rattle.requests.specs.declared.Polled.{Polled}
+use Rattle.polls.specs.Poll.{pollRow, pollBy, pollOf}
+use Rattle.polls.specs.declared.Polled.{Polled}
 use Rattle.calls.specs.Step.{World, world}
 use Rattle.history.specs.Sound.{rowAt, Sound}
 use Rattle.history.proofs.SoundMoves.{stays}
@@ -32,7 +32,7 @@ module _ (w : World) (k : Sound w) (id : RequestId) where
       (λ p. if-by (PolledSound w) _ _ _ (λ x. kept w k)
       (λ r. moved w k (withFlight (w .session) (flight.Poll id)) (stays (w .session)) (w .bus) (w .area)
       (record { index = i; below = h; used = at-used id (rowAt w i) e; own = at-own id (rowAt w i) e; state-is = not-false _ p })
-      (λ x. not-false _ r)))
+      (not-false _ r)))
 
   by-place : (g : Found) → g ≡ foundIn (isAt id) (w .store .rows) → PolledSound w (pollBy g (w .session) id (w .store .rows))
   unfolding pollBy

@@ -14,13 +14,15 @@ use Rattle.ledger.specs.declared.rules.Change.the-variants as change
 use Rattle.bus.specs.Tables.{cleared}
 use Rattle.session.specs.Lifecycle.{OpenedTo, newSession, openOf}
 use Rattle.session.specs.Sizes.{sized, rowsFit, openFits}
+use Rattle.session.specs.declared.RecoveryKind.the-variants as kind
 use Rattle.session.specs.declared.lifecycle.Opening.{Opening}
 use Rattle.session.proofs.Sized.{fit-rows}
-use Rattle.calls.specs.Calls.{Call, Open, SetDevice, SetPort, SetEndpoints, SetReconcile, Acquire, Initialize, Close, Submit, SubmitPlan, ReplySubmit, Poll, ReplyPoll, Cancel, Timeout, Reclaim, Status, Reports, CountReports, CompletedBytes, HeldCount, HeldBytes}
+use Rattle.calls.specs.Calls.{Call, Open, SetDevice, SetPort, SetEndpoints, SetReconcile, Acquire, Initialize, Close, Submit, SubmitPlan, ReplySubmit, Poll, ReplyPoll, AbortRequest, ResetEndpoint, ReplyRecovery, Cancel, Timeout, Reclaim, Status, Reports, CountReports, CompletedBytes, HeldCount, HeldBytes}
 use Rattle.calls.specs.Step.{World, world, opens, rowsFitIn, areaFitsIn, storeFitsIn, stepOf}
 use Rattle.calls.specs.declared.Answer.the-variants as answer
-use Rattle.history.specs.Run.{Handed, own, other, Event, next, leftBy, endOf, isOpening, Handing, Follows, lent, Whole}
+use Rattle.history.specs.Run.{Handed, Event, next, leftBy, endOf, isOpening, Handing, Follows}
 use Rattle.history.specs.Sound.{Sound, Fitted}
+use Rattle.history.proofs.Handings.{by-handed}
 use Rattle.history.proofs.SoundRows.{Leads, kept, same, all-free, all-fitted}
 use Rattle.history.proofs.SoundSteps.{cancel-step, timeout-step, reclaim-step}
 use Rattle.history.proofs.SoundChange.{change-sound}
@@ -28,6 +30,7 @@ use Rattle.history.proofs.SoundReply.{reply-sound}
 use Rattle.history.proofs.SoundPoll.{poll-sound}
 use Rattle.history.proofs.SoundFinish.{finish-sound}
 use Rattle.history.proofs.SoundSubmit.{submit-sound, plan-sound}
+use Rattle.history.proofs.SoundRecover.{begin-sound, recovery-sound}
 use Rattle.history.proofs.SoundClose.{acquire-sound, initialize-sound, close-sound}
 
 -- what an opening that passes says of the sizes
@@ -52,7 +55,10 @@ by-opening o w P go =
 pub sound-open : (o : Opening) (w : World) → stepOf (Open o) w .result .answer ≡ answer.Pass → Sound (next (stepOf (Open o) w))
 sound-open o w = by-opening o w Sound (λ z. all-free (w .store) (newSession o) cleared (w .area) (fits-sized _ _ _ z) refl)
 
--- a store of lent words has as many rows as they say
+-- a store has as many rows as its words say; one of lent words always does
+abbrev pub Whole : World → Type 0
+Whole w = length (w .store .rows) ≡ rowCount (w .store .words)
+
 pub lent-rows : (l : List ℕ) → length (storeOf l .rows) ≡ rowCount (storeOf l .words)
 unfolding storeOf
 lent-rows l = length-rowsOf l
@@ -82,6 +88,9 @@ leads (SubmitPlan q bytes first) w k e = plan-sound w k q bytes first (storeFits
 leads (ReplySubmit reply) w k e = reply-sound w k (rowsFitIn w) reply
 leads (Poll id) w k e = poll-sound w k id (rowsFitIn w)
 leads (ReplyPoll reply bytes) w k e = finish-sound w k reply bytes (rowsFitIn w && areaFitsIn w)
+leads (AbortRequest id) w k e = begin-sound w k (rowsFitIn w) id kind.Abort
+leads (ResetEndpoint id preserve) w k e = begin-sound w k (rowsFitIn w) id (kind.Reset preserve)
+leads (ReplyRecovery reply tokens words aborted bytes) w k e = recovery-sound w k tokens words aborted bytes (rowsFitIn w && areaFitsIn w) reply
 leads (Cancel id) w k e = change-sound w k (rowsFitIn w) id change.LogicalCancel cancel-step
 leads (Timeout id) w k e = change-sound w k (rowsFitIn w) id change.Timeout timeout-step
 leads (Reclaim id) w k e = change-sound w k (rowsFitIn w) id change.Reclaim reclaim-step
@@ -99,12 +108,13 @@ pub fitted-step : (c : Call) (w : World) → Sound w → isOpening c ≡ false �
 fitted-step c w k e = leads c w k e .fitted
 
 left-leads : (h : Handed) (c : Call) (w : World) → Sound w → Handing h c → Leads w (leftBy h c w)
-left-leads own c w k e = leads c w k e
-left-leads (lent bus area) c w k e =
+left-leads h c w k e =
+    by-handed h c w (λ x v. Leads w v) e
+    (λ first bus area.
     let a = same w k bus area in
-    let b = leads c (world (w .session) bus (w .store) area) (a .sound) e in
-    record { sound = b .sound; fitted = λ z. b .fitted (a .fitted z) }
-left-leads (other v) c w k e = kept w k
+    let b = leads c (world (w .session) bus (w .store) area) (a .sound) first in
+    record { sound = b .sound; fitted = λ z. b .fitted (a .fitted z) })
+    (kept w k)
 
 -- a list of calls from a sound session
 leads-on : (es : List Event) (w : World) → Sound w → Follows es → Leads w (endOf w es)

@@ -48,9 +48,9 @@ use Rattle.checks.specs.declared.target.DeviceChecked.the-variants as answer
 use Rattle.session.specs.Session.{isInitialized}
 use Rattle.session.specs.Session as session
 use Rattle.session.specs.declared.Session.{Session}
-use Rattle.requests.specs.Begin.{roomIn, newId, startRefused, beginBy, beginOf, TargetTo, targetTo, withBus, targetOf}
-use Rattle.requests.specs.Begin as begin
-use Rattle.requests.specs.Submit.{SubmitTo, submittedBy, submittedTo, readyOf, preparedBy, roomBy, packetsBy, submitBy, submitOf, PlanTo, planStarted, plannedTo, plannedBy, planRoomBy, planBy, submitPlanOf}
+use Rattle.submissions.specs.Begin.{roomIn, newId, startRefused, beginBy, beginOf, TargetTo, targetTo, withBus, targetOf}
+use Rattle.submissions.specs.Begin as begin
+use Rattle.submissions.specs.Submit.{SubmitTo, submittedBy, submittedTo, readyOf, preparedBy, roomBy, packetsBy, submitBy, submitOf, PlanTo, planStarted, plannedTo, plannedBy, planRoomBy, planBy, submitPlanOf}
 use Rattle.checks.proofs.Passed.{ready-fits, planned-fits}
 use Rattle.calls.specs.Step.{World, world}
 use Rattle.history.specs.Sound.{RowSound, rowAt, FlightSound, isBare, Sound}
@@ -202,7 +202,7 @@ module _ (w : World) (k : Sound w) (i : ℕ) (h : i < length (w .store .rows)) (
       let x = sum-set (one isHeld) (w .store .rows) i own emptyRow h in
       let y = sum-set (one isUncertain) (w .store .rows) i own emptyRow h in
       put w k i h own begun begun-moves b a (λ e. row-own) alone (omega (arith, one-more)) (omega (arith, no-more, k .uncertain))
-      (λ e. omega (arith, no-more, k .certain e)) (ready-full (w .session .state) ready) flies (λ e. ready)
+      (λ e. omega (arith, no-more, k .certain e)) (ready-full (w .session .state) ready) flies ready
 
 -- a submission
 abbrev pub SubmittedSound : World → SubmitTo → Type 0

@@ -32,13 +32,14 @@ use Rattle.ledger.proofs.Placing.{found-row}
 use Rattle.session.specs.Session.{isClosed, isBusy, marked}
 use Rattle.session.specs.Lifecycle.{CalledTo, acquiredBy, acquireOf, initializedBy, initializeOf, closedBy, freshBy, closeOf}
 use Rattle.session.specs.declared.Called.{Called}
+use Rattle.session.specs.declared.RecoveryKind.the-variants as kind
 use Rattle.session.specs.declared.Session.{Session}
 use Rattle.session.specs.declared.lifecycle.AcquireReply.{AcquireReply}
 use Rattle.session.specs.declared.lifecycle.AcquireReply.the-variants as acquire
-use Rattle.requests.specs.Answers.{ReportedTo}
-use Rattle.requests.specs.Change.{reportedBy, changeOf}
+use Rattle.reports.specs.Answers.{ReportedTo}
+use Rattle.reports.specs.Change.{reportedBy, changeOf}
 use Rattle.calls.specs.Answers.{ofVerdict}
-use Rattle.calls.specs.Calls.{Call, Open, SetDevice, SetPort, SetEndpoints, SetReconcile, Acquire, Initialize, Close, Submit, SubmitPlan, ReplySubmit, Poll, ReplyPoll, Cancel, Timeout, Reclaim, Status, Reports, CountReports, CompletedBytes, HeldCount, HeldBytes}
+use Rattle.calls.specs.Calls.{Call, Open, SetDevice, SetPort, SetEndpoints, SetReconcile, Acquire, Initialize, Close, Submit, SubmitPlan, ReplySubmit, Poll, ReplyPoll, AbortRequest, ResetEndpoint, ReplyRecovery, Cancel, Timeout, Reclaim, Status, Reports, CountReports, CompletedBytes, HeldCount, HeldBytes}
 use Rattle.calls.specs.Step.{World, After, stepOf, rowsFitIn, areaFitsIn, storeFitsIn}
 use Rattle.history.specs.Run.{isOpening, numberOf, isIn, isNew, noted}
 use Rattle.history.specs.Journal.{Journal, isPass, releasedAll, journalStep}
@@ -47,6 +48,7 @@ use Rattle.history.proofs.Changes.{flag-alike, empty-alike}
 use Rattle.history.proofs.Inv.{Inv, restated, marks, quietly, seen-more, closed-again, closed-anew}
 use Rattle.history.proofs.Submits.{submit-kept, plan-kept}
 use Rattle.history.proofs.Replies.{reply-kept, poll-kept, finish-kept}
+use Rattle.history.proofs.Keeps.{begin-kept, recovery-kept}
 
 -- ---- cancel, timeout and reclaim: the row they lead to weighs what it did
 abbrev pub Stays : Row → Step → Type 0
@@ -158,6 +160,10 @@ step-kept (SubmitPlan q bytes one) w j seen k first new = plan-kept (w .session)
 step-kept (ReplySubmit reply) w j seen k first new = reply-kept (w .session) j seen (w .store) k (rowsFitIn w) reply
 step-kept (Poll id) w j seen k first new = poll-kept (w .session) j seen (w .store) k (rowsFitIn w) id
 step-kept (ReplyPoll reply bytes) w j seen k first new = finish-kept (w .session) j seen (w .store) k (rowsFitIn w && areaFitsIn w) reply bytes (w .area)
+step-kept (AbortRequest id) w j seen k first new = begin-kept (w .session) j seen (w .store) k (rowsFitIn w) id kind.Abort
+step-kept (ResetEndpoint id preserve) w j seen k first new = begin-kept (w .session) j seen (w .store) k (rowsFitIn w) id (kind.Reset preserve)
+step-kept (ReplyRecovery reply tokens words aborted bytes) w j seen k first new =
+    recovery-kept (w .session) j seen (w .store) k tokens words aborted bytes (w .area) (rowsFitIn w && areaFitsIn w) reply
 step-kept (Cancel id) w j seen k first new = change-kept (w .session) j seen (w .store) k (rowsFitIn w) id change.LogicalCancel cancel-stays
 step-kept (Timeout id) w j seen k first new = change-kept (w .session) j seen (w .store) k (rowsFitIn w) id change.Timeout timeout-stays
 step-kept (Reclaim id) w j seen k first new = change-kept (w .session) j seen (w .store) k (rowsFitIn w) id change.Reclaim reclaim-stays

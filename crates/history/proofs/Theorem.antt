@@ -6,9 +6,9 @@ use mathlib.Core.List.{List, [], _∷_, _++_}
 use native.Mathlib.Omega.{arith}
 use lib.Dec.{ltb}
 use lib.ListN.{length, getD, replicate}
-use borrow.Author.Tests.{eq-eqb, lt-ltb, ltb-true, ltb-false}
+use borrow.Author.Tests.{eq-eqb, ltb-true, ltb-false}
 use Rattle.chain.specs.Chain.{_if_else_}
-use Rattle.chain.specs.Lists.{sumBy, only, count, find, anyIn, foundIn}
+use Rattle.chain.specs.Lists.{sumBy, only, count, find, foundIn}
 use Rattle.chain.specs.declared.Found.{Found}
 use Rattle.chain.specs.declared.Found.the-variants as found
 use Rattle.chain.proofs.Chain.{caseB, if-by}
@@ -18,7 +18,7 @@ use Rattle.models.specs.Requests.{deviceMayAccess, sameRequest}
 use Rattle.models.specs.declared.Refusal.{Refusal}
 use Rattle.models.specs.declared.RequestId.{RequestId}
 use Rattle.models.specs.declared.RequestReport.{RequestReport}
-use Rattle.rows.specs.Store.{emptied}
+use Rattle.rows.specs.Store.{storeOf, emptied}
 use Rattle.rows.specs.Table.{emptyRow, isHeld}
 use Rattle.rows.specs.declared.Row.{Row}
 use Rattle.ledger.specs.Apply.{applyBy, applyAt, applyOf}
@@ -30,29 +30,41 @@ use Rattle.ledger.proofs.Placing.{found-row}
 use Rattle.ledger.proofs.Saturated.{count-plain, bytes-plain}
 use Rattle.session.specs.Lifecycle.{OpenedTo, newSession, openOf}
 use Rattle.session.specs.Sizes.{openFits}
+use Rattle.bus.specs.Tables.{Bus, busOf}
+use Rattle.session.specs.declared.InFlight.{InFlight}
+use Rattle.session.specs.declared.InFlight.the-variants as flight
+use Rattle.session.specs.declared.RecoveryKind.{RecoveryKind}
+use Rattle.session.specs.declared.RecoveryKind.the-variants as kind
+use Rattle.session.specs.declared.Session.{Session}
 use Rattle.session.specs.declared.lifecycle.Opening.{Opening}
-use Rattle.requests.specs.Answers.{ReportedTo}
-use Rattle.requests.specs.Change.{reportedBy, changeOf}
-use Rattle.requests.specs.Status.{heldCountOf, heldBytesOf}
+use Rattle.recovery.specs.declared.AbortReport.{AbortReport}
+use Rattle.recovery.specs.Begin.{beginOf}
+use Rattle.recovery.specs.declared.Recovery.{Recovery}
+use Rattle.recovery.specs.declared.RecoveryReply.{RecoveryReply}
+use Rattle.reports.specs.Answers.{ReportedTo}
+use Rattle.reports.specs.Change.{reportedBy, changeOf}
+use Rattle.reports.specs.Status.{heldCountOf, heldBytesOf}
 use Rattle.calls.specs.Answers.{ofOpened, ofReport, ofTally}
-use Rattle.calls.specs.Calls.{Call, Open, SetDevice, SetPort, SetEndpoints, SetReconcile, Acquire, Initialize, Close, Submit, SubmitPlan, ReplySubmit, Poll, ReplyPoll, Cancel, Timeout, Reclaim, Status, Reports, CountReports, CompletedBytes, HeldCount, HeldBytes}
-use Rattle.calls.specs.Step.{World, world, stepOf}
+use Rattle.calls.specs.Calls.{Call, Open, Reclaim}
+use Rattle.calls.specs.Step.{World, After, world, begins, rowsFitIn, stepOf}
 use Rattle.calls.specs.declared.Answer.{Answer}
 use Rattle.calls.specs.declared.Answer.the-variants as answer
-use Rattle.history.specs.Run.{Handed, own, lent, other, Event, next, answerTo, leftBy, endOf, historyOf, Handing, Follows, numberOf, isNew, noted, Fresh, Whole}
-use Rattle.history.specs.Journal.{Entry, Journal, blank, isNone, isOpen, isEntry, noEntry, entryOf, journalStep, journalOf}
-use Rattle.history.specs.Claim.{View, rowView, entryView, heldAs, openAs, Agrees, releasesOf, reclaims, Claim}
-use Rattle.history.proofs.SoundRun.{fitted-run}
-use Rattle.history.proofs.Led.{rowW, entryW, each, lengthOf, long, at, twice, Led, row-none, and-less, unheld-row, known-in, entry-is}
+use Rattle.history.specs.Run.{Handed, Event, next, answerTo, leftBy, endOf, historyOf, Handing, Follows, numberOf, isNew, noted, Fresh}
+use Rattle.history.specs.Journal.{Entry, Journal, blank, isNone, isOpen, isEntry, noEntry, entryOf, recoveryWaits, journalStep, journalOf, View, entryView}
+use Rattle.history.specs.Claim.{rowView, heldAs, openAs, Agrees, releasesOf, rowsBy, entriesAfter, reclaims, startOf, starts, recovers, Recovered, Spared, Claim}
+use Rattle.history.proofs.Handings.{by-handed, follows-at, follows-front, fresh-front}
+use Rattle.history.proofs.SoundRun.{Whole, fitted-run, lent-rows}
+use Rattle.history.proofs.Led.{cond-and, any-count, rowW, entryW, each, lengthOf, long, at, twice, Led, row-none, and-less, unheld-row, known-in, entry-is}
 use Rattle.history.proofs.Changes.{none-held, none-at}
 use Rattle.history.proofs.Inv.{Inv, seen-more}
+use Rattle.history.proofs.Keeps.{begin-names}
 use Rattle.history.proofs.Steps.{step-kept}
+use Rattle.history.proofs.Counting.{refused-3, handed-over}
+use Rattle.history.proofs.Refusing.{refused-untouched}
+use Rattle.history.proofs.Settling.{no-report, Settles, recovered-told, waited-told}
+use Rattle.history.proofs.Sparing.{all-spared, reply-spares}
 
 -- ---- rows and entries that agree, seen through a filter
-cond-and : (a b : Bool) (n : ℕ) → cond (a && b) n 0 ≡ cond a (cond b n 0) 0
-cond-and true b n = refl
-cond-and false b n = refl
-
 row-ids : (u d s q : Bool) → cond {A = ℕ} ((u && s) && ((u && d) && q)) 1 0 ≡ cond (u && d) (cond s (cond q 1 0) 0) 0
 row-ids true true true q = refl
 row-ids true true false q = refl
@@ -65,15 +77,6 @@ entry-ids true true q = refl
 entry-ids true false q = refl
 entry-ids false true q = refl
 entry-ids false false q = refl
-
-any-count : {A : Type 0} (p : A → Bool) (l : List A) (d : A) → anyIn p l ≡ ltb 0 (count p l)
-any-count p l d =
-    caseB (ltb 0 (count p l))
-    (λ e. let h = ltb-true 0 (count p l) e in lt-ltb (find p l) (length l) (find-some p l h) ∙ sym e)
-    (λ e. let h = ltb-false 0 (count p l) e in
-    caseB (anyIn p l)
-    (λ y. let g = ltb-true (find p l) (length l) y in absurd (omega (arith, count-pos p l (find p l) d g (find-hit p l d g))))
-    (λ y. y ∙ sym e))
 
 row-size : (r : Row) → rowW long r ≡ 0 → rowW lengthOf r ≤ rowW each r * 65536
 row-size r =
@@ -148,41 +151,15 @@ module _ (rows : List Row) (entries : List Entry) (k : Led rows entries) where
       go (suc n) e = omega arith
 
 -- ---- a list of calls
-refused-3 : (c : Call) (j : Journal) → journalStep c (answer.Refused (validation 3)) j ≡ j
-unfolding journalStep
-refused-3 (Open o) j = refl
-refused-3 (SetDevice d) j = refl
-refused-3 (SetPort number row) j = refl
-refused-3 (SetEndpoints slot list) j = refl
-refused-3 (SetReconcile slot mark) j = refl
-refused-3 (Acquire reply) j = refl
-refused-3 (Initialize reply) j = refl
-refused-3 (Close fresh reply) j = refl
-refused-3 (Submit q bytes packed packets first second) j = refl
-refused-3 (SubmitPlan q bytes first) j = refl
-refused-3 (ReplySubmit reply) j = refl
-refused-3 (Poll id) j = refl
-refused-3 (ReplyPoll reply bytes) j = refl
-refused-3 (Cancel id) j = refl
-refused-3 (Timeout id) j = refl
-refused-3 (Reclaim id) j = refl
-refused-3 (Status id) j = refl
-refused-3 (Reports from) j = refl
-refused-3 CountReports j = refl
-refused-3 (CompletedBytes id) j = refl
-refused-3 HeldCount j = refl
-refused-3 HeldBytes j = refl
-
 abbrev pub Holds : World → Journal → List ℕ → Type 0
 Holds w j seen = Inv (w .session) (w .store .rows) j seen
 
 event-kept : (h : Handed) (c : Call) (w : World) (j : Journal) (seen : List ℕ) → Holds w j seen → Handing h c → isNew (numberOf c) seen ≡ true
     → Holds (leftBy h c w) (journalStep c (answerTo w (record { call = c; handed = h })) j) (noted (numberOf c) seen)
-event-kept own c w j seen k f n = step-kept c w j seen k f n
-event-kept (lent bus area) c w j seen k f n = step-kept c (world (w .session) bus (w .store) area) j seen k f n
-event-kept (other v) c w j seen k f n =
-    subst (λ (x : Journal). Holds w x (noted (numberOf c) seen)) (sym (ap (λ (a : Answer). journalStep c a j) f ∙ refused-3 c j))
-    (seen-more (w .session) (w .store .rows) j seen k (numberOf c))
+event-kept h c w j seen k f n =
+    by-handed h c w (λ a v. Holds v (journalStep c a j) (noted (numberOf c) seen)) f
+    (λ first bus area. step-kept c (world (w .session) bus (w .store) area) j seen k first n)
+    (subst (λ (x : Journal). Holds w x (noted (numberOf c) seen)) (sym (refused-3 c j)) (seen-more (w .session) (w .store .rows) j seen k (numberOf c)))
 
 pub run-kept : (es : List Event) (w : World) (j : Journal) (seen : List ℕ) → Holds w j seen → Follows es → Fresh seen es
     → (seen′ : List ℕ) × Holds (endOf w es) (journalOf (historyOf w es) j) seen′
@@ -240,44 +217,112 @@ reclaim-told w x r entries k =
         _ (deviceMayAccess (getD (w .store .rows) i emptyRow .state)) _ (λ y h. refuses h)
         (λ y h. unheld-once (w .store .rows) entries k x i (p .0) (p .1) (unheld-row (getD (w .store .rows) i emptyRow) y))
 
--- whatever the reclaim is handed: another session or other slices would be refused by 3
-reclaim-once : (h : Handed) (w : World) (x : RequestId) (r : RequestReport) (entries : List Entry) → Led (w .store .rows) entries → Handing h (Reclaim x)
-    → answerTo w (reclaims x h) ≡ answer.Report r → releasesOf x entries ≡ 1
-reclaim-once own w x r entries k f a = reclaim-told w x r entries k a
-reclaim-once (lent bus area) w x r entries k f a = reclaim-told (world (w .session) bus (w .store) area) x r entries k a
-reclaim-once (other v) w x r entries k f a =
-    let e : answer.Refused (validation 3) ≡ answer.Report r = sym f ∙ a in let z : _≡_ {A = ℕ} 0 1 = cc in absurd (omega arith)
+-- ---- a recovery's start, of either kind
+pub start-step : (q : RecoveryKind) (id : RequestId) (v : World) → stepOf (startOf q id) v ≡ begins (beginOf (v .session) (rowsFitIn v) id q (v .store .rows)) v
+unfolding stepOf
+start-step kind.Abort id v = refl
+start-step (kind.Reset preserve) id v = refl
 
 -- ---- the theorem
-follows-at : (before after : List Event) (e : Event) → Follows (before ++ (e ∷ after)) → Handing (e .handed) (e .call)
-follows-at [] after e f = f .0
-follows-at (d ∷ before) after e f = follows-at before after e (f .1)
+module _ (o : Opening) (w : World) (es : List Event) (pass : stepOf (Open o) w .result .answer ≡ answer.Pass) (follows : Follows es)
+    (fresh : Fresh (o .session ∷ []) es) where
+  abbrev start : World
+  start = next (stepOf (Open o) w)
 
-follows-front : (before after : List Event) → Follows (before ++ after) → Follows before
-follows-front [] after f = tt
-follows-front (e ∷ before) after f = (f .0, follows-front before after (f .1))
+  abbrev seen : List ℕ
+  seen = o .session ∷ []
 
-fresh-front : (seen : List ℕ) (before after : List Event) → Fresh seen (before ++ after) → Fresh seen before
-fresh-front seen [] after f = tt
-fresh-front seen (e ∷ before) after f = (f .0, fresh-front (noted (numberOf (e .call)) seen) before after (f .1))
+  -- what holds before a call of the list
+  module _ (before after : List Event) (e : Event) (is : es ≡ before ++ (e ∷ after)) where
+    handing : Handing (e .handed) (e .call)
+    handing = follows-at before after e (subst Follows is follows)
 
-pub history-claim : (o : Opening) (w : World) (es : List Event) → Whole w → stepOf (Open o) w .result .answer ≡ answer.Pass → Follows es
-    → Fresh (o .session ∷ []) es → Claim (next (stepOf (Open o) w)) es
-unfolding stepOf
-history-claim o w es whole pass follows fresh =
-    let fits = fitted-run o w es pass follows whole .fits in
-    let start = opened-holds o w pass in
-    let k = run-kept es (next (stepOf (Open o) w)) blank (o .session ∷ []) start follows fresh .1 .led in
-    record {
-      agrees = agreed _ _ k;
-      count-is = count-told _ _ k _ fits;
-      bytes-is = bytes-told _ _ k _ fits;
-      one-entry = k .once;
-      one-release = release-once _ _ k;
-      reclaimed = λ before after h x r e a.
-          let all = subst Follows e follows in
-          let f = follows-front before (reclaims x h ∷ after) all in
-          let n = fresh-front (o .session ∷ []) before (reclaims x h ∷ after) (subst (Fresh (o .session ∷ [])) e fresh) in
-          reclaim-once h (endOf (next (stepOf (Open o) w)) before) x r _ (run-kept before (next (stepOf (Open o) w)) blank (o .session ∷ []) start f n .1 .led)
-          (follows-at before after (reclaims x h) all) a;
-    }
+    holds : (s : List ℕ) × Holds (endOf start before) (journalOf (historyOf start before) blank) s
+    holds =
+        run-kept before start blank seen (opened-holds o w pass) (follows-front before (e ∷ after) (subst Follows is follows))
+        (fresh-front seen before (e ∷ after) (subst (Fresh seen) is fresh))
+
+  reclaim-at : (before after : List Event) (h : Handed) (x : RequestId) (r : RequestReport) → es ≡ before ++ (reclaims x h ∷ after)
+      → answerTo (endOf start before) (reclaims x h) ≡ answer.Report r → releasesOf x (entriesAfter start before) ≡ 1
+  reclaim-at before after h x r is =
+      let at = endOf start before in
+      let k = holds before after (reclaims x h) is .1 .led in
+      by-handed h (Reclaim x) at (λ a v. a ≡ answer.Report r → releasesOf x (entriesAfter start before) ≡ 1) (handing before after (reclaims x h) is)
+      (λ first bus area. reclaim-told (world (at .session) bus (at .store) area) x r _ k)
+      (λ e. let z : _≡_ {A = ℕ} 0 1 = cc in absurd (omega arith))
+
+  started-at : (before after : List Event) (h : Handed) (q : RecoveryKind) (id : RequestId) → es ≡ before ++ (starts q id h ∷ after) → (x : Recovery)
+      → answerTo (endOf start before) (starts q id h) ≡ answer.Recovering x
+      → flight.Recovery (x .target) (x .device) (x .endpoint) (x .kind) ≡ recoveryWaits id q (journalOf (historyOf start before) blank) .waiting
+  started-at before after h q id is x =
+      let mid = endOf start before in
+      let k = holds before after (starts q id h) is in
+      by-handed h (startOf q id) mid
+      (λ a v. a ≡ answer.Recovering x → flight.Recovery (x .target) (x .device) (x .endpoint) (x .kind) ≡ recoveryWaits id q (journalOf (historyOf start before) blank) .waiting)
+      (handing before after (starts q id h) is)
+      (λ first bus area a.
+      let v = world (mid .session) bus (mid .store) area in
+      begin-names (mid .session) (journalOf (historyOf start before) blank) (k .0) (mid .store) (k .1) x (rowsFitIn v) id q
+      (sym (ap (λ (z : After). z .result .answer) (start-step q id v)) ∙ a))
+      (λ a. let z : _≡_ {A = ℕ} 0 1 = cc in absurd (omega arith))
+
+  module _ (before after : List Event) (h : Handed) (reply : RecoveryReply) (tokens words aborted bytes : List ℕ)
+      (is : es ≡ before ++ (recovers reply tokens words aborted bytes h ∷ after)) where
+    abbrev mid : World
+    mid = endOf start before
+
+    abbrev ending : Event
+    ending = recovers reply tokens words aborted bytes h
+
+    by-reply : (P : Answer → World → Type 0)
+        → ((bus : Bus) (area : List ℕ) → P (stepOf (ending .call) (world (mid .session) bus (mid .store) area) .result .answer) (next (stepOf (ending .call) (world (mid .session) bus (mid .store) area))))
+        → P (answer.Refused (validation 3)) mid → P (answerTo mid ending) (leftBy h (ending .call) mid)
+    by-reply P ours = by-handed h (ending .call) mid P (handing before after ending is) (λ first. ours)
+
+    recovered-at : (x : AbortReport) → answerTo mid ending ≡ answer.Recovered x → Settles (mid .store .rows) tokens words aborted (rowsBy mid ending) x
+    unfolding stepOf
+    recovered-at x =
+        by-reply (λ a v. a ≡ answer.Recovered x → Settles (mid .store .rows) tokens words aborted (v .store .rows) x)
+        (λ bus area. recovered-told (mid .session) (mid .store) (holds before after ending is .1 .led .few) tokens words aborted bytes area x _ reply)
+        (no-report (validation 3) x _)
+
+    reported-at : (x : AbortReport) → answerTo mid ending ≡ answer.Recovered x
+        → (q : RecoveryKind) × (journalOf (historyOf start before) blank .waiting ≡ flight.Recovery (x .target) (x .device) (x .endpoint) q)
+    unfolding stepOf
+    reported-at x e =
+        let q = by-reply (λ a v. a ≡ answer.Recovered x → (q : RecoveryKind) × (mid .session .«in_flight» ≡ flight.Recovery (x .target) (x .device) (x .endpoint) q))
+        (λ bus area. waited-told (mid .session) (mid .store) tokens words aborted bytes area x _ reply) (no-report (validation 3) x _) e in
+        (q .0, holds before after ending is .1 .agree ∙ q .1)
+
+    spared-at : Spared (journalOf (historyOf start before) blank .waiting) (mid .store .rows) (rowsBy mid ending)
+    unfolding stepOf
+    spared-at =
+        subst (λ (f : InFlight). Spared f (mid .store .rows) (rowsBy mid ending)) (sym (holds before after ending is .1 .agree))
+        (by-reply (λ a v. Spared (mid .session .«in_flight») (mid .store .rows) (v .store .rows))
+        (λ bus area. reply-spares (mid .session) (mid .store) tokens words aborted bytes area _ reply) (all-spared (mid .session .«in_flight») (mid .store .rows)))
+
+  pub whole-claim : Whole w → Claim start es
+  unfolding stepOf
+  whole-claim whole =
+      let fits = fitted-run o w es pass follows whole .fits in
+      let k = run-kept es start blank seen (opened-holds o w pass) follows fresh .1 .led in
+      record {
+        agrees = agreed _ _ k;
+        count-is = count-told _ _ k _ fits;
+        bytes-is = bytes-told _ _ k _ fits;
+        one-entry = k .once;
+        one-release = release-once _ _ k;
+        reclaimed = reclaim-at;
+        handed = λ x. let a = handed-over x es start blank follows in omega (arith, a);
+        started = started-at;
+        recovered = recovered-at;
+        spared = spared-at;
+        reported = reported-at;
+        untouched = refused-untouched;
+      }
+
+-- the theorem: over lent slices, which always have as many rows as their words say
+pub history-claim : (o : Opening) (s : Session) (bus rows area : List ℕ) (es : List Event)
+    → stepOf (Open o) (world s (busOf bus) (storeOf rows) area) .result .answer ≡ answer.Pass → Follows es → Fresh (o .session ∷ []) es
+    → Claim (next (stepOf (Open o) (world s (busOf bus) (storeOf rows) area))) es
+history-claim o s bus rows area es pass follows fresh = whole-claim o (world s (busOf bus) (storeOf rows) area) es pass follows fresh (lent-rows rows)

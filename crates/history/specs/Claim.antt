@@ -1,33 +1,46 @@
 -- Demand 3, one claim about a list of calls: the held rows are the entries without a release. Assumes nothing.
-use Prim.Native.Nat.{ℕ, _≤_}
-use mathlib.Core.Bool.{Bool, true, _&&_}
-use mathlib.Core.List.{List, _∷_, _++_}
+use Prim.Native.Nat.{ℕ, _≤_, _<_}
+use mathlib.Core.Bool.{Bool, true, false, cond, _&&_}
+use mathlib.Core.List.{List, [], _∷_, _++_, map}
 use mathlib.Core.Path.{_≡_}
+use lib.Dec.{eqb}
+use lib.ListN.{length}
 use Rattle.chain.specs.Lists.{sumBy, only, count, anyIn}
+use Rattle.words.specs.declared.OptionU32.{OptionU32}
+use Rattle.words.specs.declared.OptionU32.the-variants as u32
 use Rattle.words.specs.declared.OptionU64.{OptionU64}
 use Rattle.words.specs.declared.OptionU64.the-variants as u64
-use Rattle.models.specs.Requests.{isUncertainFailure}
+use Rattle.models.specs.Refusals.{validation}
+use Rattle.models.specs.Requests.{isUncertainFailure, sameRequest}
 use Rattle.models.specs.declared.DeviceId.{DeviceId}
 use Rattle.models.specs.declared.RequestId.{RequestId}
 use Rattle.models.specs.declared.RequestReport.{RequestReport}
-use Rattle.rows.specs.Table.{isHeld}
+use Rattle.models.specs.declared.RequestState.{RequestState}
+use Rattle.models.specs.declared.RequestState.the-variants.{Pending, Completed, Failed, Aborted}
+use Rattle.rows.specs.Table.{isHeld, rowIn, tokenIn}
 use Rattle.rows.specs.declared.Row.{Row}
+use Rattle.ledger.specs.Rules.{withState}
 use Rattle.ledger.specs.Search.{isAt}
-use Rattle.calls.specs.Calls.{Call, Reclaim, HeldCount, HeldBytes}
-use Rattle.calls.specs.Step.{World}
+use Rattle.checks.specs.Completion.{hasError}
+use Rattle.reports.specs.declared.OptionId.{OptionId}
+use Rattle.reports.specs.declared.OptionId.the-variants as option
+use Rattle.scope.specs.Affected.{isAffected}
+use Rattle.scope.specs.Returned.{Returned, returnedOf}
+use Rattle.scope.specs.Scope.{isIn}
+use Rattle.session.specs.declared.InFlight.{InFlight}
+use Rattle.session.specs.declared.InFlight.the-variants as flight
+use Rattle.session.specs.declared.RecoveryKind.{RecoveryKind}
+use Rattle.session.specs.declared.RecoveryKind.the-variants as kind
+use Rattle.recovery.specs.declared.AbortReport.{AbortReport}
+use Rattle.recovery.specs.declared.Recovery.{Recovery}
+use Rattle.recovery.specs.declared.RecoveryReply.{RecoveryReply}
+use Rattle.calls.specs.Calls.{Call, AbortRequest, ResetEndpoint, ReplyRecovery, Reclaim, HeldCount, HeldBytes}
+use Rattle.calls.specs.Step.{World, stepOf}
 use Rattle.calls.specs.declared.Answer.the-variants as answer
-use Rattle.history.specs.Run.{Handed, own, Event, endOf, historyOf, answerTo}
-use Rattle.history.specs.Journal.{Entry, blank, isOpen, isEntry, journalOf}
+use Rattle.history.specs.Run.{Handed, own, Event, Answered, next, leftBy, endOf, historyOf, answerTo}
+use Rattle.history.specs.Journal.{Entry, View, entryView, blank, isOpen, isEntry, begunId, recoveryWaits, journalOf}
 
--- what a row and an entry have in common
-pub record View : Type 0 where
-  pub id : RequestId
-  pub device : DeviceId
-  pub endpoint : ℕ
-  pub requested : ℕ
-  pub token : ℕ
-  pub failed : Bool
-
+-- what a row has in common with an entry
 abbrev pub rowView : Row → View
 rowView r = record {
   id = r .id;
@@ -36,21 +49,6 @@ rowView r = record {
   requested = r .metadata .«requested_length»;
   token = r .token;
   failed = isUncertainFailure (r .state);
-}
-
--- a row whose token has not come yet has 0 there
-abbrev pub tokenOr0 : OptionU64 → ℕ
-tokenOr0 u64.None = 0
-tokenOr0 (u64.Some t) = t
-
-abbrev pub entryView : Entry → View
-entryView e = record {
-  id = e .id;
-  device = e .device;
-  endpoint = e .endpoint;
-  requested = e .requested;
-  token = tokenOr0 (e .token);
-  failed = e .failed;
 }
 
 -- a held row, and an entry without a release, that pass a filter
@@ -80,12 +78,101 @@ rowsAfter w es = endOf w es .store .rows
 abbrev pub entriesAfter : World → List Event → List Entry
 entriesAfter w es = journalOf (historyOf w es) blank .entries
 
+-- the rows that a call leaves
+abbrev pub rowsBy : World → Event → List Row
+rowsBy w e = leftBy (e .handed) (e .call) w .store .rows
+
 -- a call that is handed what the calls before it left
 abbrev pub calls : Call → Event
 calls c = record { call = c; handed = own }
 
 abbrev pub reclaims : RequestId → Handed → Event
 reclaims x h = record { call = Reclaim x; handed = h }
+
+-- an answer that hands the id x over
+abbrev pub isBegun : RequestId → OptionId → Bool
+isBegun x option.None = false
+isBegun x (option.Some id) = sameRequest id x
+
+abbrev pub handsOver : RequestId → Answered → Bool
+handsOver x h = isBegun x (begunId (h .answer))
+
+-- ---- what a recovery that succeeded leaves
+
+-- what a completion says, and the flag of a Pending state; a completion that lacks a part is refused, and so is one of a request that is
+-- not Pending, with no release: `agrees` would not hold
+abbrev pub lengthIn : OptionU64 → ℕ
+lengthIn u64.None = 0
+lengthIn (u64.Some n) = n
+
+abbrev pub codeIn : OptionU32 → ℕ
+codeIn u32.None = 0
+codeIn (u32.Some n) = n
+
+abbrev pub cancelledIn : RequestState → Bool
+cancelledIn (Pending cancel late) = cancel
+cancelledIn (Completed actual code cancel) = false
+cancelledIn (Failed error code quiescent) = false
+cancelledIn Aborted = false
+
+-- the row with the completion's length and code
+abbrev pub completedAs : Returned → Row → Row
+completedAs c r =
+    withState r (Completed (lengthIn (c .brought .completion .«actual_length»)) (codeIn (c .brought .completion .«completion_code»)) (cancelledIn (r .state)))
+
+-- as the reply names the row's token: by a completion, as aborted, or not at all
+abbrev pub namedAs : List Returned → List ℕ → Row → Row
+namedAs [] aborted r = cond (isIn (r .token) aborted) (withState r Aborted) r
+namedAs (c ∷ cs) aborted r = cond (eqb (c .token) (r .token)) (completedAs c r) (namedAs cs aborted r)
+
+-- an affected row as the reply names it, every other unchanged
+abbrev pub recoveredAs : DeviceId → ℕ → List Returned → List ℕ → Row → Row
+recoveredAs d endpoint cs aborted r = cond (isAffected d endpoint r) (namedAs cs aborted r) r
+
+abbrev pub isSettled : RequestState → Bool
+isSettled (Pending cancel late) = false
+isSettled (Completed actual code cancel) = true
+isSettled (Failed error code quiescent) = false
+isSettled Aborted = true
+
+-- the affected tokens are all different; the rows at the reply are those at the start (law `start-unchanged`)
+abbrev pub Different : DeviceId → ℕ → List Row → Type 0
+Different d endpoint rows = (i j : ℕ) → i < length rows → j < length rows → isAffected d endpoint (rowIn rows i) ≡ true → isAffected d endpoint (rowIn rows j) ≡ true
+    → tokenIn rows i ≡ tokenIn rows j → i ≡ j
+
+pub record Recovered (d : DeviceId) (endpoint : ℕ) (tokens words aborted : List ℕ) (rows rows′ : List Row) : Type 0 where
+  -- every row, whole
+  pub rows-are : rows′ ≡ map (recoveredAs d endpoint (returnedOf tokens words) aborted) rows
+  -- the reply names each affected token
+  pub named : (i : ℕ) → i < length rows → isAffected d endpoint (rowIn rows i) ≡ true → isIn (tokenIn rows i) (tokens ++ aborted) ≡ true
+  -- so each affected request is Completed or Aborted
+  pub settled : (i : ℕ) → i < length rows → isAffected d endpoint (rowIn rows i) ≡ true → isSettled (rowIn rows′ i .state) ≡ true
+
+-- ---- what a recovery's reply spares
+
+-- as many rows, and those that are not affected are equal, whole
+pub record Unaffected (d : DeviceId) (endpoint : ℕ) (rows rows′ : List Row) : Type 0 where
+  pub number : length rows′ ≡ length rows
+  pub equal : (i : ℕ) → i < length rows → isAffected d endpoint (rowIn rows i) ≡ false → rowIn rows′ i ≡ rowIn rows i
+
+-- by the operation that waits; where it is no recovery, every row is equal
+abbrev pub Spared : InFlight → List Row → List Row → Type 0
+Spared flight.Nothing rows rows′ = rows′ ≡ rows
+Spared (flight.Submission id) rows rows′ = rows′ ≡ rows
+Spared (flight.Poll id) rows rows′ = rows′ ≡ rows
+Spared (flight.Recovery target device endpoint kind) rows rows′ = Unaffected device endpoint rows rows′
+
+-- a recovery's start
+abbrev pub startOf : RecoveryKind → RequestId → Call
+startOf kind.Abort id = AbortRequest id
+startOf (kind.Reset preserve) id = ResetEndpoint id preserve
+
+abbrev pub starts : RecoveryKind → RequestId → Handed → Event
+starts q id h = record { call = startOf q id; handed = h }
+
+-- a recovery's reply
+abbrev pub recovers : RecoveryReply → List ℕ → List ℕ → List ℕ → List ℕ → Handed → Event
+recovers reply tokens words aborted bytes h = record { call = ReplyRecovery reply tokens words aborted bytes; handed = h }
 
 pub record Claim (w : World) (es : List Event) : Type 0 where
   pub agrees : (p : View → Bool) → Agrees p (rowsAfter w es) (entriesAfter w es)
@@ -97,3 +184,26 @@ pub record Claim (w : World) (es : List Event) : Type 0 where
   -- exactly one before it is reclaimed
   pub reclaimed : (before after : List Event) (h : Handed) (x : RequestId) (r : RequestReport) → es ≡ before ++ (reclaims x h ∷ after)
       → answerTo (endOf w before) (reclaims x h) ≡ answer.Report r → releasesOf x (entriesAfter w before) ≡ 1
+  -- an id was handed over as often as it has entries: at most once, and no entry is forgotten
+  pub handed : (x : RequestId) → count (handsOver x) (historyOf w es) ≡ count (isEntry x) (entriesAfter w es)
+  -- a recovery's start that opened its operation named the call's target and kind, and the device and the endpoint of the target's entry
+  pub started : (before after : List Event) (h : Handed) (q : RecoveryKind) (id : RequestId) → es ≡ before ++ (starts q id h ∷ after) → (x : Recovery)
+      → answerTo (endOf w before) (starts q id h) ≡ answer.Recovering x
+      → flight.Recovery (x .target) (x .device) (x .endpoint) (x .kind) ≡ recoveryWaits id q (journalOf (historyOf w before) blank) .waiting
+  -- each recovery that succeeded, ready and without an error, the affected tokens all different
+  pub recovered : (before after : List Event) (h : Handed) (reply : RecoveryReply) (tokens words aborted bytes : List ℕ)
+      → es ≡ before ++ (recovers reply tokens words aborted bytes h ∷ after) → (x : AbortReport)
+      → answerTo (endOf w before) (recovers reply tokens words aborted bytes h) ≡ answer.Recovered x → x .«restart_ready» ≡ true → hasError (x .error) ≡ false
+      → Different (x .device) (x .endpoint) (rowsAfter w before)
+      → Recovered (x .device) (x .endpoint) tokens words aborted (rowsAfter w before) (rowsBy (endOf w before) (recovers reply tokens words aborted bytes h))
+  -- whatever a recovery's reply is answered, it changes no row but those that are affected by the operation that, by the history, waits
+  pub spared : (before after : List Event) (h : Handed) (reply : RecoveryReply) (tokens words aborted bytes : List ℕ)
+      → es ≡ before ++ (recovers reply tokens words aborted bytes h ∷ after)
+      → Spared (journalOf (historyOf w before) blank .waiting) (rowsAfter w before) (rowsBy (endOf w before) (recovers reply tokens words aborted bytes h))
+  -- the report of any recovery is of the operation that, by the history, waited
+  pub reported : (before after : List Event) (h : Handed) (reply : RecoveryReply) (tokens words aborted bytes : List ℕ)
+      → es ≡ before ++ (recovers reply tokens words aborted bytes h ∷ after) → (x : AbortReport)
+      → answerTo (endOf w before) (recovers reply tokens words aborted bytes h) ≡ answer.Recovered x
+      → (q : RecoveryKind) × (journalOf (historyOf w before) blank .waiting ≡ flight.Recovery (x .target) (x .device) (x .endpoint) q)
+  -- a refusal by 3 leaves whatever the call was handed as it was
+  pub untouched : (c : Call) (v : World) → stepOf c v .result .answer ≡ answer.Refused (validation 3) → next (stepOf c v) ≡ v

@@ -1,13 +1,13 @@
 -- The journal (document 01's "book of demand 3"): what calls and answers say of each request. It reads no row. Assumes nothing.
 use Prim.Native.Nat.{ℕ, zero, suc}
-use mathlib.Core.Bool.{Bool, true, false, not, cond, _||_}
-use mathlib.Core.List.{List, [], _∷_}
+use mathlib.Core.Bool.{Bool, true, false, not, cond, _&&_, _||_}
+use mathlib.Core.List.{List, [], _∷_, map}
 use lib.Dec.{eqb}
-use lib.ListN.{length, getD, set}
+use lib.ListN.{length, getD, set, take, drop}
 use Rattle.chain.specs.Lists.{find, mapAt}
 use Rattle.words.specs.declared.OptionU64.{OptionU64}
 use Rattle.words.specs.declared.OptionU64.the-variants as u64
-use Rattle.models.specs.Requests.{sameRequest}
+use Rattle.models.specs.Requests.{sameRequest, sameDevice, requestBefore}
 use Rattle.models.specs.declared.BackendCompletion.{BackendCompletion}
 use Rattle.models.specs.declared.DeviceId.{DeviceId}
 use Rattle.models.specs.declared.OptionError.{OptionError}
@@ -19,13 +19,16 @@ use Rattle.checks.specs.declared.completion.CompletionTest.{CompletionTest}
 use Rattle.checks.specs.declared.completion.CompletionTest.the-variants as test
 use Rattle.session.specs.declared.InFlight.{InFlight}
 use Rattle.session.specs.declared.InFlight.the-variants as flight
-use Rattle.requests.specs.declared.OptionId.{OptionId}
-use Rattle.requests.specs.declared.OptionId.the-variants as option
-use Rattle.requests.specs.declared.PollReply.{PollReply}
-use Rattle.requests.specs.declared.PollReply.the-variants as poll
-use Rattle.requests.specs.declared.SubmitReply.{SubmitReply}
-use Rattle.requests.specs.declared.SubmitReply.the-variants as submit
-use Rattle.calls.specs.Calls.{Call, Open, SetDevice, SetPort, SetEndpoints, SetReconcile, Acquire, Initialize, Close, Submit, SubmitPlan, ReplySubmit, Poll, ReplyPoll, Cancel, Timeout, Reclaim, Status, Reports, CountReports, CompletedBytes, HeldCount, HeldBytes}
+use Rattle.session.specs.declared.RecoveryKind.{RecoveryKind}
+use Rattle.session.specs.declared.RecoveryKind.the-variants as kind
+use Rattle.reports.specs.declared.OptionId.{OptionId}
+use Rattle.reports.specs.declared.OptionId.the-variants as option
+use Rattle.polls.specs.declared.PollReply.{PollReply}
+use Rattle.polls.specs.declared.PollReply.the-variants as poll
+use Rattle.submissions.specs.declared.SubmitReply.{SubmitReply}
+use Rattle.submissions.specs.declared.SubmitReply.the-variants as submit
+use Rattle.scope.specs.Returned.{Returned, returnedOf}
+use Rattle.calls.specs.Calls.{Call, Open, SetDevice, SetPort, SetEndpoints, SetReconcile, Acquire, Initialize, Close, Submit, SubmitPlan, ReplySubmit, Poll, ReplyPoll, AbortRequest, ResetEndpoint, ReplyRecovery, Cancel, Timeout, Reclaim, Status, Reports, CountReports, CompletedBytes, HeldCount, HeldBytes}
 use Rattle.calls.specs.declared.Answer.{Answer}
 use Rattle.calls.specs.declared.Answer.the-variants as answer
 use Rattle.history.specs.Run.{Answered}
@@ -126,6 +129,8 @@ begunId answer.NoReport = option.None
 begunId (answer.Asked token) = option.None
 begunId (answer.Number n) = option.None
 begunId (answer.Bytes x) = option.None
+begunId (answer.Recovering x) = option.None
+begunId (answer.Recovered x) = option.None
 
 -- a poll that opened its operation
 abbrev pub isAsked : Answer → Bool
@@ -138,6 +143,8 @@ isAsked answer.NoReport = false
 isAsked (answer.Asked token) = true
 isAsked (answer.Number n) = false
 isAsked (answer.Bytes x) = false
+isAsked (answer.Recovering x) = false
+isAsked (answer.Recovered x) = false
 
 abbrev pub isPass : Answer → Bool
 isPass (answer.Refused r) = false
@@ -149,18 +156,44 @@ isPass answer.NoReport = false
 isPass (answer.Asked token) = false
 isPass (answer.Number n) = false
 isPass (answer.Bytes x) = false
+isPass (answer.Recovering x) = false
+isPass (answer.Recovered x) = false
+
+-- a recovery that opened its operation
+abbrev pub isRecovering : Answer → Bool
+isRecovering (answer.Refused r) = false
+isRecovering answer.Pass = false
+isRecovering (answer.Begun x) = false
+isRecovering (answer.PlanBegun x) = false
+isRecovering (answer.Report x) = false
+isRecovering answer.NoReport = false
+isRecovering (answer.Asked token) = false
+isRecovering (answer.Number n) = false
+isRecovering (answer.Bytes x) = false
+isRecovering (answer.Recovering x) = true
+isRecovering (answer.Recovered x) = false
+
+-- the number of a refusal, 0 where it is none
+abbrev pub refusalNumber : Answer → ℕ
+refusalNumber (answer.Refused r) = r .number
+refusalNumber answer.Pass = 0
+refusalNumber (answer.Begun x) = 0
+refusalNumber (answer.PlanBegun x) = 0
+refusalNumber (answer.Report x) = 0
+refusalNumber answer.NoReport = 0
+refusalNumber (answer.Asked token) = 0
+refusalNumber (answer.Number n) = 0
+refusalNumber (answer.Bytes x) = 0
+refusalNumber (answer.Recovering x) = 0
+refusalNumber (answer.Recovered x) = 0
 
 -- a reply that ends its operation: none refused by 2, 3 or 49
 abbrev pub endsBy : Answer → Bool
-endsBy (answer.Refused r) = not (eqb (r .number) 2 || eqb (r .number) 3 || eqb (r .number) 49)
-endsBy answer.Pass = true
-endsBy (answer.Begun x) = true
-endsBy (answer.PlanBegun x) = true
-endsBy (answer.Report x) = true
-endsBy answer.NoReport = true
-endsBy (answer.Asked token) = true
-endsBy (answer.Number n) = true
-endsBy (answer.Bytes x) = true
+endsBy a = not (eqb (refusalNumber a) 2 || eqb (refusalNumber a) 3 || eqb (refusalNumber a) 49)
+
+-- a recovery's reply whose entries count: none refused by 45 or 46
+abbrev pub countsBy : Answer → Bool
+countsBy a = not (eqb (refusalNumber a) 45 || eqb (refusalNumber a) 46)
 
 -- ---- submissions
 
@@ -221,6 +254,100 @@ polledBy (poll.Completion c) given j = endedWith (settledBy (c .error) c given) 
 abbrev pub pollWaits : RequestId → Journal → Journal
 pollWaits id j = record { entries = j .entries; waiting = flight.Poll id }
 
+-- ---- recoveries
+
+-- what an entry and a row have in common
+pub record View : Type 0 where
+  pub id : RequestId
+  pub device : DeviceId
+  pub endpoint : ℕ
+  pub requested : ℕ
+  pub token : ℕ
+  pub failed : Bool
+
+-- a row whose token has not come yet has 0 there
+abbrev pub tokenOr0 : OptionU64 → ℕ
+tokenOr0 u64.None = 0
+tokenOr0 (u64.Some t) = t
+
+abbrev pub entryView : Entry → View
+entryView e = record {
+  id = e .id;
+  device = e .device;
+  endpoint = e .endpoint;
+  requested = e .requested;
+  token = tokenOr0 (e .token);
+  failed = e .failed;
+}
+
+-- of the device and the endpoint
+abbrev pub ofScope : DeviceId → ℕ → View → Bool
+ofScope d endpoint v = sameDevice (v .device) d && eqb (v .endpoint) endpoint
+
+-- by ascending id
+abbrev pub insertView : View → List View → List View
+insertView v [] = v ∷ []
+insertView v (u ∷ us) = cond (requestBefore (v .id) (u .id)) (v ∷ u ∷ us) (u ∷ insertView v us)
+
+-- a recovery affects entries as it does rows, an entry without a release counting as held
+abbrev pub affectedViews : DeviceId → ℕ → List Entry → List View
+affectedViews d endpoint [] = []
+affectedViews d endpoint (e ∷ es) =
+    cond (isOpen e && ofScope d endpoint (entryView e)) (insertView (entryView e) (affectedViews d endpoint es)) (affectedViews d endpoint es)
+
+-- the entry that a token means: the lowest affected id that has it
+abbrev pub meantView : List View → ℕ → View
+meantView vs t = getD vs (find (eqb t) (map (λ (v : View). v .token) vs)) (entryView noEntry)
+
+-- the entries after the reply's, and whether one was refused
+pub record ReleasedTo : Type 0 where
+  pub refused : Bool
+  pub entries : List Entry
+
+abbrev pub releasedTo : Bool → List Entry → ReleasedTo
+releasedTo b es = record { refused = b; entries = es }
+
+-- a completion of the entry v: a release, unless it meets 47, 48 or, the entry being marked Failed, 41
+abbrev pub completesBy : CompletionTest → View → List Entry → ReleasedTo
+completesBy test.MissingLength v es = releasedTo true es
+completesBy test.Invalid v es = releasedTo true es
+completesBy (test.Valid actual code) v es = cond (v .failed) (releasedTo true es) (releasedTo false (atEntry (v .id) release es))
+
+abbrev pub goesOn : ReleasedTo → (List Entry → ReleasedTo) → ReleasedTo
+goesOn q next = cond (q .refused) q (next (q .entries))
+
+abbrev pub completesAll : (ℕ → View) → List Returned → List ℕ → List Entry → ReleasedTo
+completesAll view [] bytes es = releasedTo false es
+completesAll view (r ∷ rs) bytes es =
+    goesOn (completesBy (testCompletion (r .brought .completion) (length (take (r .brought .given) bytes)) (view (r .token) .requested)) (view (r .token)) es)
+    (λ (x : List Entry). completesAll view rs (drop (r .brought .given) bytes) x)
+
+abbrev pub abortsAll : (ℕ → View) → List ℕ → List Entry → List Entry
+abortsAll view [] es = es
+abortsAll view (t ∷ ts) es = abortsAll view ts (atEntry (view t .id) release es)
+
+-- completions in order, then the aborts; none from the first on that is refused
+abbrev pub abortedAfter : ReleasedTo → (ℕ → View) → List ℕ → List Entry
+abortedAfter q view aborted = cond (q .refused) (q .entries) (abortsAll view aborted (q .entries))
+
+abbrev pub releasesAll : (ℕ → View) → List Returned → List ℕ → List ℕ → List Entry → List Entry
+releasesAll view rs aborted bytes es = abortedAfter (completesAll view rs bytes es) view aborted
+
+-- a recovery is of the device and the endpoint that its target's own entry says
+abbrev pub recoveryWaits : RequestId → RecoveryKind → Journal → Journal
+recoveryWaits id kind j =
+    record { entries = j .entries; waiting = flight.Recovery id (entryOf id (j .entries) .device) (entryOf id (j .entries) .endpoint) kind }
+
+abbrev pub releasedIn : InFlight → List Returned → List ℕ → List ℕ → List Entry → List Entry
+releasedIn flight.Nothing rs aborted bytes es = es
+releasedIn (flight.Submission id) rs aborted bytes es = es
+releasedIn (flight.Poll id) rs aborted bytes es = es
+releasedIn (flight.Recovery target device endpoint kind) rs aborted bytes es = releasesAll (meantView (affectedViews device endpoint es)) rs aborted bytes es
+
+abbrev pub recoveredJournal : Answer → List Returned → List ℕ → List ℕ → Journal → Journal
+recoveredJournal a rs aborted bytes j =
+    cond (endsBy a) (record { entries = cond (countsBy a) (releasedIn (j .waiting) rs aborted bytes (j .entries)) (j .entries); waiting = flight.Nothing }) j
+
 -- a close that passes adds a release to each entry without
 abbrev pub releasedAll : Journal → Journal
 releasedAll j = record { entries = mapAt isOpen release (j .entries); waiting = j .waiting }
@@ -240,6 +367,9 @@ journalStep (SubmitPlan q bytes first) a j = begunBy (begunId a) (q .device) 0 (
 journalStep (ReplySubmit reply) a j = cond (endsBy a) (endedWith (acceptedAs reply) j) j
 journalStep (Poll id) a j = cond (isAsked a) (pollWaits id j) j
 journalStep (ReplyPoll reply bytes) a j = cond (endsBy a) (polledBy reply (length bytes) j) j
+journalStep (AbortRequest id) a j = cond (isRecovering a) (recoveryWaits id kind.Abort j) j
+journalStep (ResetEndpoint id preserve) a j = cond (isRecovering a) (recoveryWaits id (kind.Reset preserve) j) j
+journalStep (ReplyRecovery reply tokens words aborted bytes) a j = recoveredJournal a (returnedOf tokens words) aborted bytes j
 journalStep (Cancel id) a j = j
 journalStep (Timeout id) a j = j
 journalStep (Reclaim id) a j = j

@@ -4,13 +4,11 @@ use mathlib.Core.Bool.{Bool, true, false, not, _||_}
 use mathlib.Core.Path.{_≡_}
 use mathlib.Core.List.{List, [], _∷_}
 use lib.Dec.{eqb}
-use lib.ListN.{length}
-use Rattle.rows.specs.Table.{rowCount}
 use Rattle.words.specs.declared.OptionU64.{OptionU64}
 use Rattle.words.specs.declared.OptionU64.the-variants as u64
 use Rattle.models.specs.Refusals.{validation}
 use Rattle.bus.specs.Tables.{Bus}
-use Rattle.calls.specs.Calls.{Call, Open, SetDevice, SetPort, SetEndpoints, SetReconcile, Acquire, Initialize, Close, Submit, SubmitPlan, ReplySubmit, Poll, ReplyPoll, Cancel, Timeout, Reclaim, Status, Reports, CountReports, CompletedBytes, HeldCount, HeldBytes}
+use Rattle.calls.specs.Calls.{Call, Open, SetDevice, SetPort, SetEndpoints, SetReconcile, Acquire, Initialize, Close, Submit, SubmitPlan, ReplySubmit, Poll, ReplyPoll, AbortRequest, ResetEndpoint, ReplyRecovery, Cancel, Timeout, Reclaim, Status, Reports, CountReports, CompletedBytes, HeldCount, HeldBytes}
 use Rattle.calls.specs.Step.{World, After, world, stepOf}
 use Rattle.calls.specs.declared.Answer.{Answer}
 use Rattle.calls.specs.declared.Answer.the-variants as answer
@@ -58,10 +56,6 @@ historyOf w (e ∷ es) = record { call = e .call; answer = answerTo w e } ∷ hi
 
 -- ---- what is assumed of a list
 
--- the opening's store has as many rows as its words say, as what a list of words says always has (law `lent-rows`)
-abbrev pub Whole : World → Type 0
-Whole w = length (w .store .rows) ≡ rowCount (w .store .words)
-
 abbrev pub isOpening : Call → Bool
 isOpening (Open o) = true
 isOpening (SetDevice d) = false
@@ -76,6 +70,9 @@ isOpening (SubmitPlan q bytes first) = false
 isOpening (ReplySubmit reply) = false
 isOpening (Poll id) = false
 isOpening (ReplyPoll reply bytes) = false
+isOpening (AbortRequest id) = false
+isOpening (ResetEndpoint id preserve) = false
+isOpening (ReplyRecovery reply tokens words aborted bytes) = false
 isOpening (Cancel id) = false
 isOpening (Timeout id) = false
 isOpening (Reclaim id) = false
@@ -111,6 +108,9 @@ numberOf (SubmitPlan q bytes first) = u64.None
 numberOf (ReplySubmit reply) = u64.None
 numberOf (Poll id) = u64.None
 numberOf (ReplyPoll reply bytes) = u64.None
+numberOf (AbortRequest id) = u64.None
+numberOf (ResetEndpoint id preserve) = u64.None
+numberOf (ReplyRecovery reply tokens words aborted bytes) = u64.None
 numberOf (Cancel id) = u64.None
 numberOf (Timeout id) = u64.None
 numberOf (Reclaim id) = u64.None

@@ -4,12 +4,12 @@ use models::Refusal;
 use models::RequestReport;
 use models::RequestState;
 use models::Verdict;
-use requests::NextReport;
-use requests::PollAnswer;
-use requests::ReportAnswer;
-use requests::SubmitAnswer;
-use requests::Tally;
+use polls::PollAnswer;
+use reports::NextReport;
+use reports::ReportAnswer;
+use reports::Tally;
 use session::lifecycle::Opened;
+use submissions::SubmitAnswer;
 
 fn text(s: &[u8]) {
     io::write_all(STDOUT_FILENO, s);

@@ -1,14 +1,18 @@
 // Runs recorded calls in the word format (docs/CALLS.md) and prints their answers, which are held to those of the unchanged Rust.
 // A line of input is a call: its words, and after `/` its lent bytes, as decimal numbers. `=` prints the controller's state and what the
-// device holds. `#` begins a comment. A line that is none of these is answered by `bad line`, and nothing is run.
+// device holds. `#` begins a comment. A line that is none of these is answered by `bad line`, and nothing is run. Input of over 2 MiB is
+// answered by `input too long` alone.
 use libc::STDIN_FILENO;
 use parse::Count;
 
 mod parse;
 mod show;
 
+// How much text is run; the room has a byte more.
+const LIMIT: usize = 2097152;
+
 fn main() {
-    let mut text = [0u8; 1048576];
+    let mut text = [0u8; 2097153];
     let mut session = [0u64; 26];
     let mut bus = [0u64; 10750];
     let mut rows = [0u64; 4320];
@@ -18,6 +22,10 @@ fn main() {
 
 fn run(text: &mut [u8], session: &mut [u64], bus: &mut [u64], rows: &mut [u64], area: &mut [u8]) {
     let n = io::read_full(STDIN_FILENO, text);
+    if n > LIMIT {
+        show::too_long();
+        return;
+    }
     replay(&text[0..n], session, bus, rows, area);
 }
 
@@ -45,7 +53,7 @@ fn run_line(line: &[u8], session: &mut [u64], bus: &mut [u64], rows: &mut [u64],
 }
 
 fn run_call(line: &[u8], session: &mut [u64], bus: &mut [u64], rows: &mut [u64], area: &mut [u8]) {
-    let mut call = [0u64; 256];
+    let mut call = [0u64; 2048];
     let mut bytes = [0u8; 4096];
     let Count::Of(words) = parse::words(line, &mut call) else {
         show::bad_line();
@@ -67,12 +75,13 @@ fn answer(
     area: &mut [u8],
 ) {
     let mut out = [0u64; 32];
-    let status = dispatch::apply(session, bus, rows, area, call, bytes, &mut out);
+    let mut lists = [0u64; 386];
+    let status = dispatch::apply(session, bus, rows, area, call, bytes, &mut out, &mut lists);
     if status != 0 {
         show::status(status);
         return;
     }
-    show::answer(&out, area);
+    show::answer(&out, area, &lists);
 }
 
 // A count that takes no arguments: 20 and 21.
@@ -84,8 +93,9 @@ fn number_of(
     area: &mut [u8],
 ) -> u64 {
     let mut out = [0u64; 32];
+    let mut lists = [0u64; 386];
     let words = [call];
-    dispatch::apply(session, bus, rows, area, &words, b"", &mut out);
+    dispatch::apply(session, bus, rows, area, &words, b"", &mut out, &mut lists);
     out[1]
 }
 

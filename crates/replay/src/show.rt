@@ -1,6 +1,7 @@
 // Answers as text.
-use calls::arguments::word_at;
 use libc::STDOUT_FILENO;
+use words::slices::word_at;
+ghost use Prim.Native.Nat.{_≤_};
 
 fn text(s: &[u8]) {
     io::write_all(STDOUT_FILENO, s);
@@ -27,6 +28,10 @@ pub fn bad_line() {
     text(b"bad line\n");
 }
 
+pub fn too_long() {
+    text(b"input too long\n");
+}
+
 // The call was not answered: docs/CALLS.md has the statuses.
 pub fn status(n: u64) {
     line(b"status", &[n], 0, 1);
@@ -41,8 +46,35 @@ fn begun(name: &[u8], out: &[u64], to: usize, area: &[u8]) {
     }
 }
 
-// The answer's own words.
-pub fn answer(out: &[u64], area: &[u8]) {
+// How many items the list at `at` has.
+fn items(lists: &[u64], at: usize) -> usize
+    ensures { λ r. ⌜ r ≤ 128 ⌝ }
+{
+    let n = word_at(lists, at);
+    if n > 128 {
+        return 128;
+    }
+    n as usize
+}
+
+// A recovery that began, and the tokens of the affected requests.
+fn recover(out: &[u64], lists: &[u64]) {
+    line(b"recover", out, 1, 9);
+    let n = items(lists, 0);
+    line(b"tokens", lists, 1, 1 + n);
+}
+
+// A recovery that was reported, and the ids of the completed and of the aborted requests, three words each.
+fn recovered(out: &[u64], lists: &[u64]) {
+    line(b"recovered", out, 1, 16);
+    let second = 1 + items(lists, 0) * 3;
+    line(b"completed", lists, 1, second);
+    let end = second + 1 + items(lists, second) * 3;
+    line(b"aborted", lists, second + 1, end);
+}
+
+// The answer's own words, and its lists.
+pub fn answer(out: &[u64], area: &[u8], lists: &[u64]) {
     match word_at(out, 0) {
         0 => line(b"refused", out, 1, 6),
         1 => line(b"ok", out, 1, 1),
@@ -52,6 +84,8 @@ pub fn answer(out: &[u64], area: &[u8]) {
         5 => line(b"none", out, 1, 1),
         6 => line(b"ask", out, 1, 2),
         7 => line(b"number", out, 1, 2),
+        9 => recover(out, lists),
+        10 => recovered(out, lists),
         _ => part(word_at(out, 1), word_at(out, 2), area),
     }
 }

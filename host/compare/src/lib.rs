@@ -62,8 +62,8 @@ pub fn compare(plan: Plan, new_port: NewSide<'_>, tables: &mut Tables) -> Result
         history.add(&call);
         match answer {
             Ok(answer) if answer == rust => {
-                tables.rust.count(&call, &rust, generator.rows());
-                tables.port.count(&call, &answer, generator.rows());
+                tables.rust.count(&call, &rust, generator.before());
+                tables.port.count(&call, &answer, generator.before());
             }
             answer => {
                 let first = Difference::new(call, &rust, &answer);

@@ -8,7 +8,7 @@ use script::Side;
 
 const USAGE: &str = "usage: compare SEED CALLS [--seeds N] [--mix default|no-recovery] [--phase PHASE] [--side rattle|session] [--table]
   --seeds N: so many seeds from SEED on, CALLS calls each
-  --mix: no-recovery without it
+  --mix: default without it, which has abort and reset
   --side: the port call by call (without it), or through UsbSession
   --table: how often each refusal and each kind of report came, on both sides";
 
@@ -82,7 +82,7 @@ fn report(options: &Options, tables: &Tables, start: Instant) {
 }
 
 fn options(mut words: impl Iterator<Item = String>) -> Result<Options, String> {
-    let (mut mix, mut phase, mut table) = (Mix::NoRecovery, None, false);
+    let (mut mix, mut phase, mut table) = (Mix::Default, None, false);
     let (mut seeds, mut side) = (1, "rattle".into());
     let mut numbers = Vec::new();
     while let Some(word) = words.next() {

@@ -7,7 +7,7 @@ fn plan(seed: u64, calls: u64) -> Plan {
     Plan {
         seed,
         calls,
-        mix: Mix::NoRecovery,
+        mix: Mix::Default,
         phase: None,
     }
 }
@@ -60,14 +60,57 @@ fn a_difference_is_found_and_cut_down() {
     assert!(found.port.contains("state=P(0,0)"), "{text}");
 }
 
+/// The port, but it has no answer to an abort.
+struct Mute(port::Port);
+
+impl Side for Mute {
+    fn apply(&mut self, call: &Call) -> Result<Answer, String> {
+        match call.verb() {
+            "abort" => Err("no word of it".into()),
+            _ => self.0.apply(call),
+        }
+    }
+}
+
 #[test]
 fn a_side_without_an_answer_is_a_difference() {
-    let only = Plan {
-        mix: Mix::Default,
-        ..plan(3, 20_000)
+    let mute = || Box::new(Mute(port::Port::new())) as Box<dyn Side>;
+    let Err(Stop::Difference { found, .. }) = run(&mute, plan(3, 20_000)) else {
+        panic!("it was not found");
     };
-    let Err(Stop::Difference { found, .. }) = run(&|| Box::new(port::Port::new()), only) else {
-        panic!("recovery is not ported yet");
+    assert_eq!(found.port, "no answer: no word of it");
+    assert_eq!(found.script.last().map(Call::verb), Some("abort"));
+    // Without an opening the Rust has no answer either.
+    assert_eq!(found.script.len(), 2, "{found}");
+}
+
+/// The port, but a recovery names its ids in the wrong order.
+struct Reversing(port::Port);
+
+impl Side for Reversing {
+    fn apply(&mut self, call: &Call) -> Result<Answer, String> {
+        let mut answer = self.0.apply(call)?;
+        if let Outcome::Abort(report) = &mut answer.outcome {
+            report.aborted.reverse();
+        }
+        Ok(answer)
+    }
+}
+
+#[test]
+fn a_difference_in_a_recovery_is_found() {
+    let reversing = || Box::new(Reversing(port::Port::new())) as Box<dyn Side>;
+    let Err(Stop::Difference { found, .. }) = run(&reversing, plan(5, 20_000)) else {
+        panic!("it was not found");
     };
-    assert!(found.port.contains("not ported yet"), "{found}");
+    let Some(Call::Recover {
+        reply: Ok(reply), ..
+    }) = found.script.last()
+    else {
+        panic!("{found}");
+    };
+    // An opening, what makes a device usable, a submission for each token that
+    // the reply names, and the recovery.
+    let tokens = reply.completed.len() + reply.aborted.len();
+    assert!(found.script.len() <= tokens + 8, "{found}");
 }

@@ -14,7 +14,7 @@ fn scripts() -> Vec<PathBuf> {
         found.extend(paths.filter(|path| path.extension().is_some_and(|it| it == "script")));
     }
     found.sort();
-    assert!(found.len() >= 12, "only {} recorded scripts", found.len());
+    assert!(found.len() >= 20, "only {} recorded scripts", found.len());
     found
 }
 
@@ -32,42 +32,32 @@ fn recorded(script: &Path) -> String {
     fs::read_to_string(script.with_extension("answers")).unwrap()
 }
 
-/// Every script that the side can answer is answered as recorded.
-fn replay(mut side: Box<dyn Side>, is_answered: impl Fn(&Path) -> bool) -> usize {
-    let scripts = scripts().into_iter().filter(|path| is_answered(path));
-    scripts
-        .map(|path| {
-            let actual = answers(side.as_mut(), &fs::read_to_string(&path).unwrap());
-            let kept = recorded(&path);
-            let difference = first_difference(&kept, &actual);
-            assert_eq!(difference, None, "{}", path.display());
-        })
-        .count()
-}
-
-fn recovers(path: &Path) -> bool {
-    path.parent().unwrap().ends_with("recovery")
+/// Every script is answered as recorded.
+fn replay(mut side: Box<dyn Side>) {
+    for path in scripts() {
+        let actual = answers(side.as_mut(), &fs::read_to_string(&path).unwrap());
+        let kept = recorded(&path);
+        let difference = first_difference(&kept, &actual);
+        assert_eq!(difference, None, "{}", path.display());
+    }
 }
 
 #[cfg(feature = "rust")]
 #[test]
 fn every_script_is_answered_as_recorded() {
-    replay(Box::new(oracle::Oracle::new()), |_| true);
+    replay(Box::new(oracle::Oracle::new()));
 }
 
-/// Recovery is not ported yet.
 #[cfg(feature = "rattle")]
 #[test]
 fn the_port_answers_as_recorded() {
-    let count = replay(Box::new(port::Port::new()), |path| !recovers(path));
-    assert!(count >= 12, "only {count} scripts");
+    replay(Box::new(port::Port::new()));
 }
 
 #[cfg(feature = "rattle")]
 #[test]
 fn the_safe_session_answers_as_recorded() {
-    let count = replay(Box::new(port::Session::new()), |path| !recovers(path));
-    assert!(count >= 12, "only {count} scripts");
+    replay(Box::new(port::Session::new()));
 }
 
 #[cfg(feature = "rust")]
@@ -122,14 +112,14 @@ fn scripts_say_what_they_cover_and_how_they_were_made() {
     }
 }
 
-/// A port without recovery replays what is outside the folder `recovery`.
 #[test]
 fn only_the_recovery_folder_aborts_and_resets() {
     for path in scripts() {
+        let recovers = path.parent().unwrap().ends_with("recovery");
         let text = fs::read_to_string(&path).unwrap();
         let aborts = text
             .lines()
             .any(|line| line.starts_with("abort ") || line.starts_with("reset "));
-        assert_eq!(aborts, recovers(&path), "{}", path.display());
+        assert_eq!(aborts, recovers, "{}", path.display());
     }
 }

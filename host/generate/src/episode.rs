@@ -16,6 +16,8 @@ pub enum Step {
         equal_token: bool,
     },
     Stall(usize),
+    /// A close that fails, which raises the revision.
+    Mark,
     Recover {
         back: usize,
         reset: bool,
@@ -57,6 +59,9 @@ impl World {
         }
         self.queue_rows(first, second, likeness);
         self.episode.push_back(Step::Stall(self.rng.below(2)));
+        if self.rng.chance(15) {
+            self.episode.push_back(Step::Mark);
+        }
         for _ in 0..1 + self.rng.below(3) {
             let (back, reset) = (self.rng.below(2), self.rng.chance(60));
             self.episode.push_back(Step::Recover { back, reset });
@@ -113,6 +118,10 @@ impl World {
             Step::Stall(back) => Some(Call::Poll {
                 id: row(back)?.id,
                 reply: Ok(Some(values::stall(&mut self.rng))),
+            }),
+            Step::Mark => Some(Call::Close {
+                fresh: Some(self.session.wrapping_add(1)),
+                reply: Err(values::error(&mut self.rng)),
             }),
             Step::Recover { back, reset } => Some(self.recover_row(rows, row(back)?.id, reset)),
         }

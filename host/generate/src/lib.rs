@@ -1,5 +1,6 @@
 //! Seeded random scripts. The oracle runs in step with the generator, so that
 //! the next call can aim at rows, tokens and states that are really there.
+mod corners;
 mod episode;
 mod phase;
 mod poll;
@@ -11,7 +12,7 @@ mod table;
 mod values;
 mod world;
 
-use oracle::{Oracle, RowView};
+use oracle::{Oracle, View};
 use script::{Answer, Call, Side};
 
 pub use phase::Phase;
@@ -72,8 +73,8 @@ impl Generator {
         Ok(answer)
     }
 
-    /// The rows before the latest call.
-    pub fn rows(&self) -> &[RowView] {
-        &self.world.rows
+    /// What was there before the latest call.
+    pub fn before(&self) -> &View {
+        &self.world.before
     }
 }

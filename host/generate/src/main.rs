@@ -34,7 +34,7 @@ fn write_script() -> Result<(), String> {
     for _ in 0..options.calls {
         let (call, answer) = generator.step()?;
         if options.table {
-            table.count(&call, &answer, generator.rows());
+            table.count(&call, &answer, generator.before());
         } else {
             writeln!(out, "{call}").map_err(unwritten)?;
         }

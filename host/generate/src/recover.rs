@@ -17,10 +17,7 @@ impl World {
         let target = rows.iter().find(|row| row.id == id);
         let affected: Vec<_> = rows
             .iter()
-            .filter(|row| row.held)
-            .filter(|row| {
-                target.is_some_and(|it| it.device == row.device && it.endpoint == row.endpoint)
-            })
+            .filter(|row| row.held && target.is_some_and(|it| it.shares_endpoint(row)))
             .copied()
             .collect();
         let kind = match reset {
@@ -29,6 +26,12 @@ impl World {
             },
             false => Recovery::Abort,
         };
+        // What it left behind: every row, or the stall's note and the revision.
+        match self.rng.below(4) {
+            0 if rows.len() <= 200 => self.queue.push_back(Call::Reports),
+            1 => self.queue.push_back(Call::Dump),
+            _ => {}
+        }
         Call::Recover {
             id,
             kind,
@@ -50,9 +53,23 @@ impl World {
             2 | 3 => self.leave_out(&mut result),
             4 => self.stray_token(&mut result),
             5..8 => self.spoil_entry(affected, &mut result),
+            8 if self.rng.chance(40) => self.add_many(&mut result),
             _ => {}
         }
         Ok(result)
+    }
+
+    /// More tokens than can be held.
+    fn add_many(&mut self, result: &mut AbortResult) {
+        let first = self.rng.pick(&[1_000_000, u64::MAX - 400]);
+        let tokens = first..first + 126 + self.rng.below(200) as u64;
+        if self.rng.chance(50) {
+            return result.aborted.extend(tokens);
+        }
+        for token in tokens {
+            let done = values::valid_completion(&mut self.rng, 8);
+            result.completed.push((token, done));
+        }
     }
 
     /// Every affected token once, completed or aborted; a token means the
@@ -104,8 +121,10 @@ impl World {
     fn stray_token(&mut self, result: &mut AbortResult) {
         let known = result.aborted.first().copied();
         let known = known.or(result.completed.first().map(|(token, _)| *token));
-        match known {
-            Some(token) if self.rng.chance(50) => result.aborted.push(token),
+        let again = result.completed.first().cloned();
+        match (known, again) {
+            (_, Some(entry)) if self.rng.chance(30) => result.completed.push(entry),
+            (Some(token), _) if self.rng.chance(50) => result.aborted.push(token),
             _ => result.aborted.push(self.rng.pick(&[424_242, u64::MAX])),
         }
         if self.rng.chance(30) {

@@ -37,12 +37,21 @@ impl World {
         self.marked.clear();
         let (session, ports) = (open.session, open.ports);
         self.queue.push_back(Call::Open(open));
-        // One endpoint alone lets a recovery affect nearly all of 128 held rows.
-        let alone = self.phase == Phase::Hold && self.rng.chance(50);
-        let count = if alone { 1 } else { ports.unwrap_or(1).min(4) };
+        // One endpoint alone lets a recovery affect all of 128 held rows.
+        self.alone = self.phase == Phase::Hold && self.rng.chance(50);
+        self.distinct = self.alone && self.rng.chance(50);
+        let count = if self.alone {
+            1
+        } else {
+            ports.unwrap_or(1).min(4)
+        };
         for number in 1..=count.max(1) {
             let generation = self.port_generation();
-            let list = if alone { &ENDPOINTS[..1] } else { &ENDPOINTS };
+            let list = if self.alone {
+                &ENDPOINTS[..1]
+            } else {
+                &ENDPOINTS
+            };
             self.plan_device(session, number, generation, list);
         }
         if self.phase != Phase::Lifecycle {
@@ -249,7 +258,9 @@ impl World {
         if let Some(slot) = self.marked.pop() {
             return Call::Raw { slot, set: false };
         }
-        let slot = self.rng.weighted(&[(4, 1), (3, 2), (2, 3), (1, 200)]);
+        let slot = self
+            .rng
+            .weighted(&[(4, 1), (3, 2), (2, 3), (2, 9), (2, 200), (1, 0), (1, 255)]);
         let set = self.rng.chance(80);
         if set {
             self.marked.push(slot);

@@ -47,6 +47,13 @@ impl World {
         if self.devices.is_empty() {
             return (NO_DEVICE, None);
         }
+        let placed = |slot: &u8| self.devices.iter().any(|device| device.id.slot == *slot);
+        let bare = self.marked.iter().copied().find(|slot| !placed(slot));
+        if let Some(slot) = bare
+            && self.rng.chance(40)
+        {
+            return (DeviceId { slot, ..NO_DEVICE }, None);
+        }
         let narrow = self.phase == Phase::Stalls && self.rng.chance(75);
         let count = if narrow { 1 } else { self.devices.len() };
         let device: Device = self.rng.pick(&self.devices[..count]);
@@ -62,11 +69,11 @@ impl World {
         if self.rng.chance(self.phase.failing()) {
             return Err(values::error(&mut self.rng));
         }
-        if !rows.is_empty() && self.rng.chance(self.phase.equal_tokens()) {
+        if !rows.is_empty() && !self.distinct && self.rng.chance(self.phase.equal_tokens()) {
             let last = rows.len().saturating_sub(6);
             return Ok(rows[last + self.rng.below(rows.len() - last)].token);
         }
-        if self.rng.chance(1) {
+        if !self.distinct && self.rng.chance(1) {
             return Ok(self.rng.pick(&[0, u64::MAX]));
         }
         self.next_token += 1;
@@ -80,8 +87,11 @@ impl World {
         if self.phase == Phase::Stalls && self.rng.chance(85) {
             mine.truncate(2);
         }
-        let few = self.phase == Phase::Stalls || mine.len() == 1;
-        let control = if few { 8 } else { 25 };
+        let control = match self.phase {
+            _ if self.is_alone() => 0,
+            Phase::Stalls => 8,
+            _ => 25,
+        };
         let choice = match mine.is_empty() || self.rng.chance(control) {
             true => (0, 0, TransferType::Control),
             false => self.rng.pick(&mine),

@@ -1,11 +1,12 @@
 //! How often each refusal and each kind of answer came.
-use std::collections::BTreeMap;
+use std::collections::{BTreeMap, BTreeSet};
 use std::fmt::{self, Display, Formatter};
 
-use oracle::RowView;
-use script::{Answer, Asked, Call, ControllerState, Outcome, Recovery, RowState};
+use oracle::View;
+use script::{Answer, Asked, Call, ControllerState, Outcome, RowState};
 
 use crate::Mix;
+use crate::corners::{self, Recovered};
 
 /// The refusals of document 01's table, by who can meet them.
 const CANNOT_BE_MET: [u16; 3] = [7, 25, 44];
@@ -58,12 +59,25 @@ const KINDS: &[&str] = &[
     "41 by a recovery that keeps earlier entries",
     "47 by a recovery that keeps earlier entries",
     "48 by a recovery that keeps earlier entries",
+    "26 of a slot without a device",
+    "46 by a token twice",
+    "46 by a token that no affected row has",
+    "46 by a token missing",
+    "46 by more than 128 tokens",
+    "recovery of 128 rows",
     "recovery of more than 100 rows",
+    "recovery that releases 128 rows",
+    "recovery that completes rows by data of three lengths",
     "recovery, ready, that leaves a row of an equal token held",
-    "reset that restores Initialized",
-    "reset, ready, that leaves a row Failed and not quiescent",
-    "reset, ready, that restores nothing",
     "reset not ready or with an error",
+    "reset that restores Initialized",
+    "reset, ready, after a mark since the stall",
+    "reset, ready, after a stall of another device",
+    "reset, ready, after a stall of another endpoint",
+    "reset, ready, after a stall of another device id in its slot",
+    "reset, ready, that leaves a row Failed and not quiescent",
+    "reset, ready, while Initialized with a stall noted",
+    "reset, ready, without a stall noted",
 ];
 
 pub struct Table {
@@ -77,6 +91,8 @@ pub struct Table {
     /// State and held rows before the call.
     state: ControllerState,
     held: u64,
+    /// Slots with a device.
+    slots: BTreeSet<u8>,
 }
 
 impl Table {
@@ -92,31 +108,54 @@ impl Table {
             most_rows: 0,
             state: ControllerState::Closed,
             held: 0,
+            slots: BTreeSet::new(),
         }
     }
 
-    /// Counts a call and its answer; `rows` are those before it.
-    pub fn count(&mut self, call: &Call, answer: &Answer, rows: &[RowView]) {
+    /// Counts a call and its answer; `before` is what was there before it.
+    pub fn count(&mut self, call: &Call, answer: &Answer, before: &View) {
         self.calls += 1;
         self.most_held = self.most_held.max(answer.held);
-        self.most_rows = self.most_rows.max(rows.len());
+        self.most_rows = self.most_rows.max(before.rows.len());
         match &answer.outcome {
             Outcome::Refused { number, error } => {
                 *self.refusals.entry(*number).or_default() += 1;
                 let category = error.category.name();
-                self.refused(call, answer, *number, category, rows.len());
+                self.refused(call, answer, *number, category, before.rows.len());
             }
-            outcome => {
-                *self.kinds.entry(kind(outcome)).or_default() += 1;
-                self.passed(call, answer, rows);
-            }
+            outcome => *self.kinds.entry(kind(outcome)).or_default() += 1,
         }
+        self.recovered(call, answer, before);
         *self
             .kinds
             .entry(format!("asked: {}", asked(&answer.asked)))
             .or_default() += 1;
         self.state = answer.state;
         self.held = answer.held;
+        match call {
+            Call::Device { id, .. } => {
+                self.slots.insert(id.slot);
+            }
+            Call::Open(_) => self.slots.clear(),
+            _ => {}
+        }
+    }
+
+    fn recovered(&mut self, call: &Call, answer: &Answer, before: &View) {
+        let Call::Recover { id, kind, reply } = call else {
+            return;
+        };
+        let recovered = Recovered {
+            target: before.rows.iter().find(|row| row.id == *id),
+            kind: *kind,
+            reply,
+            answer,
+            state: self.state,
+            before,
+        };
+        for name in recovered.corners() {
+            self.corner(name);
+        }
     }
 
     fn corner(&mut self, name: impl Into<String>) {
@@ -130,49 +169,14 @@ impl Table {
             31 | 33 | 34 => self.corner(format!("{number} after {} readings", answer.reads)),
             45 => self.corner(format!("45 by {}, category {category}", call.verb())),
             41 | 47 | 48 => self.corner(format!("{number} by {}", call.verb())),
+            26 if corners::slot(call).is_some_and(|slot| !self.slots.contains(&slot)) => {
+                self.corner("26 of a slot without a device");
+            }
             40 => self.corner(format!("40 by {}", call.verb())),
             _ => {}
         }
         if matches!(number, 41 | 47 | 48) && answer.held < self.held {
             self.corner(format!("{number} by a recovery that keeps earlier entries"));
-        }
-    }
-
-    fn passed(&mut self, call: &Call, answer: &Answer, rows: &[RowView]) {
-        let Outcome::Abort(report) = &answer.outcome else {
-            return;
-        };
-        let affected = rows
-            .iter()
-            .filter(|row| row.held)
-            .filter(|row| row.device == report.device && row.endpoint == report.endpoint)
-            .count();
-        if affected > 100 {
-            self.corner("recovery of more than 100 rows");
-        }
-        let released = report.completed.len() + report.aborted.len();
-        let ready = report.ready && report.error.is_none();
-        if ready && released < affected {
-            self.corner("recovery, ready, that leaves a row of an equal token held");
-        }
-        let reset = matches!(
-            call,
-            Call::Recover {
-                kind: Recovery::Reset { .. },
-                ..
-            }
-        );
-        if reset && self.state == ControllerState::RecoveryRequired {
-            let left =
-                |row: &&RowView| row.held && !row.pending && !report.aborted.contains(&row.id);
-            if ready && rows.iter().any(|row| left(&row)) {
-                self.corner("reset, ready, that leaves a row Failed and not quiescent");
-            }
-            self.corner(match (ready, answer.state) {
-                (true, ControllerState::Initialized) => "reset that restores Initialized",
-                (true, _) => "reset, ready, that restores nothing",
-                (false, _) => "reset not ready or with an error",
-            });
         }
     }
 
@@ -249,7 +253,7 @@ impl Table {
 
 fn is_of_recovery(kind: &str) -> bool {
     kind == "row A"
-        || ["abort", "recovery", "reset"]
+        || ["46 by", "abort", "recovery", "reset"]
             .iter()
             .any(|it| kind.contains(it))
 }

@@ -1,7 +1,7 @@
 //! What the generator knows of the session it steers, and its next call.
 use std::collections::VecDeque;
 
-use oracle::{Oracle, RowView};
+use oracle::{Oracle, RowView, View};
 use script::{
     Answer, Call, ControllerState, DeviceId, DeviceState, Outcome, PortId, RequestId, TransferType,
 };
@@ -34,14 +34,18 @@ pub struct World {
     pub devices: Vec<Device>,
     pub endpoints: Vec<(u8, u8, TransferType)>,
     pub marked: Vec<u8>,
+    /// Whether the opening placed one endpoint alone.
+    pub alone: bool,
+    /// Whether each row gets a token of its own.
+    pub distinct: bool,
     pub state: ControllerState,
     /// The ledger's session number.
     pub session: u64,
     /// The opening's session number, which port ids carry.
     pub opening: u64,
     pub next_token: u64,
-    /// The rows before the latest call.
-    pub rows: Vec<RowView>,
+    /// What was there before the latest call.
+    pub before: View,
 }
 
 impl World {
@@ -57,11 +61,13 @@ impl World {
             devices: Vec::new(),
             endpoints: Vec::new(),
             marked: Vec::new(),
+            alone: false,
+            distinct: false,
             state: ControllerState::Closed,
             session: 0,
             opening: 0,
             next_token: 1,
-            rows: Vec::new(),
+            before: View::default(),
         }
     }
 
@@ -70,11 +76,11 @@ impl World {
             self.next_phase(oracle.ports().is_none());
         }
         self.left = self.left.saturating_sub(1);
-        self.rows = oracle.rows();
+        self.before = oracle.view();
         if let Some(call) = self.queue.pop_front() {
             return call;
         }
-        let rows = self.rows.clone();
+        let rows = self.before.rows.clone();
         if let Some(call) = self.next_step(oracle, &rows) {
             return call;
         }
@@ -102,7 +108,9 @@ impl World {
     fn free_call(&mut self, oracle: &Oracle, rows: &[RowView]) -> Call {
         let held = rows.iter().filter(|row| row.held).count();
         let mut action = self.phase.action(&mut self.rng, self.mix, rows.len(), held);
-        if rows.is_empty() && action.needs_a_row() && self.rng.chance(85) {
+        let idle = rows.is_empty() && action.needs_a_row() && self.rng.chance(85);
+        let early = matches!(action, Action::Abort | Action::Reset) && held < 124;
+        if idle || (self.is_alone() && (early || action == Action::Plan)) {
             action = Action::Submit;
         }
         let submits = matches!(action, Action::Submit | Action::Plan);
@@ -117,6 +125,11 @@ impl World {
             return call;
         }
         self.act(action, oracle, rows)
+    }
+
+    /// Whether every submission goes to one endpoint.
+    pub fn is_alone(&self) -> bool {
+        self.alone && self.phase == Phase::Hold
     }
 
     /// Percent of calls, while not Initialized, that lead back to it.

@@ -15,7 +15,7 @@ fn a_long_script_meets_every_refusal_that_can_be_met() {
     let mut table = Table::new(Mix::Default);
     for _ in 0..200_000 {
         let (call, answer) = generator.step().unwrap();
-        table.count(&call, &answer, generator.rows());
+        table.count(&call, &answer, generator.before());
     }
     assert_eq!(table.missing(), Vec::<u16>::new());
     assert_eq!(table.unexpected(), Vec::<u16>::new());
@@ -30,7 +30,7 @@ fn at_most_one_row_is_uncertain_and_none_while_initialized() {
     let mut seen = 0;
     for _ in 0..50_000 {
         let (call, answer) = generator.step().unwrap();
-        let rows = generator.rows();
+        let rows = &generator.before().rows;
         let uncertain = rows.iter().filter(|row| row.held && !row.pending).count();
         let most = match state {
             ControllerState::RecoveryRequired => 1,
@@ -110,9 +110,9 @@ fn count_recorded(folder: &Path, table: &mut Table) {
             let Some(call) = parse_line(index + 1, line).unwrap() else {
                 continue;
             };
-            let rows = oracle.rows();
+            let before = oracle.view();
             let answer = oracle.apply(&call).unwrap();
-            table.count(&call, &answer, &rows);
+            table.count(&call, &answer, &before);
         }
     }
 }

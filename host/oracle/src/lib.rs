@@ -31,4 +31,4 @@ pub mod core {
 
 include!(concat!(env!("OUT_DIR"), "/lib/root.rs"));
 
-pub use side::{Oracle, RowView};
+pub use side::{Oracle, RowView, Stall, View};

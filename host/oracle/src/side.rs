@@ -26,6 +26,29 @@ pub struct RowView {
     pub held: bool,
 }
 
+impl RowView {
+    /// Whether a recovery of one of the two concerns the other.
+    pub fn shares_endpoint(&self, other: &Self) -> bool {
+        (self.device, self.endpoint) == (other.device, other.endpoint)
+    }
+}
+
+/// The note of a stall, which no report shows.
+#[derive(Debug, Clone, Copy)]
+pub struct Stall {
+    pub device: script::DeviceId,
+    pub endpoint: u8,
+    /// Whether no mark came since.
+    pub is_current: bool,
+}
+
+/// What was there before a call, as far as it tells what the call met.
+#[derive(Debug, Default)]
+pub struct View {
+    pub rows: Vec<RowView>,
+    pub stall: Option<Stall>,
+}
+
 #[derive(Default)]
 pub struct Oracle {
     usb: Option<UsbSession<Backend>>,
@@ -78,6 +101,23 @@ impl Oracle {
             held: state.device_may_access(),
         })
         .collect()
+    }
+
+    pub fn view(&self) -> View {
+        View {
+            rows: self.rows(),
+            stall: self.stall(),
+        }
+    }
+
+    fn stall(&self) -> Option<Stall> {
+        let usb = self.usb.as_ref()?;
+        let note = usb.recoverable_stall.as_ref()?;
+        Some(Stall {
+            device: convert::device_id(note.device),
+            endpoint: note.endpoint,
+            is_current: usb.session.recovery_revision() == Some(note.revision),
+        })
     }
 
     /// The port rows; none where the opening gave no ports.

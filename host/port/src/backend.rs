@@ -3,10 +3,10 @@ use std::cell::RefCell;
 use std::collections::VecDeque;
 use std::rc::Rc;
 
-use script::{Asked, Bytes, Completion, Error, PollReply, Reading};
+use script::{AbortReply, Asked, Bytes, Completion, Error, PollReply, Reading};
 use tapewoad::{
-    AcquisitionFailure, BackendCompletion, ControlProfile, OperationError, OwnedRequest,
-    ValidatedControlPlan,
+    AcquisitionFailure, BackendAbort, BackendCompletion, ControlProfile, OperationError,
+    OwnedRequest, ValidatedControlPlan,
 };
 
 use crate::convert;
@@ -19,6 +19,7 @@ pub struct Exchange {
     pub fresh: Option<u64>,
     pub token: Option<Result<u64, Error>>,
     pub completion: Option<PollReply>,
+    pub recovery: Option<AbortReply>,
     pub readings: VecDeque<Reading>,
     pub asked: Asked,
     pub reads: u32,
@@ -32,6 +33,7 @@ impl Default for Exchange {
             fresh: None,
             token: None,
             completion: None,
+            recovery: None,
             readings: VecDeque::new(),
             asked: Asked::Nothing,
             reads: 0,
@@ -75,6 +77,21 @@ impl Backend {
         let mut exchange = self.0.borrow_mut();
         exchange.asked = asked;
         exchange.token.take().expect(UNASKED).map_err(error)
+    }
+
+    fn recovery(&self, asked: Asked) -> Result<BackendAbort, OperationError> {
+        let mut exchange = self.0.borrow_mut();
+        exchange.asked = asked;
+        let result = exchange.recovery.take().expect(UNASKED).map_err(error)?;
+        let completed = result.completed.iter();
+        Ok(BackendAbort {
+            completed: completed
+                .map(|(token, done)| (*token, completion(done)))
+                .collect(),
+            aborted: result.aborted,
+            restart_ready: result.ready,
+            error: result.error.map(error),
+        })
     }
 }
 
@@ -152,5 +169,22 @@ impl tapewoad::Backend for Backend {
             Ok(done) => Ok(done.as_ref().map(completion)),
             Err(failure) => Err(error(failure)),
         }
+    }
+
+    fn reset_endpoint_recovery(
+        &mut self,
+        slot: u8,
+        endpoint: u8,
+        preserve: bool,
+    ) -> Result<BackendAbort, OperationError> {
+        self.recovery(Asked::Reset {
+            slot,
+            endpoint,
+            preserve,
+        })
+    }
+
+    fn abort_endpoint(&mut self, slot: u8, endpoint: u8) -> Result<BackendAbort, OperationError> {
+        self.recovery(Asked::Abort { slot, endpoint })
     }
 }

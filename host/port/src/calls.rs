@@ -1,13 +1,14 @@
 //! The library's calls, one by one.
+mod recovery;
+
 use std::mem;
 
 use script::{Answer, Asked, Bytes, Call, Completion, Open, Outcome, Plan, Row, RowState, Side};
 use tapewoad::calls::{self, State, Store};
 
 use crate::reads::Submission;
-use crate::{
-    NOT_OPEN, NOT_PORTED, WHOLE, answered, convert, dump, force, memory, number, unexpected,
-};
+use crate::{NOT_OPEN, WHOLE, answered, convert, dump, force, memory, number, unexpected};
+use recovery::Submitted;
 
 /// What a call gave, what reached the backend, and how many readings were taken.
 type Told = Result<(Outcome, Asked, u32), String>;
@@ -21,6 +22,7 @@ pub struct Port {
     is_open: bool,
     /// The port number of each slot's device.
     port_numbers: [u8; 256],
+    submitted: Submitted,
 }
 
 impl Default for Port {
@@ -31,6 +33,7 @@ impl Default for Port {
             next_size: WHOLE,
             is_open: false,
             port_numbers: [0; 256],
+            submitted: Submitted::default(),
         }
     }
 }
@@ -42,6 +45,7 @@ impl Side for Port {
             return Err(NOT_OPEN.into());
         }
         let (outcome, asked, reads) = self.told(call)?;
+        self.submitted.note(call, &outcome);
         let (held, held_bytes) = match self.is_open {
             true => (
                 number(&mut self.store, &calls::Call::HeldCount)?,
@@ -70,6 +74,7 @@ impl Port {
             Call::Submit(submit) => return self.submit(submit),
             Call::Plan(plan) => return self.plan(plan),
             Call::Poll { id, reply } => return self.poll(*id, reply),
+            Call::Recover { id, kind, reply } => return self.recover(*id, *kind, reply),
             Call::Open(open) => self.open(open),
             Call::Device { .. } | Call::Port { .. } | Call::Endpoints { .. } | Call::Raw { .. } => {
                 self.set(call)
@@ -91,7 +96,6 @@ impl Port {
             Call::Report(id) => self.of(calls::Call::RequestStatus, *id),
             Call::Reclaim(id) => self.reclaim(*id),
             Call::Reports => self.reports(),
-            Call::Recover { .. } => Err(NOT_PORTED.into()),
             Call::Dump => dump(&mut self.store).map(Outcome::Dump),
             Call::Force(state) => {
                 force(&mut self.store, *state);
@@ -184,6 +188,7 @@ impl Port {
                 let data = self.completed(&report);
                 Ok(Outcome::Row(Box::new(row(&report, data))))
             }
+            calls::Answer::Recovered(report) => Ok(Outcome::Abort(recovery::abort_report(report))),
             answer => Err(unexpected(call, &answer)),
         }
     }
@@ -294,10 +299,10 @@ impl Port {
             let reply = calls::Call::SubmitReply(reply.map_err(convert::to_error));
             return Ok((self.made(&reply)?, asked, submission.reads(None)));
         }
-        let outcome = self.outcome(call, answer)?;
-        let Outcome::Refused { number, .. } = outcome else {
+        let calls::Answer::Refused(calls::Refusal { number, .. }) = answer else {
             return Err(unexpected(call, &answer));
         };
+        let outcome = self.outcome(call, answer)?;
         let reads = submission.reads(Some(number));
         Ok((outcome, Asked::Nothing, reads))
     }

@@ -128,6 +128,10 @@ same_fields!(
     [request_type, request, value, index, length]
 );
 
+pub fn request_ids(ids: Vec<tapewoad::RequestId>) -> Vec<script::RequestId> {
+    ids.into_iter().map(request_id).collect()
+}
+
 pub fn to_error(error: script::Error) -> calls::Error {
     calls::Error {
         category: to_category(error.category),
@@ -201,6 +205,40 @@ pub fn to_plan<'a>(plan: &script::Plan, data: &'a [u8]) -> calls::Plan<'a> {
         status_direction: plan.status.map(to_direction),
         data,
         reading: plan.reading.map_err(to_error),
+    }
+}
+
+/// Makes the call of a recovery's reply, which lends it the bytes of its data.
+pub fn recovery_reply<T>(
+    reply: &script::AbortReply,
+    make: impl FnOnce(&calls::Call<'_>) -> T,
+) -> T {
+    let result = match reply {
+        Ok(result) => result,
+        Err(error) => return make(&calls::Call::RecoveryReply(Err(to_error(*error)))),
+    };
+    let data = |(_, done): &(u64, script::Completion)| done.data.as_ref().map(|it| it.to_bytes());
+    let data: Vec<_> = result.completed.iter().map(data).collect();
+    let completed = result.completed.iter().zip(&data);
+    let completed: Vec<_> = completed
+        .map(|((token, done), data)| (*token, to_completion(done, data.as_deref())))
+        .collect();
+    make(&calls::Call::RecoveryReply(Ok(calls::Abort {
+        completed: &completed,
+        aborted: &result.aborted,
+        restart_ready: result.ready,
+        error: result.error.map(to_error),
+    })))
+}
+
+/// An abort or reset of this request.
+pub fn to_recovery(target: script::RequestId, kind: script::Recovery) -> calls::Call<'static> {
+    let target = to_request_id(target);
+    match kind {
+        script::Recovery::Abort => calls::Call::AbortRequest(target),
+        script::Recovery::Reset { preserve } => {
+            calls::Call::ResetEndpointRequest { target, preserve }
+        }
     }
 }
 

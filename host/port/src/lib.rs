@@ -16,7 +16,6 @@ use script::{Dump, PortRow, Ports};
 use tapewoad::calls::{Answer, Call, Store};
 
 const NOT_OPEN: &str = "no session is open: the first call must be `open`";
-const NOT_PORTED: &str = "abort and reset: not ported yet";
 
 /// What no report shows, from the session's and the bus's words.
 fn dump(store: &mut Store) -> Result<Dump, String> {

@@ -2,14 +2,16 @@
 use std::mem;
 use std::rc::Rc;
 
-use script::{Answer, Bytes, Call, Error, Open, Outcome, Plan, Row, RowState, Side, Submit};
+use script::{
+    Answer, Bytes, Call, Error, Open, Outcome, Plan, Recovery, Row, RowState, Side, Submit,
+};
 use tapewoad::{
     ControlPlan, ControllerState, DataStage, OperationError, Refusal, RequestReport, RequestSpec,
     RequestState, UsbSession,
 };
 
 use crate::backend::{self, Backend, Exchange, SharedExchange};
-use crate::{NOT_OPEN, NOT_PORTED, WHOLE, convert, dump, force, memory};
+use crate::{NOT_OPEN, WHOLE, convert, dump, force, memory};
 
 type Usb = UsbSession<Backend>;
 type Told = Result<Outcome, String>;
@@ -118,7 +120,10 @@ fn told(usb: &mut Usb, exchange: &SharedExchange, call: &Call) -> Told {
         Call::Reclaim(id) => report(usb.reclaim_request(convert::to_request_id(*id))),
         Call::Report(id) => report(usb.request_status(convert::to_request_id(*id))),
         Call::Reports => reports(usb.request_reports()),
-        Call::Recover { .. } => Err(NOT_PORTED.into()),
+        Call::Recover { id, kind, reply } => {
+            exchange.borrow_mut().recovery = Some(reply.clone());
+            recover(usb, convert::to_request_id(*id), *kind)
+        }
         Call::Dump => dump(usb.store_mut()).map(Outcome::Dump),
         Call::Force(state) => {
             force(usb.store_mut(), *state);
@@ -190,6 +195,26 @@ fn reports(result: Result<Vec<RequestReport>, Refusal>) -> Told {
         }
         Err(refusal) => refused(&refusal),
     }
+}
+
+fn recover(usb: &mut Usb, target: tapewoad::RequestId, kind: Recovery) -> Told {
+    let result = match kind {
+        Recovery::Abort => usb.abort_request(target),
+        Recovery::Reset { preserve } => usb.reset_endpoint_request(target, preserve),
+    };
+    let report = match result {
+        Ok(report) => report,
+        Err(refusal) => return refused(&refusal),
+    };
+    Ok(Outcome::Abort(script::AbortReport {
+        target: convert::request_id(report.target),
+        device: convert::device_id(report.device),
+        endpoint: report.endpoint,
+        completed: convert::request_ids(report.completed),
+        aborted: convert::request_ids(report.aborted),
+        ready: report.restart_ready,
+        error: report.error.as_ref().map(backend_error).transpose()?,
+    }))
 }
 
 /// The backend's own message number for 33 and 45, else the refusal's.

@@ -1,4 +1,4 @@
-//! What has no Rust side: stores of other sizes, 53, and what is not ported.
+//! What has no Rust side: stores of other sizes, 53, and calls before the opening.
 use script::Side;
 
 const SETTING: &str = "open session=1 seq=0 rev=0 ports=1
@@ -74,9 +74,32 @@ fn the_state_can_be_forced() {
 }
 
 #[test]
-fn calls_before_the_opening_and_recoveries_have_no_answer() {
-    let message = answers("dump").unwrap_err();
-    assert!(message.contains("no session is open"), "{message}");
-    let message = answers(&format!("{SETTING}abort id=1.0.0 reply=err:C.1.-.-")).unwrap_err();
-    assert!(message.contains("not ported yet"), "{message}");
+fn calls_before_the_opening_have_no_answer() {
+    for line in ["dump", "abort id=1.0.0 reply=err:C.1.-.-"] {
+        let message = answers(line).unwrap_err();
+        assert!(message.contains("no session is open"), "{message}");
+    }
+}
+
+/// `Port` holds the tokens that the library names to those of the lines.
+#[test]
+fn a_smaller_store_recovers_its_rows() {
+    let store = format!("store rows=3 bytes=8\n{SETTING}");
+    let submits = format!("{SUBMIT} len=8\n").repeat(3);
+    let done = "done=7@8/1/p:8:1/-/1 aborted=- ready=1 error=-";
+    let aborts = format!("abort id=1.0.2 reply=ok {done}\n").repeat(3);
+    let lines = answers(&format!("{store}{submits}{aborts}reports")).unwrap();
+    let [.., first, second, third, reports] = &lines[..] else {
+        panic!("{lines:?}");
+    };
+    // Three rows of one token: each reply means the lowest that is held.
+    for (sequence, line) in [first, second, third].into_iter().enumerate() {
+        let start =
+            format!("abort target=1.0.2 dev=1.0.2 ep=81 completed=1.0.{sequence} aborted=-");
+        assert!(line.starts_with(&start), "{line}");
+    }
+    assert_eq!(reports.matches("data=8:01080f161d242b32").count(), 3);
+    // The rows are full still.
+    let full = last(&format!("{store}{submits}{aborts}{SUBMIT} len=8"));
+    assert!(full.starts_with("refuse 5 V.5.-.- |"), "{full}");
 }

@@ -78,6 +78,21 @@ impl Backend for Echo {
         let request = self.submitted.remove(&token);
         Ok(request.map(|request| self.completion(request)))
     }
+
+    /// Nothing of a stopped endpoint ever moved.
+    fn abort_endpoint(&mut self, _slot: u8, endpoint: u8) -> Result<BackendAbort, OperationError> {
+        let stopped = |_: &u64, request: &mut OwnedRequest| request.metadata.endpoint == endpoint;
+        Ok(BackendAbort {
+            completed: Vec::new(),
+            aborted: self
+                .submitted
+                .extract_if(stopped)
+                .map(|(token, _)| token)
+                .collect(),
+            restart_ready: true,
+            error: None,
+        })
+    }
 }
 
 /// Connected, enabled, speed 3 (high).
@@ -140,6 +155,11 @@ fn main() -> Result<(), Refusal> {
     // A wrong request is refused by its number, and nothing reaches the device.
     let refusal = usb.submit_request(bulk(0x81, Direction::In, 64, b"data"));
     println!("{}", refusal.expect_err("IN has no data"));
+
+    // What is not read is taken back.
+    let idle = usb.submit_request(bulk(0x81, Direction::In, 64, b""))?;
+    let report = usb.abort_request(idle.id)?;
+    println!("aborted: {:?}", report.aborted);
 
     for report in usb.request_reports()? {
         usb.reclaim_request(report.id)?;

@@ -1,16 +1,17 @@
 //! What the session asks of the host program.
 use crate::models::{
-    AcquisitionFailure, BackendCompletion, OperationError, OwnedRequest, ValidatedControlPlan,
-    unsupported,
+    AcquisitionFailure, BackendAbort, BackendCompletion, OperationError, OwnedRequest,
+    ValidatedControlPlan, unsupported,
 };
 
 /// The backend calls that the ported calls use, under the original's names: of
 /// its `ControllerBackend` acquire, initialize and close, of `DeviceBackend`
-/// port_status, of `RequestBackend` all, of `ExplicitBackend`
-/// submit_control_plan. Those of recovery follow with it.
+/// port_status, of `RequestBackend` and `RecoveryBackend` all, of
+/// `ExplicitBackend` submit_control_plan.
 ///
 /// They are asked when and as often as the original asks them. One that panics
-/// leaves its submission or poll in flight: every later call is refused (1).
+/// leaves its submission, poll or recovery in flight: every later call is
+/// refused (1).
 pub trait Backend {
     /// Takes the controller. Asked only while Closed.
     fn acquire(&mut self, target: &str) -> Result<(), AcquisitionFailure>;
@@ -39,4 +40,18 @@ pub trait Backend {
     fn submit_control_plan(&mut self, plan: ValidatedControlPlan) -> Result<u64, OperationError>;
     /// The completion of the request with this token, if it came.
     fn poll_request(&mut self, token: u64) -> Result<Option<BackendCompletion>, OperationError>;
+    /// Resets an endpoint and gives what became of its requests, as
+    /// [`abort_endpoint`](Self::abort_endpoint) does.
+    fn reset_endpoint_recovery(
+        &mut self,
+        _slot: u8,
+        _endpoint: u8,
+        _preserve: bool,
+    ) -> Result<BackendAbort, OperationError> {
+        Err(unsupported("endpoint reset unavailable"))
+    }
+    /// Stops an endpoint and gives what became of its requests. An error means
+    /// that nothing is known to be quiescent; progress made before an error is
+    /// given with it in [`BackendAbort::error`].
+    fn abort_endpoint(&mut self, slot: u8, endpoint: u8) -> Result<BackendAbort, OperationError>;
 }

@@ -8,7 +8,7 @@
 //! * [`UsbSession`] has the original's methods and types over a [`Backend`]:
 //!   what a host program uses.
 //! * [`calls`] is the layer beneath: every call and answer by itself, a
-//!   submission and a poll as two calls, their reply being the second.
+//!   submission, a poll and a recovery as two calls, their reply being the second.
 //! * [`library`] is the C function as a safe one; the only module with unsafe
 //!   code.
 //!
@@ -41,6 +41,9 @@
 //!     fn poll_request(&mut self, _token: u64) -> Result<Option<BackendCompletion>, OperationError> {
 //!         Ok(None)
 //!     }
+//!     fn abort_endpoint(&mut self, _slot: u8, _endpoint: u8) -> Result<BackendAbort, OperationError> {
+//!         Err(unsupported("endpoint abort unavailable"))
+//!     }
 //! }
 //!
 //! let mut usb = UsbSession::new(Quiet, Opening::new(1, Some(4)));
@@ -65,10 +68,11 @@ mod session;
 
 pub use backend::Backend;
 pub use models::{
-    AcquisitionFailure, BackendCompletion, ControlPlan, ControlProfile, ControllerState, DataStage,
-    DeviceId, DeviceSnapshot, DeviceState, Direction, Endpoint, ErrorCategory, Opening,
-    OperationError, OwnedRequest, PortId, RequestId, RequestMetadata, RequestReport, RequestSpec,
-    RequestState, SetupPacket, TransferType, ValidatedControlPlan, unsupported,
+    AbortReport, AcquisitionFailure, BackendAbort, BackendCompletion, ControlPlan, ControlProfile,
+    ControllerState, DataStage, DeviceId, DeviceSnapshot, DeviceState, Direction, Endpoint,
+    ErrorCategory, Opening, OperationError, OwnedRequest, PortId, RequestId, RequestMetadata,
+    RequestReport, RequestSpec, RequestState, SetupPacket, TransferType, ValidatedControlPlan,
+    unsupported,
 };
 pub use refusal::Refusal;
 pub use session::UsbSession;

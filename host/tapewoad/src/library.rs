@@ -13,7 +13,7 @@ pub struct Memory<'a> {
     pub area: &'a mut [u8],
 }
 
-// SAFETY: this is the function that crates/ffi exports: seven slices, each a
+// SAFETY: this is the function that crates/ffi exports: eight slices, each a
 // pointer and a length, and a status back (docs/CALLS.md).
 unsafe extern "C" {
     fn tapewoad_apply(
@@ -31,15 +31,24 @@ unsafe extern "C" {
         bytes_len: usize,
         out: *mut u64,
         out_len: usize,
+        lists: *mut u64,
+        lists_len: usize,
     ) -> u64;
 }
 
 /// Runs one call in the words of docs/CALLS.md and gives the status: 0 where it
-/// was answered, in the first 32 words of `out`; with 1 (no call), 2 (not 26
-/// words of a session) or 3 (`out` too short) nothing has changed.
+/// was answered, in the first 32 words of `out` and, of a recovery, in `lists`;
+/// with 1 (no call), 2 (not 26 words of a session), 3 (`out` too short) or 4
+/// (`lists` too short) nothing has changed.
 ///
 /// Slices of any length and content are taken.
-pub fn apply(memory: Memory<'_>, call: &[u64], bytes: &[u8], out: &mut [u64]) -> u64 {
+pub fn apply(
+    memory: Memory<'_>,
+    call: &[u64],
+    bytes: &[u8],
+    out: &mut [u64],
+    lists: &mut [u64],
+) -> u64 {
     let Memory {
         session,
         bus,
@@ -66,6 +75,8 @@ pub fn apply(memory: Memory<'_>, call: &[u64], bytes: &[u8], out: &mut [u64]) ->
             bytes.len(),
             out.as_mut_ptr(),
             out.len(),
+            lists.as_mut_ptr(),
+            lists.len(),
         )
     }
 }

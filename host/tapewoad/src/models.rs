@@ -289,6 +289,37 @@ pub struct RequestReport {
     pub data: Option<Vec<u8>>,
 }
 
+/// What the backend says of an endpoint that it stopped or reset.
+#[derive(Debug, Clone, PartialEq, Eq)]
+pub struct BackendAbort {
+    /// Tokens of requests that came to their end before, with what came of them.
+    pub completed: Vec<(u64, BackendCompletion)>,
+    /// Tokens of requests that were taken back.
+    pub aborted: Vec<u64>,
+    /// Whether the endpoint takes requests again.
+    pub restart_ready: bool,
+    /// What failed after the stop.
+    pub error: Option<OperationError>,
+}
+
+/// A report of an abort or reset, which concerns every held request of the
+/// target's device and endpoint.
+#[derive(Debug, Clone, PartialEq, Eq)]
+#[allow(missing_docs)]
+pub struct AbortReport {
+    pub target: RequestId,
+    pub device: DeviceId,
+    pub endpoint: u8,
+    /// Always "endpoint_wide".
+    pub scope: String,
+    /// The requests that are Completed now, in the backend's order.
+    pub completed: Vec<RequestId>,
+    /// The requests that are Aborted now, in the backend's order.
+    pub aborted: Vec<RequestId>,
+    pub restart_ready: bool,
+    pub error: Option<OperationError>,
+}
+
 /// How strictly a control plan's stages are held to its SETUP packet.
 #[derive(Debug, Clone, Copy, PartialEq, Eq)]
 #[allow(missing_docs)]

@@ -74,7 +74,12 @@ fn text(number: u16) -> &'static str {
         40 => "unknown or reclaimed request",
         41 => "request is no longer pending",
         42 => "device still owns request",
+        43 => "request already terminal",
+        44 => "controller unavailable for recovery",
+        46 => "inconsistent abort scope/result tokens",
+        47 => "abort completion missing length",
         48 => "backend returned an unconfirmed or invalid completion",
+        49 => "the reply's lists disagree",
         50 => "session already owns or retains a controller",
         51 => "initialize requires acquired unknown state",
         52 => "session identity exhausted",
@@ -98,14 +103,14 @@ pub struct Messages {
 }
 
 impl Messages {
-    fn number(&mut self, message: String) -> u16 {
-        if let Some(number) = self.numbers.get(&message) {
+    fn number(&mut self, message: &str) -> u16 {
+        if let Some(number) = self.numbers.get(message) {
             return *number;
         }
         let number = u16::try_from(usize::from(FIRST) + self.texts.len()).unwrap_or(OTHER);
         if number < OTHER {
-            self.texts.push(message.clone());
-            self.numbers.insert(message, number);
+            self.texts.push(message.into());
+            self.numbers.insert(message.into(), number);
         }
         number
     }
@@ -121,10 +126,10 @@ impl Messages {
     }
 
     /// The backend's error, as the library takes it.
-    pub fn numbered(&mut self, error: OperationError) -> calls::Error {
+    pub fn numbered(&mut self, error: &OperationError) -> calls::Error {
         calls::Error {
             category: error.category,
-            message: self.number(error.message),
+            message: self.number(&error.message),
             os_code: error.os_code,
             completion_code: error.completion_code,
         }
@@ -140,11 +145,16 @@ impl Messages {
         }
     }
 
-    /// A refusal of the library's, with its text.
+    /// A refusal of the library's, with its text: that of 48 is not the text of
+    /// the row that a poll's invalid completion leaves.
     pub fn refusal(&self, refusal: calls::Refusal) -> Refusal {
+        let mut error = self.error(refusal.error);
+        if refusal.number == 48 {
+            error.message = "invalid completion in abort result".into();
+        }
         Refusal {
             number: refusal.number,
-            error: self.error(refusal.error),
+            error,
         }
     }
 }
@@ -169,7 +179,7 @@ mod tests {
                 os_code: Some(-1),
                 ..OperationError::validation(text)
             };
-            let words = messages.numbered(error.clone());
+            let words = messages.numbered(&error);
             assert_eq!(words.message, expected);
             assert_eq!(messages.error(words), error);
         }
@@ -180,12 +190,12 @@ mod tests {
         let mut messages = Messages::default();
         let mut last = 0;
         for place in 0..70_000 {
-            last = messages.number(place.to_string());
+            last = messages.number(&place.to_string());
         }
         assert_eq!(last, OTHER);
         assert_eq!(messages.text(OTHER), OTHER_TEXT);
         assert_eq!(messages.text(OTHER - 1), "65470");
-        assert_eq!(messages.number("0".into()), FIRST);
+        assert_eq!(messages.number("0"), FIRST);
     }
 
     #[test]
@@ -193,5 +203,17 @@ mod tests {
         let messages = Messages::default();
         assert_eq!(messages.text(40), "unknown or reclaimed request");
         assert_eq!(messages.text(48), text(48));
+    }
+
+    #[test]
+    fn an_invalid_completion_has_a_text_as_a_refusal_and_one_in_its_row() {
+        let messages = Messages::default();
+        let error = calls::Error {
+            message: 48,
+            ..UNREAD
+        };
+        let refusal = messages.refusal(calls::Refusal { number: 48, error });
+        assert_eq!(refusal.error.message, "invalid completion in abort result");
+        assert_eq!(messages.error(error).message, text(48));
     }
 }

@@ -1,5 +1,8 @@
 //! The original's session over a backend, with the library beneath.
+mod recovery;
+
 use std::cell::{Ref, RefCell};
+use std::fmt::Debug;
 
 use crate::backend::Backend;
 use crate::calls::{self, Answer, Begun, Call, Plan, Reading, Store, Submit};
@@ -31,18 +34,16 @@ pub struct UsbSession<B: Backend> {
     port_numbers: [u8; 256],
 }
 
-/// The library's answer to a call that has no other answers: a fault of it.
-macro_rules! unexpected {
-    ($answer:expr) => {
-        unreachable!("no answer to this call: {:?}", $answer)
-    };
+/// The library's answer to a call that has no such answers: a fault of it.
+fn unexpected(answer: impl Debug) -> ! {
+    unreachable!("no answer to this call: {answer:?}")
 }
 
 impl<B: Backend> UsbSession<B> {
     /// A session over 1,024 rows of 65,536 bytes, as the original has them.
     pub fn new(backend: B, opening: Opening) -> Self {
         Self::with_store(backend, opening, Store::ROWS, Store::ROW_BYTES)
-            .unwrap_or_else(|refusal| unexpected!(refusal))
+            .unwrap_or_else(|refusal| unexpected(refusal))
     }
 
     /// A session over a smaller store; refused (3) where it has not 1 to 1,024
@@ -58,7 +59,7 @@ impl<B: Backend> UsbSession<B> {
         match store.open(opening) {
             Answer::Passed => {}
             Answer::Refused(refusal) => return Err(messages.refusal(refusal)),
-            answer => unexpected!(answer),
+            answer => unexpected(answer),
         }
         Ok(Self {
             backend: Some(backend),
@@ -135,7 +136,7 @@ impl<B: Backend> UsbSession<B> {
         if self.state() == ControllerState::Closed {
             reply = self.backend_mut().acquire(target);
         }
-        let reply = reply.map_err(|it| (self.messages.numbered(it.error), it.retained));
+        let reply = reply.map_err(|it| (self.messages.numbered(&it.error), it.retained));
         self.done(&Call::Acquire(reply))
     }
 
@@ -145,7 +146,7 @@ impl<B: Backend> UsbSession<B> {
         if self.state() == ControllerState::AcquiredUnknown {
             reply = self.backend_mut().initialize();
         }
-        let reply = reply.map_err(|error| self.messages.numbered(error));
+        let reply = reply.map_err(|error| self.messages.numbered(&error));
         self.done(&Call::Initialize(reply))
     }
 
@@ -158,7 +159,7 @@ impl<B: Backend> UsbSession<B> {
                 reply = self.backend_mut().close();
             }
         }
-        let reply = reply.map_err(|error| self.messages.numbered(error));
+        let reply = reply.map_err(|error| self.messages.numbered(&error));
         self.done(&Call::Close { fresh, reply })
     }
 
@@ -192,7 +193,7 @@ impl<B: Backend> UsbSession<B> {
         let begun = match answer {
             Answer::Begun { begun, .. } => begun,
             Answer::Refused(refusal) => return Err(self.messages.refusal(refusal)),
-            answer => unexpected!(answer),
+            answer => unexpected(answer),
         };
         let request = OwnedRequest {
             metadata: metadata(&begun.metadata),
@@ -221,7 +222,7 @@ impl<B: Backend> UsbSession<B> {
         let (begun, stages) = match answer {
             Answer::PlanBegun { begun, stages } => (begun, stages),
             Answer::Refused(refusal) => return Err(self.messages.refusal(refusal)),
-            answer => unexpected!(answer),
+            answer => unexpected(answer),
         };
         let plan = ValidatedControlPlan {
             metadata: metadata(&begun.metadata),
@@ -244,9 +245,12 @@ impl<B: Backend> UsbSession<B> {
         };
         let answer = match self.backend_mut().poll_request(token) {
             Ok(None) => self.store.get_mut().apply(&Call::PollReply(Ok(None))),
-            Ok(Some(completion)) => self.complete(completion),
+            Ok(Some(done)) => {
+                let reply = Ok(Some(completion(&mut self.messages, &done)));
+                self.store.get_mut().apply(&Call::PollReply(reply))
+            }
             Err(error) => {
-                let reply = Err(self.messages.numbered(error));
+                let reply = Err(self.messages.numbered(&error));
                 self.store.get_mut().apply(&Call::PollReply(reply))
             }
         };
@@ -271,7 +275,7 @@ impl<B: Backend> UsbSession<B> {
         match self.store.get_mut().apply(&Call::ReclaimRequest(id)) {
             Answer::Report(_) => Ok(report),
             Answer::Refused(refusal) => Err(self.messages.refusal(refusal)),
-            answer => unexpected!(answer),
+            answer => unexpected(answer),
         }
     }
 
@@ -308,7 +312,7 @@ impl<B: Backend> UsbSession<B> {
     fn number(&self, call: &Call<'_>) -> u64 {
         match self.store.borrow_mut().apply(call) {
             Answer::Number(number) => number,
-            answer => unexpected!(answer),
+            answer => unexpected(answer),
         }
     }
 
@@ -316,7 +320,7 @@ impl<B: Backend> UsbSession<B> {
         match self.store.get_mut().apply(call) {
             Answer::Passed => Ok(()),
             Answer::Refused(refusal) => Err(self.messages.refusal(refusal)),
-            answer => unexpected!(answer),
+            answer => unexpected(answer),
         }
     }
 
@@ -334,7 +338,7 @@ impl<B: Backend> UsbSession<B> {
             }
             let number = self.port_numbers[usize::from(slot)];
             let status = self.backend_mut().port_status(number);
-            readings[taken] = status.map_err(|error| self.messages.numbered(error));
+            readings[taken] = status.map_err(|error| self.messages.numbered(&error));
             if readings[taken].is_err() {
                 break;
             }
@@ -350,29 +354,16 @@ impl<B: Backend> UsbSession<B> {
         &mut self,
         reply: Result<u64, crate::OperationError>,
     ) -> Result<RequestReport, Refusal> {
-        let reply = reply.map_err(|error| self.messages.numbered(error));
+        let reply = reply.map_err(|error| self.messages.numbered(&error));
         let answer = self.store.get_mut().apply(&Call::SubmitReply(reply));
         self.reported(answer)
-    }
-
-    fn complete(&mut self, completion: BackendCompletion) -> Answer {
-        let error = completion.error.map(|error| self.messages.numbered(error));
-        let completion = calls::Completion {
-            actual_length: completion.actual_length.map(|length| length as u64),
-            completion_code: completion.completion_code,
-            data: completion.data.as_deref(),
-            error,
-            quiescent: completion.quiescent,
-        };
-        let reply = Call::PollReply(Ok(Some(completion)));
-        self.store.get_mut().apply(&reply)
     }
 
     fn reported(&self, answer: Answer) -> Result<RequestReport, Refusal> {
         match answer {
             Answer::Report(report) => Ok(self.report(&report)),
             Answer::Refused(refusal) => Err(self.messages.refusal(refusal)),
-            answer => unexpected!(answer),
+            answer => unexpected(answer),
         }
     }
 
@@ -423,6 +414,18 @@ impl<B: Backend> UsbSession<B> {
 }
 
 const TAKEN_BY_DROP: &str = "only drop takes the backend";
+
+/// A completion as the library takes it.
+fn completion<'a>(messages: &mut Messages, done: &'a BackendCompletion) -> calls::Completion<'a> {
+    let error = done.error.as_ref();
+    calls::Completion {
+        actual_length: done.actual_length.map(|length| length as u64),
+        completion_code: done.completion_code,
+        data: done.data.as_deref(),
+        error: error.map(|error| messages.numbered(error)),
+        quiescent: done.quiescent,
+    }
+}
 
 /// Lengths in the library are those of a buffer in memory.
 fn metadata(metadata: &calls::Metadata) -> RequestMetadata {

@@ -2,71 +2,11 @@
 //! what only the port can refuse.
 mod common;
 
-use common::{DEVICE, ENDPOINTS, WORD, id, snapshot};
+use common::store::{ERROR, completion, others, ready, refusal, submit, words};
+use common::{DEVICE, ENDPOINTS, WORD, id};
 use tapewoad::calls::*;
 use tapewoad::library::{self, Memory};
-use tapewoad::{ControllerState, Direction, Endpoint, ErrorCategory, Opening, TransferType};
-
-const ERROR: Error = Error {
-    category: ErrorCategory::Timeout,
-    message: 77,
-    os_code: None,
-    completion_code: None,
-};
-
-/// Initialised, with one configured device on port 1.
-fn ready() -> Store {
-    let mut store = Store::new(2, 16);
-    for answer in [
-        store.open(Opening::new(1, Some(1))),
-        store.apply(&Call::SetDevice(snapshot())),
-        store.apply(&Call::SetPort {
-            number: 1,
-            generation: 1,
-            reading: Some(WORD),
-        }),
-        store.apply(&Call::SetEndpoints {
-            slot: 2,
-            endpoints: &ENDPOINTS,
-        }),
-        store.apply(&Call::Acquire(Ok(()))),
-        store.apply(&Call::Initialize(Ok(()))),
-    ] {
-        assert_eq!(answer, Answer::Passed);
-    }
-    store
-}
-
-fn submit() -> Call<'static> {
-    Call::SubmitRequestPackets(Submit {
-        device: DEVICE,
-        endpoint: 0x01,
-        transfer_type: TransferType::Bulk,
-        direction: Direction::Out,
-        length: 3,
-        setup: None,
-        data: &[1, 2, 3],
-        packets: None,
-        readings: [Ok(WORD), Ok(WORD)],
-    })
-}
-
-fn refusal(answer: Answer) -> u16 {
-    match answer {
-        Answer::Refused(refusal) => refusal.number,
-        answer => panic!("{answer:?}"),
-    }
-}
-
-fn completion(data: &[u8]) -> Call<'_> {
-    Call::PollReply(Ok(Some(Completion {
-        actual_length: Some(data.len() as u64),
-        completion_code: Some(1),
-        data: Some(data),
-        error: None,
-        quiescent: true,
-    })))
-}
+use tapewoad::{ControllerState, Endpoint, Opening};
 
 #[test]
 fn a_submission_and_a_poll_are_two_calls_each() {
@@ -96,25 +36,6 @@ fn a_submission_and_a_poll_are_two_calls_each() {
     ));
     assert_eq!(store.completed_bytes(id(0)), [7, 8]);
     assert_eq!(store.bytes(0, 3), [7, 8, 3]);
-}
-
-/// Calls that are refused (1) while something is in flight.
-fn others() -> Vec<Call<'static>> {
-    vec![
-        Call::SetDevice(snapshot()),
-        Call::SetReconcile { slot: 2, set: true },
-        Call::Acquire(Ok(())),
-        Call::Initialize(Ok(())),
-        Call::Close {
-            fresh: Some(2),
-            reply: Ok(()),
-        },
-        submit(),
-        Call::PollRequest(id(0)),
-        Call::LogicalCancelRequest(id(0)),
-        Call::TimeoutRequest(id(0)),
-        Call::ReclaimRequest(id(0)),
-    ]
 }
 
 #[test]
@@ -170,6 +91,7 @@ fn replies_that_fit_nothing_are_refused() {
         Call::SubmitReply(Err(ERROR)),
         Call::PollReply(Ok(None)),
         completion(&[]),
+        Call::RecoveryReply(Err(ERROR)),
     ] {
         assert_eq!(refusal(store.apply(&call)), 2, "{call:?}");
     }
@@ -236,13 +158,6 @@ fn too_many_endpoints_are_refused() {
     assert_eq!(store.apply(&call), Answer::Passed);
 }
 
-/// What the library may write: session, ports and bytes.
-fn words(store: &Store) -> (Vec<u64>, String, Vec<u8>) {
-    let port = format!("{:?}", store.port(1));
-    let session = store.session_words().to_vec();
-    (session, port, store.bytes(0, 32).into())
-}
-
 #[test]
 fn words_that_are_no_call_change_nothing() {
     let mut store = ready();
@@ -250,7 +165,7 @@ fn words_that_are_no_call_change_nothing() {
     let good = submit().words();
     let mut bad = vec![
         vec![],
-        vec![22],
+        vec![25],
         vec![u64::MAX],
         vec![20, 0],
         vec![16, 1, 0],
@@ -335,21 +250,23 @@ fn a_word_too_few_or_too_many_is_no_call() {
     }
 }
 
-/// Statuses 2 and 3, which no [`Store`] can meet; the first that applies is given.
+/// Statuses 2 to 4, which no [`Store`] can meet; the first that applies is given.
 #[test]
 fn wrong_memory_is_told_by_the_status() {
-    let apply = |session_words: usize, call: &[u64], out_words: usize| {
+    let apply = |session_words: usize, call: &[u64], out_words: usize, list_words: usize| {
         let (mut session, mut out) = (vec![9; session_words], vec![9; out_words]);
         let (mut bus, mut rows, mut area) = (vec![9; BUS_WORDS], vec![9; ROW_WORDS], vec![9; 4]);
+        let mut lists = vec![9; list_words];
         let memory = Memory {
             session: &mut session,
             bus: &mut bus,
             rows: &mut rows,
             area: &mut area,
         };
-        let status = library::apply(memory, call, &[], &mut out);
+        let status = library::apply(memory, call, &[], &mut out, &mut lists);
         let kept = [session, bus, rows, out].concat().iter().all(|it| *it == 9);
         assert!(status == 0 || (kept && area == [9; 4]), "status {status}");
+        assert!(lists.iter().all(|it| *it == 9), "status {status}");
         status
     };
     let open = Call::Open {
@@ -358,12 +275,17 @@ fn wrong_memory_is_told_by_the_status() {
         row_bytes: 4,
     }
     .words();
-    assert_eq!(apply(25, &open, 32), 2);
-    assert_eq!(apply(27, &open, 32), 2);
-    assert_eq!(apply(0, &open, 0), 2);
-    assert_eq!(apply(26, &open, 31), 3);
-    assert_eq!(apply(26, &open, 0), 3);
-    assert_eq!(apply(0, &[22], 0), 1);
-    assert_eq!(apply(26, &open, 32), 0);
-    assert_eq!(apply(26, &open, 40), 0);
+    let count = Call::HeldCount.words();
+    assert_eq!(apply(25, &open, 32, LIST_WORDS), 2);
+    assert_eq!(apply(27, &open, 32, LIST_WORDS), 2);
+    assert_eq!(apply(0, &open, 0, 0), 2);
+    assert_eq!(apply(26, &open, 31, LIST_WORDS), 3);
+    assert_eq!(apply(26, &open, 0, 0), 3);
+    assert_eq!(apply(26, &open, 32, LIST_WORDS - 1), 4);
+    assert_eq!(apply(26, &count, 32, LIST_WORDS - 1), 4);
+    assert_eq!(apply(26, &open, 32, 0), 4);
+    assert_eq!(apply(0, &[25], 0, 0), 1);
+    assert_eq!(apply(26, &open, 32, LIST_WORDS), 0);
+    assert_eq!(apply(26, &count, 32, LIST_WORDS), 0);
+    assert_eq!(apply(26, &open, 40, 1000), 0);
 }

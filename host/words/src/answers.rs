@@ -1,5 +1,5 @@
 //! The oracle's answers as the lines that `replay` prints.
-use script::{Answer, Asked, Bytes, DeviceId, Error, RequestId, Row, RowState, Setup};
+use script::{AbortReport, Answer, Asked, Bytes, DeviceId, Error, RequestId, Row, RowState, Setup};
 
 pub fn passed() -> String {
     "ok".into()
@@ -43,6 +43,58 @@ pub fn asked(asked: &Asked) -> Result<String, String> {
         Asked::Poll { token } => Ok(line("ask", &[*token])),
         other => Err(format!("not of these calls: {other:?}")),
     }
+}
+
+/// What the backend was asked by a recovery, with the affected tokens on a line
+/// of their own. The Rust tells its backend neither target nor tokens.
+pub fn recover(
+    asked: &Asked,
+    target: RequestId,
+    device: DeviceId,
+    tokens: &[u64],
+) -> Result<String, String> {
+    let (slot, endpoint, kind) = match asked {
+        Asked::Abort { slot, endpoint } => (*slot, *endpoint, 0),
+        Asked::Reset {
+            slot,
+            endpoint,
+            preserve,
+        } => (*slot, *endpoint, 1 + u64::from(*preserve)),
+        other => return Err(format!("no recovery: {other:?}")),
+    };
+    if slot != device.slot {
+        return Err(format!("slot {slot} was asked for, not {device:?}"));
+    }
+    let ids = [id_words(target), device_words(device)].concat();
+    let words = [&ids[..], &[endpoint.into(), kind]].concat();
+    Ok(format!(
+        "{}\n{}",
+        line("recover", &words),
+        line("tokens", tokens)
+    ))
+}
+
+/// What a recovery did: its words, and the ids of both lists on lines of their own.
+pub fn recovered(report: &AbortReport) -> String {
+    let mut words = [id_words(report.target), device_words(report.device)].concat();
+    words.extend([
+        report.endpoint.into(),
+        report.completed.len() as u64,
+        report.aborted.len() as u64,
+        report.ready.into(),
+        report.error.is_some().into(),
+    ]);
+    words.extend(report.error.as_ref().map_or([0; 4], error_words));
+    let ids = |name, ids: &[RequestId]| {
+        let words: Vec<_> = ids.iter().flat_map(|id| id_words(*id)).collect();
+        line(name, &words)
+    };
+    let lists = [
+        line("recovered", &words),
+        ids("completed", &report.completed),
+        ids("aborted", &report.aborted),
+    ];
+    lists.join("\n")
 }
 
 pub fn report(row: &Row) -> String {

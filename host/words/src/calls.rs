@@ -1,6 +1,7 @@
 //! A script's call as the calls of the word format, each with its answer.
+use oracle::RowView;
 use port::convert;
-use script::{Answer, Asked, Call, Outcome, PollReply, RequestId, Row, RowState};
+use script::{AbortReply, Answer, Asked, Call, Outcome, PollReply, RequestId, Row, RowState};
 use tapewoad::calls;
 
 use crate::answers;
@@ -27,16 +28,18 @@ type Exchanges = Result<Vec<Exchange>, String>;
 fn line(call: &calls::Call<'_>) -> String {
     let words: Vec<_> = call.words().iter().map(u64::to_string).collect();
     let mut text = words.join(" ");
-    if !call.bytes().is_empty() {
+    let bytes = call.bytes();
+    if !bytes.is_empty() {
         text += " /";
     }
-    for byte in call.bytes() {
+    for byte in bytes.iter() {
         text += &format!(" {byte}");
     }
     text
 }
 
-pub fn exchanges(call: &Call, answer: &Answer) -> Exchanges {
+/// `rows` are the Rust's before the call.
+pub fn exchanges(call: &Call, answer: &Answer, rows: &[RowView]) -> Exchanges {
     match call {
         Call::Submit(submit) => {
             let data = submit.data.to_bytes();
@@ -49,6 +52,13 @@ pub fn exchanges(call: &Call, answer: &Answer) -> Exchanges {
             submission(&begin, plan.reply, answer)
         }
         Call::Poll { id, reply } => poll(*id, reply, answer),
+        Call::Recover { id, kind, reply } => {
+            let begin = convert::to_recovery(*id, *kind);
+            match answer.asked {
+                Asked::Nothing => told(&begin, &answer.outcome),
+                _ => recovery(&begin, *id, reply, answer, rows),
+            }
+        }
         Call::Reclaim(id) => reclaim(*id, &answer.outcome),
         Call::Reports => reports(&answer.outcome),
         Call::Cancel(id) => of(calls::Call::LogicalCancelRequest, *id, answer),
@@ -116,6 +126,7 @@ fn told(call: &calls::Call<'_>, outcome: &Outcome) -> Exchanges {
             exchanges.extend(completed(row)?);
             Ok(exchanges)
         }
+        Outcome::Abort(report) => Ok(vec![Exchange::new(call, answers::recovered(report))]),
         other => Err(format!("not of these calls: {other:?}")),
     }
 }
@@ -176,6 +187,26 @@ fn poll(id: RequestId, reply: &PollReply, answer: &Answer) -> Exchanges {
     Ok(exchanges)
 }
 
+/// A recovery that the backend was asked for, and its reply. The tokens are those
+/// of the Rust's held rows with the target's device and endpoint.
+fn recovery(
+    begin: &calls::Call<'_>,
+    target: RequestId,
+    reply: &AbortReply,
+    answer: &Answer,
+    rows: &[RowView],
+) -> Exchanges {
+    let row = rows.iter().find(|row| row.id == target);
+    let row = row.ok_or_else(|| format!("a recovery of no row: {begin:?}"))?;
+    let affected = rows.iter().filter(|it| it.held && it.shares_endpoint(row));
+    let tokens: Vec<_> = affected.map(|row| row.token).collect();
+    let asked = answers::recover(&answer.asked, target, row.device, &tokens)?;
+    let mut exchanges = vec![Exchange::new(begin, asked)];
+    let replied = convert::recovery_reply(reply, |call| told(call, &answer.outcome))?;
+    exchanges.extend(replied);
+    Ok(exchanges)
+}
+
 /// The bytes are asked for while the request is there.
 fn reclaim(id: RequestId, outcome: &Outcome) -> Exchanges {
     let call = calls::Call::ReclaimRequest(convert::to_request_id(id));
@@ -215,8 +246,9 @@ mod tests {
         let mut last = Vec::new();
         for (index, line) in script.lines().enumerate() {
             if let Some(call) = parse_line(index + 1, line).unwrap() {
+                let rows = oracle.rows();
                 let answer = oracle.apply(&call).unwrap();
-                last = exchanges(&call, &answer).unwrap();
+                last = exchanges(&call, &answer, &rows).unwrap();
             }
         }
         last.into_iter().map(|it| (it.call, it.answer)).unzip()
@@ -268,6 +300,29 @@ mod tests {
         let (calls, answers) = last(&format!("{READY}{SUBMIT}reclaim id=1.0.0"));
         assert_eq!(calls, ["15 1 0 0"]);
         assert_eq!(answers, ["refused 42 0 42 0 0"]);
+    }
+
+    #[test]
+    fn a_recovery_names_its_tokens_and_its_ids() {
+        let submits = format!("{SUBMIT}{}{SUBMIT}", SUBMIT.replace("reply=7", "reply=9"));
+        let reset =
+            "reset id=1.0.1 preserve=1 reply=ok done=9@1/13/h:0c/-/1 aborted=7 ready=1 error=-";
+        let (calls, answers) = last(&format!("{READY}{submits}{reset}"));
+        assert_eq!(calls[0], "23 1 0 1 1");
+        assert_eq!(
+            calls[1],
+            "24 0 1 0 0 0 0 0 1 1 9 0 0 0 0 0 1 1 14 1 1 1 7 / 12"
+        );
+        assert_eq!(answers[0], "recover 1 0 1 1 0 1 129 2\ntokens 7 9 7");
+        let report = "recovered 1 0 1 1 0 1 129 1 1 1 0 0 0 0 0";
+        let ids = "completed 1 0 1\naborted 1 0 0";
+        assert_eq!(answers[1], format!("{report}\n{ids}"));
+        let failed = last(&format!("{READY}{submits}abort id=1.0.0 reply=err:T.5.-.6"));
+        assert_eq!(failed.0, ["22 1 0 0", "24 1 0 1 4 5 0 7 0 0"]);
+        assert_eq!(failed.1[0], "recover 1 0 0 1 0 1 129 0\ntokens 7 9 7");
+        assert_eq!(failed.1[1], "refused 45 4 5 0 7");
+        let unknown = last(&format!("{READY}abort id=1.0.0 reply=err:T.5.-.6"));
+        assert_eq!(unknown.1, ["refused 40 0 40 0 0"]);
     }
 
     #[test]

@@ -5,13 +5,14 @@ use std::fs;
 use std::path::Path;
 
 use generate::{Generator, Mix, Phase, Table};
-use oracle::{Oracle, RowView};
+use oracle::{Oracle, View};
 use script::{Answer, Call, Side, parse_line};
 
 use crate::calls::exchanges;
 use crate::{answers, store};
 
-/// What has no Rust side: statuses and lines that are no call.
+/// What has no Rust side: statuses, lines that are no call, and refusals between
+/// the two calls of a recovery.
 const BY_HAND: [&str; 2] = [
     include_str!("../by-hand.stdin"),
     include_str!("../by-hand.stdout"),
@@ -48,7 +49,7 @@ impl Recording {
         let mut recording = Self {
             stdin: HEAD.into(),
             stdout: String::new(),
-            table: Table::new(Mix::NoRecovery),
+            table: Table::new(Mix::Default),
             words: BTreeMap::new(),
             left_out: 0,
         };
@@ -83,11 +84,11 @@ impl Recording {
             let Some(call) = call.filter(is_recorded) else {
                 continue;
             };
-            let rows = oracle.rows();
-            if store::fits(&call, &rows) {
+            let before = oracle.view();
+            if store::fits(&call, &before.rows) {
                 let answer = oracle.apply(&call);
                 let answer = answer.map_err(|message| format!("{name}: {call}: {message}"))?;
-                self.add(&mut part, &call, &answer, &rows)?;
+                self.add(&mut part, &call, &answer, &before)?;
             } else {
                 part.left_out += 1;
             }
@@ -109,16 +110,16 @@ impl Recording {
         let seed = seed.parse().map_err(|_| wrong())?;
         let calls: u64 = calls.parse().map_err(|_| wrong())?;
         let only = Phase::from_name(phase).ok_or_else(wrong)?;
-        let mut generator = Generator::new(seed, Mix::NoRecovery, Some(only));
+        let mut generator = Generator::new(seed, Mix::Default, Some(only));
         let mut part = Part::default();
         for _ in 0..calls {
             let call = generator.propose();
             if !is_recorded(&call) {
                 continue;
             }
-            if store::fits(&call, generator.rows()) {
+            if store::fits(&call, &generator.before().rows) {
                 let answer = generator.answer(&call)?;
-                self.add(&mut part, &call, &answer, generator.rows())?;
+                self.add(&mut part, &call, &answer, generator.before())?;
             } else {
                 part.left_out += 1;
             }
@@ -135,10 +136,10 @@ impl Recording {
         part: &mut Part,
         call: &Call,
         answer: &Answer,
-        rows: &[RowView],
+        before: &View,
     ) -> Result<(), String> {
         part.stdin += &format!("# {call}\n");
-        for exchange in exchanges(call, answer)? {
+        for exchange in exchanges(call, answer, &before.rows)? {
             let number = exchange.call.split(' ').next();
             let number = number.and_then(|word| word.parse().ok());
             *self
@@ -151,7 +152,7 @@ impl Recording {
         part.stdin += "=\n";
         part.stdout += &format!("{}\n", answers::state(answer));
         part.calls += 1;
-        self.table.count(call, answer, rows);
+        self.table.count(call, answer, before);
         Ok(())
     }
 

@@ -7,10 +7,10 @@ use tapewoad::calls;
 pub const ROWS: usize = 160;
 pub const ROW_BYTES: usize = 4_096;
 /// The most words of a call, and the most bytes lent with it.
-const WORDS: usize = 256;
+const WORDS: usize = 2_048;
 const LENT_BYTES: usize = 4_096;
 /// The most bytes of input.
-pub const INPUT: usize = 1_048_576;
+pub const INPUT: usize = 2_097_152;
 /// So many held are the most (5) whatever the store.
 const MOST_HELD: usize = 128;
 /// A longer request is refused (6) whatever the store.
@@ -33,6 +33,9 @@ pub fn fits(call: &Call, rows: &[RowView]) -> bool {
                 && plan.data.len() <= LENT_BYTES
         }
         Call::Poll { reply, .. } => lent(reply) <= LENT_BYTES,
+        Call::Recover { reply, .. } => convert::recovery_reply(reply, |call| {
+            call.bytes().len() <= LENT_BYTES && call.words().len() <= WORDS
+        }),
         _ => true,
     }
 }
@@ -119,7 +122,18 @@ mod tests {
         assert!(!fits(&poll(4_097), &[]));
         let packets = |count: usize| vec!["1"; count].join(",");
         assert!(fits(&submit(8, 0, &packets(129)), &[]));
-        assert!(!fits(&submit(8, 0, &packets(300)), &[]));
+        assert!(!fits(&submit(8, 0, &packets(2_100)), &[]));
+        let abort = |bytes, count| {
+            let aborted = packets(count);
+            call(&format!(
+                "abort id=1.0.0 reply=ok done=1@8/1/z:{bytes}/-/1,2@0/1/z:1/-/1 \
+                 aborted={aborted} ready=1 error=-"
+            ))
+        };
+        assert!(fits(&abort(4_095, 1), &[]));
+        assert!(!fits(&abort(4_096, 1), &[]));
+        assert!(fits(&abort(1, 2_014), &[]));
+        assert!(!fits(&abort(1, 2_015), &[]));
     }
 
     #[test]

@@ -41,13 +41,17 @@ fn every_refusal_and_report_inside_the_store_is_met() {
 }
 
 #[test]
-fn every_line_prints_one_and_a_submission_its_buffer() {
+fn every_line_prints_one_but_for_buffers_and_lists() {
     let recording = recording();
     let lines = recording.stdin.lines();
     let calls = lines.filter(|line| !line.is_empty() && !line.starts_with('#'));
-    let begun = |line: &&str| line.starts_with("begun") || line.starts_with("plan begun");
-    let buffers = recording.stdout.lines().filter(begun).count();
-    assert_eq!(calls.count() + buffers, recording.stdout.lines().count());
+    let more = |line: &str| match line.split(' ').next() {
+        Some("begun" | "plan" | "recover") => 1,
+        Some("recovered") => 2,
+        _ => 0,
+    };
+    let more: usize = recording.stdout.lines().map(more).sum();
+    assert_eq!(calls.count() + more, recording.stdout.lines().count());
 }
 
 #[test]

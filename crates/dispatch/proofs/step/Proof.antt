@@ -1,25 +1,7 @@
-use Rattle.dispatch.proofs.Applying.{place-said, move-said, submit-said, reply-said, change-said, report-said}
+use Rattle.dispatch.proofs.Applying.{place-said, move-said, submit-said, reply-said, change-said, report-said, recover-said}
 use borrow.Author.Needs.{needs}
 use Rattle.dispatch.proofs.step.Statement.{statement}
 use Rattle.dispatch.proofs.step.Tie as tie
-
-returns : tie.Need-returns
-returns c = search place-said
-
-returns-2 : tie.Need-returns-2
-returns-2 c = search move-said
-
-returns-3 : tie.Need-returns-3
-returns-3 c = search submit-said
-
-returns-4 : tie.Need-returns-4
-returns-4 c = search reply-said
-
-returns-5 : tie.Need-returns-5
-returns-5 c = search change-said
-
-returns-6 : tie.Need-returns-6
-returns-6 c = search report-said
 
 pub step-spec : {M : Type 1} → statement M
 step-spec =
@@ -30,23 +12,28 @@ step-spec =
     (λ c. search needs)
     (λ c. search needs)
     (λ c. search needs)
-    returns
+    (λ c. search place-said)
     (λ c κs. search needs)
     (λ c. search needs)
-    returns-2
-    (λ c κs. search needs)
-    (λ c. search needs)
-    (λ c. search needs)
-    (λ c. search needs)
-    returns-3
+    (λ c. search move-said)
     (λ c κs. search needs)
     (λ c. search needs)
     (λ c. search needs)
-    returns-4
+    (λ c. search needs)
+    (λ c. search submit-said)
     (λ c κs. search needs)
     (λ c. search needs)
-    returns-5
+    (λ c. search needs)
+    (λ c. search reply-said)
+    (λ c κs. search needs)
+    (λ c. search needs)
+    (λ c. search change-said)
     (λ c κs. search needs)
     (λ c. search needs)
     (λ c. search needs)
-    returns-6)
+    (λ c. search report-said)
+    (λ c κs. search needs)
+    (λ c. search needs)
+    (λ c. search needs)
+    (λ c. search needs)
+    (λ c. search recover-said))

@@ -10,7 +10,7 @@ pub main-spec : {M : Type 1} → statement M
 main-spec =
     tie.close
     (tie.spec
-    (λ c. sym (length-replicate {0} {A = ℕ} 1048576 0))
+    (λ c. sym (length-replicate {0} {A = ℕ} 2097153 0))
     (λ c. sym (length-replicate {0} {A = ℕ} 26 0))
     (λ c. sym (length-replicate {0} {A = ℕ} 10750 0))
     (λ c. sym (length-replicate {0} {A = ℕ} 4320 0))

@@ -1,5 +1,8 @@
 //! Words to answers.
-use super::{ANSWER_WORDS, Answer, Begun, Error, Metadata, Refusal, Report, Stages, State};
+use super::{
+    ANSWER_WORDS, AbortReport, Answer, Begun, Error, Metadata, Recovering, Recovery, Refusal,
+    Report, Stages, State,
+};
 use crate::models::{
     ControlProfile, ControllerState, DeviceId, Direction, ErrorCategory, RequestId, SetupPacket,
     TransferType,
@@ -19,8 +22,9 @@ macro_rules! numbered {
 struct Reader<'a>(&'a [u64]);
 
 impl Answer {
-    /// What the words of an answer say; none where they are no answer's.
-    pub fn from_words(words: &[u64; ANSWER_WORDS]) -> Option<Self> {
+    /// What the words of an answer and its lists say; none where they are no
+    /// answer's.
+    pub fn from_words(words: &[u64; ANSWER_WORDS], lists: &[u64]) -> Option<Self> {
         let mut r = Reader(words);
         Some(match r.word()? {
             0 => Self::Refused(Refusal {
@@ -44,6 +48,8 @@ impl Answer {
                 start: r.word()?,
                 length: r.word()?,
             },
+            9 => Self::Recover(r.recovering(&mut Reader(lists))?),
+            10 => Self::Recovered(r.abort_report(&mut Reader(lists))?),
             _ => return None,
         })
     }
@@ -127,6 +133,18 @@ impl Reader<'_> {
         })
     }
 
+    fn option_error(&mut self) -> Option<Option<Error>> {
+        let given = self.flag()?;
+        let error = self.error()?;
+        Some(given.then_some(error))
+    }
+
+    /// Its length, then its items.
+    fn list<T>(&mut self, item: impl Fn(&mut Self) -> Option<T>) -> Option<Vec<T>> {
+        let length = self.word()?;
+        (0..length).map(|_| item(self)).collect()
+    }
+
     fn id(&mut self) -> Option<RequestId> {
         Some(RequestId {
             session: self.word()?,
@@ -199,6 +217,41 @@ impl Reader<'_> {
             logical_cancel: self.flag()?,
             timed_out: self.flag()?,
         })
+    }
+
+    fn recovering(&mut self, lists: &mut Reader<'_>) -> Option<Recovering> {
+        let (target, device, endpoint) = (self.id()?, self.device()?, self.narrow()?);
+        let kind = match self.word()? {
+            0 => Recovery::Abort,
+            1 => Recovery::Reset { preserve: false },
+            2 => Recovery::Reset { preserve: true },
+            _ => return None,
+        };
+        Some(Recovering {
+            target,
+            device,
+            endpoint,
+            kind,
+            tokens: lists.list(Reader::word)?,
+        })
+    }
+
+    /// The lists are as long as the answer says.
+    fn abort_report(&mut self, lists: &mut Reader<'_>) -> Option<AbortReport> {
+        let (target, device, endpoint) = (self.id()?, self.device()?, self.narrow()?);
+        let counts = [self.word()?, self.word()?];
+        let (completed, aborted) = (lists.list(Reader::id)?, lists.list(Reader::id)?);
+        let report = AbortReport {
+            target,
+            device,
+            endpoint,
+            restart_ready: self.flag()?,
+            error: self.option_error()?,
+            completed,
+            aborted,
+        };
+        let lengths = [report.completed.len() as u64, report.aborted.len() as u64];
+        (lengths == counts).then_some(report)
     }
 
     /// A tag and six words, whatever the state.

@@ -1,9 +1,13 @@
 use super::*;
 
 fn read(words: &[u64]) -> Option<Answer> {
+    read_lists(words, &[])
+}
+
+fn read_lists(words: &[u64], lists: &[u64]) -> Option<Answer> {
     let mut all = [0; ANSWER_WORDS];
     all[..words.len()].copy_from_slice(words);
-    Answer::from_words(&all)
+    Answer::from_words(&all, lists)
 }
 
 const ID: RequestId = RequestId {
@@ -119,9 +123,67 @@ fn reports() {
 }
 
 #[test]
+fn recoveries_have_lists() {
+    let device = metadata().device;
+    for (word, kind) in [
+        (0, Recovery::Abort),
+        (1, Recovery::Reset { preserve: false }),
+        (2, Recovery::Reset { preserve: true }),
+    ] {
+        let words = [9, 7, 0, 9, 1, 2, 3, 0x81, word];
+        let recovering = Recovering {
+            target: ID,
+            device,
+            endpoint: 0x81,
+            kind,
+            tokens: vec![5, u64::MAX],
+        };
+        let answer = read_lists(&words, &[2, 5, u64::MAX, 77]);
+        assert_eq!(answer, Some(Answer::Recover(recovering)));
+    }
+    let words = [10, 7, 0, 9, 1, 2, 3, 0x81, 1, 2, 1, 1, 4, 9, 0, 7];
+    let lists = [1, 7, 0, 9, 2, 7, 0, 9, 7, 0, 9, 77];
+    let report = AbortReport {
+        target: ID,
+        device,
+        endpoint: 0x81,
+        completed: vec![ID],
+        aborted: vec![ID, ID],
+        restart_ready: true,
+        error: Some(Error {
+            category: ErrorCategory::Timeout,
+            message: 9,
+            os_code: None,
+            completion_code: Some(6),
+        }),
+    };
+    let answer = read_lists(&words, &lists);
+    assert_eq!(answer, Some(Answer::Recovered(report)));
+}
+
+#[test]
+fn lists_that_are_no_answer() {
+    let begun = [9, 7, 0, 9, 1, 2, 3, 0x81, 0];
+    let reported = [10, 7, 0, 9, 1, 2, 3, 0x81, 1, 0];
+    assert!(read_lists(&begun, &[1, 5]).is_some());
+    assert!(read_lists(&reported, &[1, 7, 0, 9, 0]).is_some());
+    for (words, lists) in [
+        (&begun[..], &[][..]),
+        (&begun, &[2, 5]),
+        (&begun, &[u64::MAX, 5]),
+        (&[9, 7, 0, 9, 1, 2, 3, 0x81, 3], &[1, 5]),
+        (&reported, &[0, 0]),
+        (&reported, &[1, 7, 0, 9, 1, 7, 0, 9]),
+        (&reported, &[1, 7, 0, 9, 0][..4]),
+    ] {
+        assert_eq!(read_lists(words, lists), None, "{words:?} {lists:?}");
+    }
+}
+
+#[test]
 fn words_that_are_no_answer() {
     for words in [
-        &[9][..],
+        &[11][..],
         &[0, 65_536],
         &[0, 4, 7],
         &[0, 4, 0, 4, (1 << 32) + 1],

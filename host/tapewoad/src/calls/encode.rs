@@ -1,5 +1,7 @@
 //! Calls to words.
-use super::{Call, Completion, Error, Plan, Reading, Submit};
+use std::borrow::Cow;
+
+use super::{Abort, Call, Completion, Error, Plan, Reading, Submit};
 use crate::models::{DeviceId, PortId, RequestId, SetupPacket};
 
 impl Call<'_> {
@@ -10,14 +12,20 @@ impl Call<'_> {
         words
     }
 
-    /// The bytes that go with the words.
-    pub fn bytes(&self) -> &[u8] {
-        match self {
+    /// The bytes that go with the words; of a recovery's reply those of its
+    /// completions, one after the other.
+    pub fn bytes(&self) -> Cow<'_, [u8]> {
+        let bytes = match self {
             Self::SubmitRequestPackets(submit) => submit.data,
             Self::SubmitControlPlan(plan) => plan.data,
             Self::PollReply(Ok(Some(completion))) => completion.data.unwrap_or_default(),
+            Self::RecoveryReply(Ok(abort)) => {
+                let data = abort.completed.iter().filter_map(|(_, done)| done.data);
+                return Cow::Owned(data.flatten().copied().collect());
+            }
             _ => &[],
-        }
+        };
+        Cow::Borrowed(bytes)
     }
 
     /// Writes the call's words in place of what `words` has.
@@ -91,6 +99,12 @@ impl Call<'_> {
             Self::CompletedBytes(id) => w.of(19, *id),
             Self::HeldCount => w.put(&[20]),
             Self::HeldBytes => w.put(&[21]),
+            Self::AbortRequest(target) => w.of(22, *target),
+            Self::ResetEndpointRequest { target, preserve } => {
+                w.of(23, *target);
+                w.put(&[u64::from(*preserve)]);
+            }
+            Self::RecoveryReply(reply) => w.recovery_reply(reply),
         }
     }
 }
@@ -204,6 +218,11 @@ impl Writer<'_> {
             Ok(Some(completion)) => (2, completion.error.as_ref(), Some(completion)),
         };
         self.put(&[12, kind]);
+        self.completion(error, completion);
+    }
+
+    /// A completion, or an error without one.
+    fn completion(&mut self, error: Option<&Error>, completion: Option<&Completion<'_>>) {
         self.option_error(error);
         self.option_u64(completion.and_then(|it| it.actual_length));
         self.put(&[
@@ -211,6 +230,28 @@ impl Writer<'_> {
             u64::from(completion.is_some_and(|it| it.data.is_some())),
             u64::from(completion.is_some_and(|it| it.quiescent)),
         ]);
+    }
+
+    fn recovery_reply(&mut self, reply: &Result<Abort<'_>, Error>) {
+        let (error, ready, completed, aborted) = match reply {
+            Err(error) => (Some(error), false, &[][..], &[][..]),
+            Ok(it) => (
+                it.error.as_ref(),
+                it.restart_ready,
+                it.completed,
+                it.aborted,
+            ),
+        };
+        self.put(&[24, u64::from(reply.is_err()), u64::from(ready)]);
+        self.option_error(error);
+        let count = completed.len() as u64;
+        self.put(&[count, count]);
+        self.0.extend(completed.iter().map(|(token, _)| *token));
+        for (_, done) in completed {
+            self.completion(done.error.as_ref(), Some(done));
+            self.put(&[done.data.map_or(0, <[u8]>::len) as u64]);
+        }
+        self.put(aborted);
     }
 }
 

@@ -127,7 +127,7 @@ fn submissions() {
     let call = Call::SubmitRequestPackets(submit());
     let expected = [&head[..], &[0; 6], &readings, &[1, 2, 3]].concat();
     assert_eq!(call.words(), expected);
-    assert_eq!(call.bytes(), [1, 2, 3, 4, 5]);
+    assert_eq!(*call.bytes(), [1, 2, 3, 4, 5]);
     let call = Call::SubmitRequestPackets(Submit {
         setup: Some(SETUP),
         packets: None,
@@ -143,7 +143,7 @@ fn plans() {
     let call = Call::SubmitControlPlan(plan());
     let expected = [&head[..], &[1, 1, 3, 1, 0, 1, 0, 0, 0, 0]].concat();
     assert_eq!(call.words(), expected);
-    assert_eq!(call.bytes(), [1, 2, 3]);
+    assert_eq!(*call.bytes(), [1, 2, 3]);
     let call = Call::SubmitControlPlan(Plan {
         data_stage: None,
         status_direction: None,
@@ -187,6 +187,7 @@ fn calls_of_one_request_and_counts() {
         (Call::ReclaimRequest(ID), 15),
         (Call::RequestStatus(ID), 16),
         (Call::CompletedBytes(ID), 19),
+        (Call::AbortRequest(ID), 22),
     ] {
         assert_eq!(call.words(), [number, 7, 8, 9]);
     }
@@ -196,4 +197,67 @@ fn calls_of_one_request_and_counts() {
     assert_eq!(Call::CountReports.words(), [18]);
     assert_eq!(Call::HeldCount.words(), [20]);
     assert_eq!(Call::HeldBytes.words(), [21]);
+    let reset = Call::ResetEndpointRequest {
+        target: ID,
+        preserve: true,
+    };
+    assert_eq!(reset.words(), [23, 7, 8, 9, 1]);
+}
+
+#[test]
+fn replies_of_recoveries() {
+    let failed = Call::RecoveryReply(Err(ERROR)).words();
+    assert_eq!(failed, [&[24, 1, 0, 1], &ERROR_WORDS[..], &[0, 0]].concat());
+    let empty = Abort {
+        completed: &[],
+        aborted: &[],
+        restart_ready: false,
+        error: Some(ERROR),
+    };
+    let words = Call::RecoveryReply(Ok(empty)).words();
+    assert_eq!(words, [&[24, 0, 0, 1], &ERROR_WORDS[..], &[0, 0]].concat());
+    let completed = &[
+        (
+            7,
+            Completion {
+                actual_length: Some(2),
+                data: Some(&[10, 11]),
+                ..completion()
+            },
+        ),
+        (
+            8,
+            Completion {
+                actual_length: None,
+                data: None,
+                error: Some(ERROR),
+                quiescent: false,
+                ..completion()
+            },
+        ),
+        (
+            9,
+            Completion {
+                data: Some(&[12]),
+                ..completion()
+            },
+        ),
+    ];
+    let call = Call::RecoveryReply(Ok(Abort {
+        completed,
+        aborted: &[5, u64::MAX],
+        restart_ready: true,
+        error: None,
+    }));
+    let expected = [
+        &[24, 0, 1, 0, 0, 0, 0, 0, 3, 3, 7, 8, 9],
+        &[0, 0, 0, 0, 0, 1, 2, 14, 1, 1, 2][..],
+        &[1],
+        &ERROR_WORDS,
+        &[0, 0, 14, 0, 0, 0],
+        &[0, 0, 0, 0, 0, 1, 0, 14, 1, 1, 1],
+        &[5, u64::MAX],
+    ];
+    assert_eq!(call.words(), expected.concat());
+    assert_eq!(*call.bytes(), [10, 11, 12]);
 }

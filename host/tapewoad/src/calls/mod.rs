@@ -1,10 +1,10 @@
 //! Every call and answer by itself, in types: the words of docs/CALLS.md.
 //!
-//! A submission and a poll are two calls each. The first answers with what the
-//! backend is to do ([`Answer::Begun`], [`Answer::PlanBegun`], [`Answer::Ask`]),
-//! the second brings the backend's reply. Between them only reports and counts
-//! are answered; everything else is refused (1), and a reply that fits nothing
-//! in flight too (2).
+//! A submission, a poll and a recovery are two calls each. The first answers with
+//! what the backend is to do ([`Answer::Begun`], [`Answer::PlanBegun`],
+//! [`Answer::Ask`], [`Answer::Recover`]), the second brings the backend's reply.
+//! Between them only reports and counts are answered; everything else is refused
+//! (1), and a reply that fits nothing in flight too (2).
 //!
 //! ```
 //! use tapewoad::calls::{Answer, Call, Store};
@@ -33,6 +33,8 @@ pub const BUS_WORDS: usize = 10_750;
 pub const ROW_WORDS: usize = 27;
 /// How many words an answer has.
 pub const ANSWER_WORDS: usize = 32;
+/// How many words an answer's lists have at most.
+pub const LIST_WORDS: usize = 386;
 
 /// An error, with a number for a text.
 #[derive(Debug, Clone, Copy, PartialEq, Eq)]
@@ -98,6 +100,24 @@ pub struct Plan<'a> {
     pub reading: Reading,
 }
 
+/// What a recovery asks of the backend.
+#[derive(Debug, Clone, Copy, PartialEq, Eq)]
+#[allow(missing_docs)]
+pub enum Recovery {
+    Abort,
+    Reset { preserve: bool },
+}
+
+/// What the backend says of the affected requests' tokens.
+#[derive(Debug, Clone, Copy, PartialEq, Eq)]
+#[allow(missing_docs)]
+pub struct Abort<'a> {
+    pub completed: &'a [(u64, Completion<'a>)],
+    pub aborted: &'a [u64],
+    pub restart_ready: bool,
+    pub error: Option<Error>,
+}
+
 /// A call, by the names of docs/CALLS.md.
 #[derive(Debug, Clone, Copy, PartialEq, Eq)]
 #[allow(missing_docs)]
@@ -144,6 +164,12 @@ pub enum Call<'a> {
     CompletedBytes(RequestId),
     HeldCount,
     HeldBytes,
+    AbortRequest(RequestId),
+    ResetEndpointRequest {
+        target: RequestId,
+        preserve: bool,
+    },
+    RecoveryReply(Result<Abort<'a>, Error>),
 }
 
 /// What a report says of a request besides its state.
@@ -212,10 +238,36 @@ pub struct Report {
     pub timed_out: bool,
 }
 
+/// A recovery that awaits the backend's reply.
+#[derive(Debug, Clone, PartialEq, Eq)]
+#[allow(missing_docs)]
+pub struct Recovering {
+    pub target: RequestId,
+    pub device: DeviceId,
+    pub endpoint: u8,
+    pub kind: Recovery,
+    /// Those of the affected requests, by ascending id.
+    pub tokens: Vec<u64>,
+}
+
+/// What a recovery did, in the reply's order.
+#[derive(Debug, Clone, PartialEq, Eq)]
+#[allow(missing_docs)]
+pub struct AbortReport {
+    pub target: RequestId,
+    pub device: DeviceId,
+    pub endpoint: u8,
+    pub completed: Vec<RequestId>,
+    pub aborted: Vec<RequestId>,
+    pub restart_ready: bool,
+    pub error: Option<Error>,
+}
+
 /// What a call answers.
-#[derive(Debug, Clone, Copy, PartialEq, Eq)]
+#[derive(Debug, Clone, PartialEq, Eq)]
 pub enum Answer {
-    /// Nothing was done, but for port readings that were taken.
+    /// Nothing was done, but for port readings that were taken, entries of a
+    /// recovery's reply before the one that is refused (41, 47, 48), and marks.
     Refused(Refusal),
     /// It was done.
     Passed,
@@ -251,4 +303,8 @@ pub enum Answer {
         /// How many bytes it has.
         length: u64,
     },
+    /// A recovery began.
+    Recover(Recovering),
+    /// A recovery came to its end.
+    Recovered(AbortReport),
 }

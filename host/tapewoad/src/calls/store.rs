@@ -3,7 +3,7 @@ use std::fmt::{self, Display, Formatter};
 use std::ops::Range;
 
 use super::decode::{controller_state, option_u32};
-use super::{ANSWER_WORDS, Answer, BUS_WORDS, Begun, Call, ROW_WORDS, SESSION_WORDS};
+use super::{ANSWER_WORDS, Answer, BUS_WORDS, Begun, Call, LIST_WORDS, ROW_WORDS, SESSION_WORDS};
 use crate::library::{self, Memory};
 use crate::models::{ControllerState, DeviceId, Opening, RequestId};
 
@@ -16,6 +16,8 @@ pub enum Status {
     NoSession,
     /// 3: too little room for the answer.
     NoRoom,
+    /// 4: too little room for the answer's lists.
+    NoLists,
     /// Another status, or an answer that is none of docs/CALLS.md: a library of
     /// another version.
     Unknown(u64),
@@ -27,6 +29,7 @@ impl Display for Status {
             Self::NoCall => f.write_str("the words are no call"),
             Self::NoSession => f.write_str("not a session's words"),
             Self::NoRoom => f.write_str("too little room for the answer"),
+            Self::NoLists => f.write_str("too little room for the answer's lists"),
             Self::Unknown(status) => write!(f, "unknown status or answer {status}"),
         }
     }
@@ -44,6 +47,8 @@ pub struct Store {
     row_bytes: u64,
     /// The latest call's words.
     words: Vec<u64>,
+    /// The latest lists of an answer.
+    lists: [u64; LIST_WORDS],
 }
 
 impl Store {
@@ -70,6 +75,7 @@ impl Store {
             row_count: rows as u64,
             row_bytes: row_bytes as u64,
             words: Vec::new(),
+            lists: [0; LIST_WORDS],
         }
     }
 
@@ -96,7 +102,7 @@ impl Store {
     pub fn try_apply(&mut self, call: &Call<'_>) -> Result<Answer, Status> {
         let mut words = std::mem::take(&mut self.words);
         call.write(&mut words);
-        let answer = self.apply_words(&words, call.bytes());
+        let answer = self.apply_words(&words, &call.bytes());
         self.words = words;
         answer
     }
@@ -110,11 +116,12 @@ impl Store {
             rows: &mut self.rows,
             area: &mut self.area,
         };
-        match library::apply(memory, call, bytes, &mut out) {
-            0 => Answer::from_words(&out).ok_or(Status::Unknown(out[0])),
+        match library::apply(memory, call, bytes, &mut out, &mut self.lists) {
+            0 => Answer::from_words(&out, &self.lists).ok_or(Status::Unknown(out[0])),
             1 => Err(Status::NoCall),
             2 => Err(Status::NoSession),
             3 => Err(Status::NoRoom),
+            4 => Err(Status::NoLists),
             status => Err(Status::Unknown(status)),
         }
     }

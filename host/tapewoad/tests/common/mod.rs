@@ -1,5 +1,8 @@
 //! Values that several tests share.
 #![allow(dead_code)]
+pub mod scripted;
+pub mod store;
+
 use tapewoad::*;
 
 /// A port word: connected, enabled, high speed.

@@ -1,0 +1,112 @@
+-- Answers as words: a tag, then the answer's fields, then zeros. Assumes nothing.
+use Prim.Native.Nat.{ℕ}
+use mathlib.Core.List.{List, [], _∷_}
+use lib.ListN.{length, replicate}
+use lib.Dec.{ltb}
+use Rattle.chain.specs.Chain.{_if_else_}
+use Rattle.words.specs.Words.{flagWord, optionU32Word, optionI32Word}
+use Rattle.words.specs.Records.{splice}
+use Rattle.models.specs.Codes.{categoryWord, transferWord, directionWord}
+use Rattle.models.specs.declared.ControlProfile.{ControlProfile}
+use Rattle.models.specs.declared.ControlProfile.the-variants as profile
+use Rattle.models.specs.declared.OptionSetup.{OptionSetup}
+use Rattle.models.specs.declared.OptionSetup.the-variants as setup
+use Rattle.models.specs.declared.Refusal.{Refusal}
+use Rattle.models.specs.declared.RequestId.{RequestId}
+use Rattle.models.specs.declared.RequestMetadata.{RequestMetadata}
+use Rattle.models.specs.declared.RequestReport.{RequestReport}
+use Rattle.models.specs.declared.SetupPacket.{SetupPacket}
+use Rattle.standards.specs.Setup.{setupBytes}
+use Rattle.rows.specs.Codec.{setupTail, setupWords, stateWords}
+use Rattle.rows.specs.declared.codec.StateWords.{StateWords}
+use Rattle.submissions.specs.declared.PlanSubmission.{PlanSubmission}
+use Rattle.submissions.specs.declared.Submission.{Submission}
+use Rattle.models.specs.declared.OptionError.{OptionError}
+use Rattle.models.specs.declared.OptionError.the-variants as error
+use Rattle.recovery.specs.declared.AbortReport.{AbortReport}
+use Rattle.recovery.specs.declared.Recovery.{Recovery}
+use Rattle.session_words.specs.State.{kindWord}
+use Rattle.calls.specs.declared.Answer.{Answer}
+use Rattle.calls.specs.declared.Answer.the-variants as answer
+
+-- how many words an answer has
+abbrev pub answerSize : ℕ
+answerSize = 32
+
+unfoldable pub refusalWords : Refusal → List ℕ
+refusalWords r =
+    0 ∷ r .number ∷ categoryWord (r .error .category) ∷ r .error .message ∷ optionI32Word (r .error .«os_code») ∷ optionU32Word (r .error .«completion_code») ∷ []
+
+-- three words: session, generation, sequence
+abbrev pub idTail : RequestId → List ℕ → List ℕ
+idTail id rest = id .session ∷ id .generation ∷ id .sequence ∷ rest
+
+-- thirteen: device, endpoint, type, direction, length, SETUP
+abbrev pub metadataTail : RequestMetadata → List ℕ → List ℕ
+metadataTail m rest =
+    m .device .session ∷ m .device .generation ∷ m .device .slot ∷ m .endpoint
+    ∷ transferWord (m .«transfer_type») ∷ directionWord (m .direction) ∷ m .«requested_length»
+    ∷ setupTail (setupWords (m .setup)) rest
+
+unfoldable pub begunWords : Submission → List ℕ
+begunWords x = 2 ∷ idTail (x .id) (x .row ∷ metadataTail (x .metadata) (flagWord (x .«has_packets») ∷ []))
+
+abbrev pub profileWord : ControlProfile → ℕ
+profileWord profile.Compliant = 0
+profileWord profile.DeviceCompatibility = 1
+
+-- a plan always has a packet
+abbrev pub packetOf : OptionSetup → SetupPacket
+packetOf setup.None = record { «request_type» = 0; request = 0; value = 0; index = 0; length = 0 }
+packetOf (setup.Some p) = p
+
+-- the eight SETUP bytes stand last, a word each
+unfoldable pub planWords : PlanSubmission → List ℕ
+planWords x =
+    3 ∷ idTail (x .id)
+    (x .row
+    ∷ metadataTail (x .plan .metadata)
+    (flagWord (x .plan .«has_data») ∷ directionWord (x .plan .«data_direction») ∷ directionWord (x .plan .«status_direction») ∷ profileWord (x .plan .profile)
+    ∷ setupBytes (packetOf (x .plan .metadata .setup))))
+
+abbrev pub stateTail : StateWords → List ℕ → List ℕ
+stateTail s rest = s .tag ∷ s .a ∷ s .b ∷ s .c ∷ s .d ∷ s .e ∷ s .f ∷ rest
+
+unfoldable pub reportWords : RequestReport → List ℕ
+reportWords x =
+    4 ∷ idTail (x .id) (metadataTail (x .metadata) (stateTail (stateWords (x .state)) (flagWord (x .«logical_cancel») ∷ flagWord (x .«timed_out») ∷ [])))
+
+-- target, device, endpoint, and what the backend is to do
+unfoldable pub recoveringWords : Recovery → List ℕ
+recoveringWords x = 9 ∷ idTail (x .target) (x .device .session ∷ x .device .generation ∷ x .device .slot ∷ x .endpoint ∷ kindWord (x .kind) ∷ [])
+
+-- a flag, then category, message, system number and code
+unfoldable pub optionErrorWords : OptionError → List ℕ
+optionErrorWords error.None = 0 ∷ 0 ∷ 0 ∷ 0 ∷ 0 ∷ []
+optionErrorWords (error.Some e) = 1 ∷ categoryWord (e .category) ∷ e .message ∷ optionI32Word (e .«os_code») ∷ optionU32Word (e .«completion_code») ∷ []
+
+unfoldable pub recoveredWords : AbortReport → List ℕ
+recoveredWords x =
+    10 ∷ idTail (x .target)
+    (x .device .session ∷ x .device .generation ∷ x .device .slot ∷ x .endpoint ∷ x .completed ∷ x .aborted ∷ flagWord (x .«restart_ready»)
+    ∷ optionErrorWords (x .error))
+
+abbrev pub answerWords : Answer → List ℕ
+answerWords (answer.Refused r) = refusalWords r
+answerWords answer.Pass = 1 ∷ []
+answerWords (answer.Begun x) = begunWords x
+answerWords (answer.PlanBegun x) = planWords x
+answerWords (answer.Report x) = reportWords x
+answerWords answer.NoReport = 5 ∷ []
+answerWords (answer.Asked token) = 6 ∷ token ∷ []
+answerWords (answer.Number n) = 7 ∷ n ∷ []
+answerWords (answer.Bytes p) = 8 ∷ p .start ∷ p .length ∷ []
+answerWords (answer.Recovering x) = recoveringWords x
+answerWords (answer.Recovered x) = recoveredWords x
+
+-- the words w and then zeros, as an answer's; a slice that is too short, or words that are too many, change nothing
+unfoldable pub written : List ℕ → List ℕ → List ℕ
+written w out =
+    out if ltb (length out) answerSize else
+    out if ltb answerSize (length w) else
+    splice 0 w (splice 0 (replicate answerSize 0) out)

@@ -1,0 +1,22 @@
+use borrow.Author.Needs.{needs}
+use Rattle.call_words.specs.Arguments.{openingOf}
+use Rattle.call_words.proofs.arguments.opening.Statement.{statement}
+use Rattle.call_words.proofs.arguments.opening.Tie as tie
+
+pub opening-spec : {M : Type 1} → statement M
+unfolding openingOf
+opening-spec =
+    tie.close
+    (tie.spec
+    (λ c κs. search needs)
+    (λ c κs. search needs)
+    (λ c κs. search needs)
+    (λ c κs. search needs)
+    (λ c κs. search needs)
+    (λ c κs. search needs)
+    (λ c κs. search needs)
+    (λ c κs. search needs)
+    (λ c. search needs)
+    (λ c κs. search needs)
+    (λ c κs. search needs)
+    (λ c. cc))

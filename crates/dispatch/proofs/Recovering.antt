@@ -1,0 +1,86 @@
+-- One law for each call of a recovery, calls 22 to 24: its premises are the facts in hand there. Assumes nothing.
+use Prim.Native.Nat.{ℕ}
+use mathlib.Core.Bool.{Bool, _&&_}
+use mathlib.Core.List.{List}
+use mathlib.Core.Path.{_≡_, ap, _∙_}
+use lib.ListN.{length, getD}
+use Rattle.chain.proofs.Chain.{chain}
+use Rattle.words.specs.Words.{flagOf}
+use Rattle.models.specs.declared.RequestId.{RequestId}
+use Rattle.rows.specs.Store.{storeOf}
+use Rattle.rows.specs.Table.{rowsOf}
+use Rattle.session.specs.Sizes.{rowsFit, areaFits}
+use Rattle.session.specs.declared.RecoveryKind.{RecoveryKind}
+use Rattle.session.specs.declared.RecoveryKind.the-variants as kind
+use Rattle.session.specs.declared.Session.{Session}
+use Rattle.recovery.specs.Begin.{beginOf}
+use Rattle.recovery.specs.Reply.{RecoveredTo, recoveredTo, recoveryReplyOf}
+use Rattle.recovery.specs.declared.Begun.{Begun}
+use Rattle.recovery.specs.declared.Recovered.{Recovered}
+use Rattle.recovery.specs.declared.RecoveryReply.{RecoveryReply}
+use Rattle.calls.specs.Answers.{outcome, ofBegin, ofRecovery}
+use Rattle.call_words.specs.Arguments.{backendAbortOf, completedOf, completionsOf, abortedOf}
+use Rattle.calls.specs.Calls.{Call, AbortRequest, ResetEndpoint, ReplyRecovery}
+use Rattle.answer_words.specs.Lists.{begunLists, recoveredLists, listsOf, putLists}
+use Rattle.session_words.specs.State.{idAt}
+use Rattle.calls.specs.Step.{World, world, after, begins, recovers, stepOf}
+use Rattle.calls.specs.declared.Outcome.{Outcome}
+use Rattle.dispatch.specs.Apply.{RunsStore, ran, runOf}
+use Rattle.dispatch.specs.Decode.{recoveringOf}
+use Rattle.dispatch.proofs.Steps.{ran-said}
+
+-- l is lent for lists, and m is what it is afterwards
+module _ (s : Session) (rows w bytes area l m : List ℕ) (r : Outcome) where
+  abbrev call : Call
+  call = ReplyRecovery (backendAbortOf w) (completedOf w) (completionsOf w) (abortedOf w) bytes
+
+  pub reply-run : (next left : List ℕ) (x : Recovered) (reply : RecoveryReply) (tokens words aborted : List ℕ) → reply ≡ backendAbortOf w
+      → tokens ≡ completedOf w → words ≡ completionsOf w → aborted ≡ abortedOf w
+      → recoveredTo x (storeOf next) left ≡ recoveryReplyOf s (rowsFit (s .«row_count») (s .«row_bytes») (length rows) && areaFits (s .«row_count») (s .«row_bytes») (length area)) reply tokens words aborted bytes (storeOf rows) area
+      → m ≡ putLists (recoveredLists x) l → r ≡ outcome (ofRecovery (x .answer)) (x .session) → RunsStore r (storeOf next) left m call s (storeOf rows) area l
+  unfolding runOf stepOf listsOf storeOf
+  reply-run next left x reply tokens words aborted er et ew ea h el eo b =
+      let v = world s b (storeOf rows) area in
+      let c : ReplyRecovery reply tokens words aborted bytes ≡ call =
+      ap (λ (z : RecoveryReply). ReplyRecovery z tokens words aborted bytes) er
+      ∙ ap (λ (z : List ℕ). ReplyRecovery (backendAbortOf w) z words aborted bytes) et
+      ∙ ap (λ (z : List ℕ). ReplyRecovery (backendAbortOf w) (completedOf w) z aborted bytes) ew
+      ∙ ap (λ (z : List ℕ). ReplyRecovery (backendAbortOf w) (completedOf w) (completionsOf w) z bytes) ea in
+      ran-said (ReplyRecovery reply tokens words aborted bytes) call v _ l c
+      (ap (λ (z : Outcome). ran (after z b (storeOf next) left) m) eo
+      ∙ ap (ran (recovers (recoveredTo x (storeOf next) left) v)) el
+      ∙ ap (λ (z : RecoveredTo). ran (recovers z v) (putLists (recoveredLists (z .result)) l)) h)
+
+  module _ (n : ℕ) where
+    pub replied-run : (next left : List ℕ) → (n ≡ 22 → ⊥) → (n ≡ 23 → ⊥) → RunsStore r (storeOf next) left m call s (storeOf rows) area l
+        → RunsStore r (storeOf next) left m (recoveringOf n w bytes) s (storeOf rows) area l
+    unfolding recoveringOf
+    replied-run next left n22 n23 h b = ran-said call (recoveringOf n w bytes) (world s b (storeOf rows) area) _ l (search chain depth 20) (h b)
+
+    module _ (id : RequestId) (x : Begun) (ei : id ≡ idAt w 1) (el : m ≡ putLists (begunLists x) l)
+        (er : r ≡ outcome (ofBegin (x .answer)) (x .session)) where
+      abbrev Begins : RecoveryKind → Type 0
+      Begins k = x ≡ beginOf s (rowsFit (s .«row_count») (s .«row_bytes») (length rows)) id k (rowsOf rows)
+
+      abbrev Runs : Type 0
+      Runs = RunsStore r (storeOf rows) area m (recoveringOf n w bytes) s (storeOf rows) area l
+
+      begun : (o : Begun) (v : World) → x ≡ o → ran (after r (v .bus) (v .store) (v .area)) m ≡ ran (begins o v) (putLists (begunLists o) l)
+      begun o v h =
+          ap (λ (z : Outcome). ran (after z (v .bus) (v .store) (v .area)) m) er
+          ∙ ap (ran (begins x v)) el
+          ∙ ap (λ (z : Begun). ran (begins z v) (putLists (begunLists z) l)) h
+
+      pub abort-run : n ≡ 22 → Begins kind.Abort → Runs
+      unfolding runOf stepOf listsOf storeOf recoveringOf
+      abort-run e h b =
+          let v = world s b (storeOf rows) area in
+          ran-said (AbortRequest id) (recoveringOf n w bytes) v _ l (search (chain, ap AbortRequest ei) depth 20) (begun _ v h)
+
+      pub reset-run : (f : ℕ) (preserve : Bool) → (n ≡ 22 → ⊥) → n ≡ 23 → f ≡ getD w 4 0 → preserve ≡ flagOf f → Begins (kind.Reset preserve) → Runs
+      unfolding runOf stepOf listsOf storeOf recoveringOf
+      reset-run f preserve n22 e ef ep h b =
+          let v = world s b (storeOf rows) area in
+          let c : ResetEndpoint id preserve ≡ ResetEndpoint (idAt w 1) (flagOf (getD w 4 0)) =
+          ap (λ (z : RequestId). ResetEndpoint z preserve) ei ∙ ap (ResetEndpoint (idAt w 1)) (ep ∙ ap flagOf ef) in
+          ran-said (ResetEndpoint id preserve) (recoveringOf n w bytes) v _ l (search (chain, c) depth 20) (begun _ v h)

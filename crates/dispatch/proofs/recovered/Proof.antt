@@ -1,0 +1,20 @@
+use Rattle.dispatch.proofs.Recovering.{reply-run}
+use borrow.Author.Needs.{needs}
+use Rattle.dispatch.proofs.recovered.Statement.{statement}
+use Rattle.dispatch.proofs.recovered.Tie as tie
+
+pub recovered-spec : {M : Type 1} → statement M
+recovered-spec =
+    tie.close
+    (tie.spec
+    (λ c κs. search needs)
+    (λ c κs. search needs)
+    (λ c κs. search needs)
+    (λ c κs. search needs)
+    (λ c κs. search needs)
+    (λ c κs. search needs)
+    (λ c κs. search needs)
+    (λ c. search needs)
+    (λ c. search needs)
+    (λ c. search needs)
+    (λ c. search reply-run))

@@ -1,0 +1,272 @@
+-- An id is handed over as often as it has entries. Assumes nothing.
+use Prim.Native.Nat.{ℕ, _+_}
+use mathlib.Core.Bool.{false, cond, _&&_, true≢false}
+use mathlib.Core.List.{List, [], _∷_}
+use mathlib.Core.Path.{_≡_, refl, ap}
+use native.Mathlib.Omega.{arith}
+use lib.ListN.{length, take, drop}
+use Rattle.chain.specs.Lists.{only, count}
+use Rattle.chain.proofs.Chain.{caseB}
+use Rattle.models.specs.Refusals.{validation}
+use Rattle.models.specs.Requests.{sameRequest}
+use Rattle.models.specs.declared.BackendCompletion.{BackendCompletion}
+use Rattle.models.specs.declared.DeviceId.{DeviceId}
+use Rattle.models.specs.declared.OptionError.{OptionError}
+use Rattle.models.specs.declared.OptionError.the-variants as error
+use Rattle.models.specs.declared.RequestId.{RequestId}
+use Rattle.models.specs.declared.Verdict.{Verdict}
+use Rattle.models.specs.declared.Verdict.the-variants as verdict
+use Rattle.reports.specs.declared.ReportAnswer.{ReportAnswer}
+use Rattle.reports.specs.declared.ReportAnswer.the-variants as report
+use Rattle.polls.specs.declared.PollAnswer.{PollAnswer}
+use Rattle.polls.specs.declared.PollAnswer.the-variants as poll
+use Rattle.reports.specs.declared.NextReport.{NextReport}
+use Rattle.reports.specs.declared.NextReport.the-variants as nextReport
+use Rattle.reports.specs.declared.Tally.{Tally}
+use Rattle.reports.specs.declared.Tally.the-variants as tally
+use Rattle.recovery.specs.declared.BeginAnswer.{BeginAnswer}
+use Rattle.recovery.specs.declared.BeginAnswer.the-variants as begin
+use Rattle.recovery.specs.declared.RecoveryAnswer.{RecoveryAnswer}
+use Rattle.recovery.specs.declared.RecoveryAnswer.the-variants as recovery
+use Rattle.ledger.specs.declared.rules.Change.the-variants as change
+use Rattle.checks.specs.Completion.{testCompletion}
+use Rattle.checks.specs.Plan.{stageOf}
+use Rattle.checks.specs.declared.completion.CompletionTest.{CompletionTest}
+use Rattle.checks.specs.declared.completion.CompletionTest.the-variants as test
+use Rattle.session.specs.Lifecycle.{acquireOf, initializeOf, closeOf}
+use Rattle.session.specs.Place.{setDeviceOf, setPortOf, setEndpointsOf, setReconcileOf}
+use Rattle.session.specs.declared.InFlight.{InFlight}
+use Rattle.session.specs.declared.InFlight.the-variants as flight
+use Rattle.session.specs.declared.RecoveryKind.{RecoveryKind}
+use Rattle.session.specs.declared.RecoveryKind.the-variants as kind
+use Rattle.submissions.specs.Submit.{submitOf, submitPlanOf}
+use Rattle.submissions.specs.Reply.{submitReplyOf}
+use Rattle.polls.specs.Poll.{pollOf}
+use Rattle.polls.specs.Finish.{finishOf}
+use Rattle.reports.specs.Change.{changeOf}
+use Rattle.reports.specs.Status.{statusOf, nextOf, shownCount, heldCountOf, heldBytesOf}
+use Rattle.reports.specs.declared.OptionId.{OptionId}
+use Rattle.reports.specs.declared.OptionId.the-variants as option
+use Rattle.polls.specs.declared.PollReply.{PollReply}
+use Rattle.polls.specs.declared.PollReply.the-variants as pollReply
+use Rattle.submissions.specs.declared.SubmitReply.{SubmitReply}
+use Rattle.submissions.specs.declared.SubmitReply.the-variants as submitReply
+use Rattle.recovery.specs.Begin.{beginOf}
+use Rattle.scope.specs.Returned.{Returned, returnedOf}
+use Rattle.calls.specs.Answers.{ofVerdict, ofSubmit, ofPlan, ofReport, ofPoll, ofNext, ofTally, ofBegin, ofRecovery}
+use Rattle.calls.specs.Calls.{Call, Open, SetDevice, SetPort, SetEndpoints, SetReconcile, Acquire, Initialize, Close, Submit, SubmitPlan, ReplySubmit, Poll, ReplyPoll, AbortRequest, ResetEndpoint, ReplyRecovery, Cancel, Timeout, Reclaim, Status, Reports, CountReports, CompletedBytes, HeldCount, HeldBytes}
+use Rattle.calls.specs.Step.{World, world, stepOf, rowsFitIn, areaFitsIn, busFitsIn, storeFitsIn, recoversOf}
+use Rattle.calls.specs.declared.Answer.{Answer}
+use Rattle.calls.specs.declared.Answer.the-variants as answer
+use Rattle.history.specs.Run.{Handed, Event, isOpening, leftBy, answerTo, historyOf, Handing, Follows}
+use Rattle.history.specs.Journal.{Entry, Journal, View, isEntry, atEntry, release, begunId, isAsked, isPass, isRecovering, endsBy, countsBy, begunBy, acceptedAs, testedAs, settledBy, atWaiting, polledBy, ReleasedTo, completesBy, completesAll, abortsAll, releasesAll, releasedIn, recoveryWaits, recoveredJournal, journalStep, journalOf}
+use Rattle.history.specs.Claim.{isBegun, handsOver}
+use Rattle.history.proofs.Handings.{by-handed}
+use Rattle.history.proofs.Changes.{closed-ids}
+
+-- a refusal by 3 adds nothing to the journal
+pub refused-3 : (c : Call) (j : Journal) → journalStep c (answer.Refused (validation 3)) j ≡ j
+unfolding journalStep
+refused-3 (Open o) j = refl
+refused-3 (SetDevice d) j = refl
+refused-3 (SetPort number row) j = refl
+refused-3 (SetEndpoints slot list) j = refl
+refused-3 (SetReconcile slot mark) j = refl
+refused-3 (Acquire reply) j = refl
+refused-3 (Initialize reply) j = refl
+refused-3 (Close fresh reply) j = refl
+refused-3 (Submit q bytes packed packets first second) j = refl
+refused-3 (SubmitPlan q bytes first) j = refl
+refused-3 (ReplySubmit reply) j = refl
+refused-3 (Poll id) j = refl
+refused-3 (ReplyPoll reply bytes) j = refl
+refused-3 (AbortRequest id) j = refl
+refused-3 (ResetEndpoint id preserve) j = refl
+refused-3 (ReplyRecovery reply tokens words aborted bytes) j = refl
+refused-3 (Cancel id) j = refl
+refused-3 (Timeout id) j = refl
+refused-3 (Reclaim id) j = refl
+refused-3 (Status id) j = refl
+refused-3 (Reports from) j = refl
+refused-3 CountReports j = refl
+refused-3 (CompletedBytes id) j = refl
+refused-3 HeldCount j = refl
+refused-3 HeldBytes j = refl
+
+module _ (x : RequestId) where
+  abbrev number : List Entry → ℕ
+  number l = count (isEntry x) l
+
+  -- ---- entries change, their ids do not
+  alike : (e f : Entry) → f .id ≡ e .id → only (isEntry x) (λ y. 1) f ≡ only (isEntry x) (λ y. 1) e
+  alike e f h = ap (λ (i : RequestId). cond {A = ℕ} (sameRequest i x) 1 0) h
+
+  at-ids : (id : RequestId) (f : Entry → Entry) → ((e : Entry) → f e .id ≡ e .id) → (l : List Entry) → number (atEntry id f l) ≡ number l
+  at-ids id f h [] = refl
+  at-ids id f h (e ∷ es) =
+      let ih = at-ids id f h es in
+      let a = alike e (f e) (h e) in
+      caseB (isEntry id e) (λ y. rw y (omega (arith, a))) (λ y. rw y (omega (arith, ih)))
+
+  accepted-id : (r : SubmitReply) (e : Entry) → acceptedAs r e .id ≡ e .id
+  accepted-id (submitReply.Token t) e = refl
+  accepted-id (submitReply.Error y) e = refl
+
+  tested-id : (t : CompletionTest) (e : Entry) → testedAs t e .id ≡ e .id
+  tested-id (test.Valid a n) e = refl
+  tested-id test.MissingLength e = refl
+  tested-id test.Invalid e = refl
+
+  settled-id : (o : OptionError) (c : BackendCompletion) (given : ℕ) (e : Entry) → settledBy o c given e .id ≡ e .id
+  settled-id (error.Some y) c given e = caseB (c .quiescent) (λ q. rw q) (λ q. rw q)
+  settled-id error.None c given e = tested-id (testCompletion c given (e .requested)) e
+
+  waiting-ids : (w : InFlight) (f : Entry → Entry) → ((e : Entry) → f e .id ≡ e .id) → (l : List Entry) → number (atWaiting w f l) ≡ number l
+  waiting-ids flight.Nothing f h l = refl
+  waiting-ids (flight.Submission id) f h l = at-ids id f h l
+  waiting-ids (flight.Poll id) f h l = at-ids id f h l
+  waiting-ids (flight.Recovery target device endpoint k) f h l = refl
+
+  polled-ids : (r : PollReply) (given : ℕ) (j : Journal) → number (polledBy r given j .entries) ≡ number (j .entries)
+  polled-ids pollReply.Nothing given j = refl
+  polled-ids (pollReply.Error y) given j = refl
+  polled-ids (pollReply.Completion c) given j = waiting-ids (j .waiting) (settledBy (c .error) c given) (λ e. settled-id (c .error) c given e) (j .entries)
+
+  begun-ids : (o : OptionId) (d : DeviceId) (endpoint size : ℕ) (j : Journal)
+      → number (begunBy o d endpoint size j .entries) ≡ number (j .entries) + cond (isBegun x o) 1 0
+  begun-ids option.None d endpoint size j = omega arith
+  begun-ids (option.Some id) d endpoint size j = omega arith
+
+  -- ---- a recovery's entries
+  completes-by : (p : CompletionTest) (v : View) (l : List Entry) → number (completesBy p v l .entries) ≡ number l
+  completes-by test.MissingLength v l = refl
+  completes-by test.Invalid v l = refl
+  completes-by (test.Valid a n) v l =
+      let e = at-ids (v .id) release (λ y. refl) l in
+      caseB (v .failed) (λ y. rw y (omega (arith, e))) (λ y. rw y (omega (arith, e)))
+
+  completes-ids : (view : ℕ → View) (rs : List Returned) (bytes : List ℕ) (l : List Entry) → number (completesAll view rs bytes l .entries) ≡ number l
+  completes-ids view [] bytes l = refl
+  completes-ids view (r ∷ rs) bytes l =
+      let p : CompletionTest = testCompletion (r .brought .completion) (length (take (r .brought .given) bytes)) (view (r .token) .requested) in
+      let q : ReleasedTo = completesBy p (view (r .token)) l in
+      let e = completes-by p (view (r .token)) l in
+      let rest = completes-ids view rs (drop (r .brought .given) bytes) (q .entries) in
+      caseB (q .refused) (λ y. rw y (omega (arith, e, rest))) (λ y. rw y (omega (arith, e, rest)))
+
+  aborts-ids : (view : ℕ → View) (ts : List ℕ) (l : List Entry) → number (abortsAll view ts l) ≡ number l
+  aborts-ids view [] l = refl
+  aborts-ids view (t ∷ ts) l =
+      omega (arith, aborts-ids view ts (atEntry (view t .id) release l), at-ids (view t .id) release (λ e. refl) l)
+
+  releases-ids : (view : ℕ → View) (rs : List Returned) (aborted bytes : List ℕ) (l : List Entry) → number (releasesAll view rs aborted bytes l) ≡ number l
+  releases-ids view rs aborted bytes l =
+      let q : ReleasedTo = completesAll view rs bytes l in
+      let e = completes-ids view rs bytes l in
+      let rest = aborts-ids view aborted (q .entries) in
+      caseB (q .refused) (λ y. rw y (omega (arith, e, rest))) (λ y. rw y (omega (arith, e, rest)))
+
+  released-ids : (w : InFlight) (rs : List Returned) (aborted bytes : List ℕ) (l : List Entry) → number (releasedIn w rs aborted bytes l) ≡ number l
+  released-ids flight.Nothing rs aborted bytes l = refl
+  released-ids (flight.Submission id) rs aborted bytes l = refl
+  released-ids (flight.Poll id) rs aborted bytes l = refl
+  released-ids (flight.Recovery target device endpoint k) rs aborted bytes l = releases-ids _ rs aborted bytes l
+
+  recovered-ids : (a : Answer) (rs : List Returned) (aborted bytes : List ℕ) (j : Journal) → number (recoveredJournal a rs aborted bytes j .entries) ≡ number (j .entries)
+  recovered-ids a rs aborted bytes j =
+      let r = released-ids (j .waiting) rs aborted bytes (j .entries) in
+      caseB (endsBy a) (λ e. rw e (caseB (countsBy a) (λ y. rw y r) (λ y. rw y))) (λ e. rw e)
+
+  -- ---- a call other than a submission hands nothing over
+  verdict-still : (a : Verdict) (n m : ℕ) → m ≡ n → m ≡ n + cond (isBegun x (begunId (ofVerdict a))) 1 0
+  verdict-still (verdict.Refused r) n m e = omega (arith, e)
+  verdict-still verdict.Pass n m e = omega (arith, e)
+
+  report-still : (a : ReportAnswer) (n m : ℕ) → m ≡ n → m ≡ n + cond (isBegun x (begunId (ofReport a))) 1 0
+  report-still (report.Refused r) n m e = omega (arith, e)
+  report-still (report.Report y) n m e = omega (arith, e)
+
+  poll-still : (a : PollAnswer) (n m : ℕ) → m ≡ n → m ≡ n + cond (isBegun x (begunId (ofPoll a))) 1 0
+  poll-still (poll.Refused r) n m e = omega (arith, e)
+  poll-still (poll.Report y) n m e = omega (arith, e)
+  poll-still (poll.Asked token) n m e = omega (arith, e)
+
+  nextReport-still : (a : NextReport) (n m : ℕ) → m ≡ n → m ≡ n + cond (isBegun x (begunId (ofNext a))) 1 0
+  nextReport-still (nextReport.Refused r) n m e = omega (arith, e)
+  nextReport-still nextReport.None n m e = omega (arith, e)
+  nextReport-still (nextReport.Report y) n m e = omega (arith, e)
+
+  tally-still : (a : Tally) (n m : ℕ) → m ≡ n → m ≡ n + cond (isBegun x (begunId (ofTally a))) 1 0
+  tally-still (tally.Refused r) n m e = omega (arith, e)
+  tally-still (tally.Number y) n m e = omega (arith, e)
+
+  begin-ids : (a : BeginAnswer) (id : RequestId) (q : RecoveryKind) (j : Journal)
+      → number (cond (isRecovering (ofBegin a)) (recoveryWaits id q j) j .entries) ≡ number (j .entries) + cond (isBegun x (begunId (ofBegin a))) 1 0
+  begin-ids (begin.Refused r) id q j = omega arith
+  begin-ids (begin.Recover y) id q j = omega arith
+
+  recovery-still : (a : RecoveryAnswer) (n m : ℕ) → m ≡ n → m ≡ n + cond (isBegun x (begunId (ofRecovery a))) 1 0
+  recovery-still (recovery.Refused r) n m e = omega (arith, e)
+  recovery-still (recovery.Report y) n m e = omega (arith, e)
+
+  step-ids : (c : Call) (w : World) (j : Journal) → isOpening c ≡ false
+      → number (journalStep c (stepOf c w .result .answer) j .entries) ≡ number (j .entries) + cond (isBegun x (begunId (stepOf c w .result .answer))) 1 0
+  unfolding stepOf journalStep
+  step-ids (Open o) w j f = absurd (true≢false f)
+  step-ids (SetDevice d) w j f = verdict-still (setDeviceOf (w .session) (busFitsIn w) d (w .bus) .answer) _ _ refl
+  step-ids (SetPort n row) w j f = verdict-still (setPortOf (w .session) (busFitsIn w) n row (w .bus) .answer) _ _ refl
+  step-ids (SetEndpoints slot list) w j f = verdict-still (setEndpointsOf (w .session) (busFitsIn w) slot list (w .bus) .answer) _ _ refl
+  step-ids (SetReconcile slot mark) w j f = verdict-still (setReconcileOf (w .session) (busFitsIn w) slot mark (w .bus) .answer) _ _ refl
+  step-ids (Acquire reply) w j f = verdict-still (acquireOf (w .session) reply .answer) _ _ refl
+  step-ids (Initialize reply) w j f = verdict-still (initializeOf (w .session) reply .answer) _ _ refl
+  step-ids (Close fresh reply) w j f =
+      let a : Answer = ofVerdict (closeOf (w .session) (rowsFitIn w) fresh reply (w .store) .result .answer) in
+      verdict-still (closeOf (w .session) (rowsFitIn w) fresh reply (w .store) .result .answer) _ _
+      (let c = closed-ids x (j .entries) in caseB (isPass a) (λ e. rw e (omega (arith, c))) (λ e. rw e))
+  step-ids (Submit q bytes given packets one two) w j f =
+      begun-ids (begunId (ofSubmit (submitOf (w .session) (storeFitsIn w) q bytes given packets one two (w .bus) (w .store) (w .area) .result .answer))) (q .device) (q .endpoint) (q .length) j
+  step-ids (SubmitPlan q bytes one) w j f =
+      begun-ids (begunId (ofPlan (submitPlanOf (w .session) (storeFitsIn w) q bytes one (w .bus) (w .store) (w .area) .result .answer))) (q .device) 0
+      (stageOf (q .«data_stage») (q .setup .«request_type») .length) j
+  step-ids (ReplySubmit reply) w j f =
+      let a : Answer = ofReport (submitReplyOf (w .session) (rowsFitIn w) reply (w .store) .result .answer) in
+      report-still (submitReplyOf (w .session) (rowsFitIn w) reply (w .store) .result .answer) _ _
+      (caseB (endsBy a) (λ e. rw e (waiting-ids (j .waiting) (acceptedAs reply) (λ y. accepted-id reply y) (j .entries))) (λ e. rw e))
+  step-ids (Poll id) w j f =
+      let a : Answer = ofPoll (pollOf (w .session) (rowsFitIn w) id (w .store .rows) .answer) in
+      poll-still (pollOf (w .session) (rowsFitIn w) id (w .store .rows) .answer) _ _ (caseB (isAsked a) (λ e. rw e) (λ e. rw e))
+  step-ids (ReplyPoll reply bytes) w j f =
+      let a : Answer = ofReport (finishOf (w .session) (rowsFitIn w && areaFitsIn w) reply bytes (w .store) (w .area) .result .answer) in
+      report-still (finishOf (w .session) (rowsFitIn w && areaFitsIn w) reply bytes (w .store) (w .area) .result .answer) _ _
+      (caseB (endsBy a) (λ e. rw e (polled-ids reply (length bytes) j)) (λ e. rw e))
+  step-ids (AbortRequest id) w j f = begin-ids (beginOf (w .session) (rowsFitIn w) id kind.Abort (w .store .rows) .answer) id kind.Abort j
+  step-ids (ResetEndpoint id preserve) w j f =
+      begin-ids (beginOf (w .session) (rowsFitIn w) id (kind.Reset preserve) (w .store .rows) .answer) id (kind.Reset preserve) j
+  step-ids (ReplyRecovery reply tokens words aborted bytes) w j f =
+      recovery-still (recoversOf reply tokens words aborted bytes w .result .answer) _ _
+      (recovered-ids (ofRecovery (recoversOf reply tokens words aborted bytes w .result .answer)) (returnedOf tokens words) aborted bytes j)
+  step-ids (Cancel id) w j f = report-still (changeOf (w .session) (rowsFitIn w) id change.LogicalCancel (w .store) .result .answer) _ _ refl
+  step-ids (Timeout id) w j f = report-still (changeOf (w .session) (rowsFitIn w) id change.Timeout (w .store) .result .answer) _ _ refl
+  step-ids (Reclaim id) w j f = report-still (changeOf (w .session) (rowsFitIn w) id change.Reclaim (w .store) .result .answer) _ _ refl
+  step-ids (Status id) w j f = report-still (statusOf (w .session) (rowsFitIn w) id (w .store .rows)) _ _ refl
+  step-ids (Reports from) w j f = nextReport-still (nextOf (w .session) (rowsFitIn w) from (w .store .rows)) _ _ refl
+  step-ids CountReports w j f = tally-still (shownCount (w .session) (rowsFitIn w) (w .store .rows)) _ _ refl
+  step-ids (CompletedBytes id) w j f = omega arith
+  step-ids HeldCount w j f = tally-still (heldCountOf (rowsFitIn w) (w .store .rows)) _ _ refl
+  step-ids HeldBytes w j f = tally-still (heldBytesOf (rowsFitIn w) (w .store .rows)) _ _ refl
+
+  event-ids : (h : Handed) (c : Call) (w : World) (j : Journal) → Handing h c
+      → number (journalStep c (answerTo w (record { call = c; handed = h })) j .entries)
+      ≡ number (j .entries) + cond (isBegun x (begunId (answerTo w (record { call = c; handed = h })))) 1 0
+  event-ids h c w j f =
+      let z : number (journalStep c (answer.Refused (validation 3)) j .entries) ≡ number (j .entries) = ap (λ (y : Journal). number (y .entries)) (refused-3 c j) in
+      by-handed h c w (λ a v. number (journalStep c a j .entries) ≡ number (j .entries) + cond (isBegun x (begunId a)) 1 0) f
+      (λ first bus area. step-ids c (world (w .session) bus (w .store) area) j first) (omega (arith, z))
+
+  pub handed-over : (es : List Event) (w : World) (j : Journal) → Follows es
+      → count (handsOver x) (historyOf w es) + number (j .entries) ≡ number (journalOf (historyOf w es) j .entries)
+  handed-over [] w j f = omega arith
+  handed-over (e ∷ es) w j f =
+      let one = event-ids (e .handed) (e .call) w j (f .0) in
+      let rest = handed-over es (leftBy (e .handed) (e .call) w) (journalStep (e .call) (answerTo w e) j) (f .1) in
+      omega (arith, one, rest)

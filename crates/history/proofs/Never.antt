@@ -1,0 +1,155 @@
+-- What no list of calls after an opening leads to: a recovery's 44, the ledger's 43 in a recovery's reply, and more affected rows than a
+-- recovery's list holds. Assumes nothing.
+use Prim.Native.Nat.{ℕ}
+use mathlib.Core.Bool.{Bool, true, false, true≢false}
+use mathlib.Core.List.{List, [], _∷_}
+use mathlib.Core.Path.{_≡_, refl, sym, ap, _∙_}
+use borrow.Author.Tests.{not-false}
+use lib.Dec.{eqb}
+use lib.ListN.{length}
+use Rattle.chain.specs.Lists.{foundIn}
+use Rattle.chain.specs.declared.Found.{Found}
+use Rattle.chain.specs.declared.Found.the-variants as found
+use Rattle.chain.proofs.Chain.{if-by}
+use Rattle.models.specs.declared.DeviceId.{DeviceId}
+use Rattle.models.specs.declared.RequestId.{RequestId}
+use Rattle.models.specs.declared.Verdict.{Verdict}
+use Rattle.models.specs.declared.Verdict.the-variants as verdict
+use Rattle.rows.specs.Store.{Store}
+use Rattle.rows.specs.declared.Row.{Row}
+use Rattle.ledger.specs.Search.{isAt}
+use Rattle.ledger.proofs.Placing.{found-row}
+use Rattle.session.specs.Session.{withFlight}
+use Rattle.session.specs.declared.InFlight.{InFlight}
+use Rattle.session.specs.declared.InFlight.the-variants as flight
+use Rattle.session.specs.declared.RecoveryKind.{RecoveryKind}
+use Rattle.session.specs.declared.Session.{Session}
+use Rattle.session.specs.declared.lifecycle.Opening.{Opening}
+use Rattle.scope.specs.Affected.{affectedOf, tokensOf}
+use Rattle.recovery.specs.Begin.{begunAs, beginRow, beginBy, beginOf}
+use Rattle.recovery.specs.Reports.{idLists}
+use Rattle.scope.specs.Returned.{returnedOf}
+use Rattle.recovery.specs.Reply.{RecoveredTo, isWhole, applyAll, reportOf, concludedBy, scopedOf, doneOf, replyBy, replySized, replyIn, recoveryReplyOf}
+use Rattle.recovery.specs.Entries.{WalkTo}
+use Rattle.scope.specs.Scope.{meant}
+use Rattle.recovery.specs.declared.AbortReport.{AbortReport}
+use Rattle.recovery.specs.declared.Begun.{Begun}
+use Rattle.recovery.specs.declared.Ids.{Ids}
+use Rattle.recovery.specs.declared.Outcome.{Outcome}
+use Rattle.recovery.specs.declared.Recovery.{Recovery}
+use Rattle.recovery.specs.declared.RecoveryReply.{RecoveryReply}
+use Rattle.recovery.specs.declared.RecoveryReply.the-variants as reply
+use Rattle.calls.specs.Answers.{ofBegin, ofRecovery}
+use Rattle.calls.specs.Calls.{Open, ReplyRecovery}
+use Rattle.calls.specs.Step.{World, After, world, stepOf, rowsFitIn}
+use Rattle.calls.specs.declared.Answer.{Answer}
+use Rattle.calls.specs.declared.Answer.the-variants as answer
+use Rattle.history.specs.Run.{Handed, Event, next, endOf, answerTo, Handing, Follows, Fresh}
+use Rattle.history.specs.Journal.{Entry, blank, refusalNumber, endsBy}
+use Rattle.history.specs.Claim.{startOf, starts}
+use Rattle.history.specs.Sound.{rowAt, Sound}
+use Rattle.history.proofs.Handings.{by-handed}
+use Rattle.history.proofs.Led.{Led}
+use Rattle.history.proofs.Affects.{allOf, affected-all}
+use Rattle.history.proofs.Walks.{LateBy}
+use Rattle.history.proofs.Recovers.{recovered-kept}
+use Rattle.history.proofs.Keeps.{late-numbers, late-43}
+use Rattle.history.proofs.SoundRows.{full}
+use Rattle.history.proofs.SoundChange.{at-used}
+use Rattle.history.proofs.SoundRun.{sound-run}
+use Rattle.history.proofs.Theorem.{opened-holds, run-kept, start-step}
+
+-- an answer is not the refusal n
+abbrev pub Not : ℕ → Answer → Type 0
+Not n a = eqb (refusalNumber a) n ≡ false
+
+-- ---- 44: a held row is there only while the controller may recover
+module _ (w : World) (k : Sound w) where
+  abbrev Begins : Begun → Type 0
+  Begins o = Not 44 (ofBegin (o .answer))
+
+  never-44 : (fits : Bool) (id : RequestId) (q : RecoveryKind) → Begins (beginOf (w .session) fits id q (w .store .rows))
+  unfolding beginOf beginBy beginRow begunAs
+  never-44 fits id q = if-by Begins _ _ _ (λ e. refl) (λ e. if-by Begins _ _ _ (λ y. refl) (λ y. go (foundIn (isAt id) (w .store .rows)) refl))
+    where
+      go : (f : Found) → f ≡ foundIn (isAt id) (w .store .rows) → Begins (beginBy f (w .session) id q (w .store .rows))
+      go found.Nothing e = refl
+      go (found.At i) e =
+          let p = found-row id (w .store .rows) (found.At i) i e refl in
+          let bare = full w k i (p .0) (at-used id (rowAt w i) (p .1)) in
+          if-by Begins _ _ _ (λ y. refl) (λ y. if-by Begins _ _ _ (λ z. absurd (true≢false (sym z ∙ bare))) (λ z. refl))
+
+-- ---- 43: a token of a reply in scope means a held row until its own entry
+module _ (s : Session) (store : Store) (entries : List Entry) (k : Led (store .rows) entries) (tokens words aborted bytes area : List ℕ) where
+  -- past 2, 3 and 49 the reply ends its operation, and is not the ledger's 43
+  abbrev Ends : RecoveredTo → Type 0
+  Ends o = (endsBy (ofRecovery (o .result .answer)) ≡ true) × Not 43 (ofRecovery (o .result .answer))
+
+  abbrev quiet : Session
+  quiet = withFlight s flight.Nothing
+
+  concluded : (v : Verdict) → LateBy v → (y : Recovery) (o : Outcome) (report : AbortReport) (ids : Ids) (rows : List Row)
+      → (endsBy (ofRecovery (concludedBy v quiet y o report ids rows .answer)) ≡ true) × Not 43 (ofRecovery (concludedBy v quiet y o report ids rows .answer))
+  unfolding concludedBy
+  concluded (verdict.Refused r) late y o report ids rows =
+      let (two, three, lists, error, scope) = late-numbers (r .number) late in
+      (rw (two, three, lists), late-43 (r .number) late)
+  concluded verdict.Pass late y o report ids rows = (refl, refl)
+
+  by-reply : (y : Recovery) (r : RecoveryReply) → Ends (replyBy r quiet y tokens words aborted bytes store area)
+  unfolding replyBy doneOf scopedOf
+  by-reply y (reply.Error e) = (refl, refl)
+  by-reply y (reply.Done o) =
+      if-by Ends _ _ _ (λ n. (refl, refl))
+      (λ n.
+      let affected : List ℕ = affectedOf (y .device) (y .endpoint) (store .rows) in
+      let place : ℕ → ℕ = meant affected (tokensOf (store .rows) affected) in
+      let left : WalkTo = applyAll place (quiet .«row_bytes») (returnedOf tokens words) aborted bytes store area in
+      concluded (left .verdict)
+      (recovered-kept (y .device) (y .endpoint) store entries k (isWhole o) (quiet .«row_bytes») tokens words aborted bytes area (not-false _ n) .1)
+      y o (reportOf y o (length tokens) (length aborted)) (idLists (store .rows) place tokens aborted) (left .store .rows))
+
+  pub reply-ends : (y : Recovery) (r : RecoveryReply) → endsBy (ofRecovery (replyBy r quiet y tokens words aborted bytes store area .result .answer)) ≡ true
+  reply-ends y r = by-reply y r .0
+
+  abbrev Replies : RecoveredTo → Type 0
+  Replies o = Not 43 (ofRecovery (o .result .answer))
+
+  never-43 : (fits : Bool) (r : RecoveryReply) → Replies (recoveryReplyOf s fits r tokens words aborted bytes store area)
+  unfolding recoveryReplyOf replyIn replySized
+  never-43 fits r = go (s .«in_flight»)
+    where
+      go : (f : InFlight) → Replies (replyIn f s fits r tokens words aborted bytes store area)
+      go flight.Nothing = refl
+      go (flight.Submission id) = refl
+      go (flight.Poll id) = refl
+      go (flight.Recovery a b c d) =
+          if-by Replies _ _ _ (λ e. refl) (λ e. if-by Replies _ _ _ (λ y. refl) (λ y. by-reply (record { target = a; device = b; endpoint = c; kind = d }) r .1))
+
+-- ---- of lists of calls
+module _ (o : Opening) (w : World) (es : List Event) (pass : stepOf (Open o) w .result .answer ≡ answer.Pass) (follows : Follows es) where
+  abbrev start : World
+  start = next (stepOf (Open o) w)
+
+  abbrev at : World
+  at = endOf start es
+
+  pub start-44 : (q : RecoveryKind) (id : RequestId) (h : Handed) → Handing h (startOf q id) → Not 44 (answerTo at (starts q id h))
+  start-44 q id h f =
+      by-handed h (startOf q id) at (λ a v. Not 44 a) f
+      (λ first bus area. let v = world (at .session) bus (at .store) area in
+      ap (λ (a : After). eqb (refusalNumber (a .result .answer)) 44) (start-step q id v) ∙ never-44 at (sound-run o w es pass follows) (rowsFitIn v) id q)
+      refl
+
+  -- the affected rows are all of them, with no bound on their number
+  pub all-affected : (d : DeviceId) (endpoint : ℕ) → affectedOf d endpoint (at .store .rows) ≡ allOf d endpoint (at .store .rows)
+  all-affected d endpoint = affected-all d endpoint (at .store .rows) (sound-run o w es pass follows .held)
+
+  module _ (fresh : Fresh (o .session ∷ []) es) (r : RecoveryReply) (tokens words aborted bytes : List ℕ) where
+    pub reply-43 : (h : Handed) → Handing h (ReplyRecovery r tokens words aborted bytes)
+        → Not 43 (answerTo at (record { call = ReplyRecovery r tokens words aborted bytes; handed = h }))
+    unfolding stepOf
+    reply-43 h f =
+        by-handed h (ReplyRecovery r tokens words aborted bytes) at (λ a v. Not 43 a) f
+        (λ first bus area. never-43 (at .session) (at .store) _ (run-kept es start blank (o .session ∷ []) (opened-holds o w pass) follows fresh .1 .led) tokens words aborted bytes area _ r)
+        refl

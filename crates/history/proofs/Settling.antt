@@ -1,0 +1,548 @@
+-- What a recovery that succeeded leaves of each row. Assumes nothing.
+use Prim.Native.Nat.{ℕ, _*_, _≤_, _<_}
+use mathlib.Core.Path.{_≡_, refl, sym, ap, _∙_, subst}
+use mathlib.Core.Bool.{Bool, true, false, cond, not, _&&_, _||_, false≢true}
+use mathlib.Core.List.{List, [], _∷_, _++_, map}
+use native.Mathlib.Omega.{arith}
+use lib.Dec.{eqb}
+use lib.ListN.{length, getD, set, take, drop, length-set, length-map, List·getD-map}
+use lib.Seq.{getD-set-same, getD-set-other, ext-getD}
+use borrow.Author.Tests.{eq-eqb, ne-eqb, eqb-true, eqb-false, ltb-true, not-false}
+use Rattle.chain.specs.Chain.{_if_else_}
+use Rattle.chain.specs.Lists.{sumBy, count}
+use Rattle.chain.proofs.Chain.{caseB, if-by, both}
+use Rattle.chain.proofs.Lists.{sum-part, find-hit, getD-any}
+use Rattle.words.specs.declared.OptionU32.{OptionU32}
+use Rattle.words.specs.declared.OptionU32.the-variants as u32
+use Rattle.words.specs.declared.OptionU64.{OptionU64}
+use Rattle.words.specs.declared.OptionU64.the-variants as u64
+use Rattle.models.specs.Requests.{deviceMayAccess}
+use Rattle.models.specs.declared.BackendCompletion.{BackendCompletion}
+use Rattle.models.specs.declared.DeviceId.{DeviceId}
+use Rattle.models.specs.declared.RequestState.{RequestState}
+use Rattle.models.specs.declared.RequestState.the-variants.{Pending, Completed, Failed, Aborted}
+use Rattle.models.specs.declared.Verdict.{Verdict}
+use Rattle.models.specs.declared.Verdict.the-variants as verdict
+use Rattle.rows.specs.Store.{Store, putIn}
+use Rattle.rows.specs.Table.{emptyRow, isHeld, rowIn, tokenIn}
+use Rattle.rows.specs.declared.Row.{Row}
+use Rattle.ledger.specs.Rules.{changeRow, completed, completedBy, abortConfirmed, moved, withState, pendingFlags, refusedBy}
+use Rattle.ledger.specs.declared.rules.Step.{Step}
+use Rattle.checks.specs.Completion.{hasError, codeTested, testCode, testLength, testCompletion}
+use Rattle.checks.specs.declared.completion.CompletionTest.{CompletionTest}
+use Rattle.checks.specs.declared.completion.CompletionTest.the-variants as test
+use Rattle.scope.specs.Affected.{isAffected, affectedOf, tokensOf}
+use Rattle.scope.specs.Scope.{isIn, slotOf, meant, eachOnce, allIn, inScope}
+use Rattle.scope.specs.Returned.{Returned, returnedOf}
+use Rattle.recovery.specs.Entries.{WalkTo, rowCompletedBy, testedBy, completeOne, onwardBy, completeAll, AbortTo, abortedBy, abortOne, furtherBy, abortAll}
+use Rattle.recovery.specs.Reports.{idLists}
+use Rattle.recovery.specs.Reply.{RecoveredTo, isWhole, abortsAfter, applyAll, reportOf, concludedBy, scopedOf, doneOf, replyBy, replySized, replyIn, recoveryReplyOf}
+use Rattle.recovery.specs.declared.AbortReport.{AbortReport}
+use Rattle.recovery.specs.declared.Ids.{Ids}
+use Rattle.recovery.specs.declared.Outcome.{Outcome}
+use Rattle.recovery.specs.declared.Recovery.{Recovery}
+use Rattle.recovery.specs.declared.RecoveryReply.{RecoveryReply}
+use Rattle.recovery.specs.declared.RecoveryReply.the-variants as reply
+use Rattle.session.specs.Session.{withFlight}
+use Rattle.session.specs.declared.InFlight.{InFlight}
+use Rattle.session.specs.declared.InFlight.the-variants as flight
+use Rattle.session.specs.declared.RecoveryKind.{RecoveryKind}
+use Rattle.session.specs.declared.Session.{Session}
+use Rattle.models.specs.declared.Refusal.{Refusal}
+use Rattle.calls.specs.Answers.{ofRecovery}
+use Rattle.calls.specs.declared.Answer.the-variants as answer
+use Rattle.scope.proofs.Scoping.{in-cons, in-append}
+use Rattle.history.specs.Journal.{View}
+use Rattle.history.specs.Claim.{rowView, lengthIn, codeIn, cancelledIn, completedAs, namedAs, recoveredAs, isSettled, Different, Recovered}
+use Rattle.history.proofs.Led.{rowW}
+use Rattle.history.proofs.Affects.{seen, scoped, affected-cond, affected-weighs}
+use Rattle.history.proofs.Changes.{or-false, or-right}
+use Rattle.history.proofs.Tokens.{tokensIn, Each, Distinct, each-last, distinct-last, scope-each, scope-distinct}
+use Rattle.history.proofs.Sparing.{Spares, scope-spares}
+use Rattle.history.proofs.Recovers.{returned-tokens, meant-below, meant-affected}
+
+-- ---- a completion that passes says its length and its code
+abbrev Says : ℕ → ℕ → CompletionTest → Type 0
+Says actual code (test.Valid a n) = (a ≡ actual) × (n ≡ code)
+Says actual code test.MissingLength = Unit {0}
+Says actual code test.Invalid = Unit {0}
+
+module _ (c : BackendCompletion) (given requested : ℕ) where
+  by-code : (actual : ℕ) (o : OptionU32) → Says actual (codeIn o) (codeTested o actual)
+  unfolding codeTested
+  by-code actual u32.None = tt
+  by-code actual (u32.Some code) = if-by (Says actual code) _ _ _ (λ e. tt) (λ e. (refl, refl))
+
+  by-length : (o : OptionU64) → Says (lengthIn o) (codeIn (c .«completion_code»)) (testLength o c given requested)
+  unfolding testLength testCode
+  by-length u64.None = tt
+  by-length (u64.Some actual) =
+      if-by (Says actual (codeIn (c .«completion_code»))) _ _ _ (λ e. tt)
+      (λ e. if-by (Says actual (codeIn (c .«completion_code»))) _ _ _ (λ x. tt) (λ x. by-code actual (c .«completion_code»)))
+
+  test-says : Says (lengthIn (c .«actual_length»)) (codeIn (c .«completion_code»)) (testCompletion c given requested)
+  unfolding testCompletion
+  test-says = by-length (c .«actual_length»)
+
+-- ---- one entry
+abbrev asCompleted : BackendCompletion → Row → Row
+asCompleted c r = withState r (Completed (lengthIn (c .«actual_length»)) (codeIn (c .«completion_code»)) (cancelledIn (r .state)))
+
+abbrev SetBy : Verdict → List Row → List Row → Type 0
+SetBy (verdict.Refused r) l m = Unit {0}
+SetBy verdict.Pass l m = m ≡ l
+
+module _ (store : Store) (i : ℕ) where
+  row-set : (st : RequestState) (actual n at room : ℕ) (bytes area : List ℕ)
+      → SetBy (rowCompletedBy (completedBy (pendingFlags st) (rowIn (store .rows) i) actual n) i at room bytes store area .verdict)
+      (set (store .rows) i (withState (rowIn (store .rows) i) (Completed actual n (cancelledIn st))))
+      (rowCompletedBy (completedBy (pendingFlags st) (rowIn (store .rows) i) actual n) i at room bytes store area .store .rows)
+  unfolding rowCompletedBy completedBy moved putIn
+  row-set (Pending cancel late) actual n at room bytes area = refl
+  row-set (Completed a b c) actual n at room bytes area = tt
+  row-set (Failed a b c) actual n at room bytes area = tt
+  row-set Aborted actual n at room bytes area = tt
+
+  test-set : (c : BackendCompletion) (p : CompletionTest) → Says (lengthIn (c .«actual_length»)) (codeIn (c .«completion_code»)) p → (at room : ℕ) (bytes area : List ℕ)
+      → SetBy (testedBy p (c .«completion_code») i at room bytes store area .verdict) (set (store .rows) i (asCompleted c (rowIn (store .rows) i)))
+      (testedBy p (c .«completion_code») i at room bytes store area .store .rows)
+  unfolding testedBy changeRow completed
+  test-set c test.MissingLength s at room bytes area = tt
+  test-set c test.Invalid s at room bytes area = tt
+  test-set c (test.Valid a n) s at room bytes area =
+      let ea = s .0 in
+      let en = s .1 in
+      rw (sym ea, sym en) (row-set (rowIn (store .rows) i .state) a n at room bytes area)
+
+  complete-set : (c : BackendCompletion) (at room : ℕ) (bytes area : List ℕ)
+      → SetBy (completeOne i at room c bytes store area .verdict) (set (store .rows) i (asCompleted c (rowIn (store .rows) i))) (completeOne i at room c bytes store area .store .rows)
+  unfolding completeOne
+  complete-set c at room bytes area = test-set c _ (test-says c (length bytes) (rowIn (store .rows) i .metadata .«requested_length»)) at room bytes area
+
+  abort-set : SetBy (abortOne i store .verdict) (set (store .rows) i (withState (rowIn (store .rows) i) Aborted)) (abortOne i store .store .rows)
+  unfolding abortOne abortedBy changeRow abortConfirmed moved putIn
+  abort-set =
+      if-by (λ (m : Step). SetBy (abortedBy m i store .verdict) (set (store .rows) i (withState (rowIn (store .rows) i) Aborted)) (abortedBy m i store .store .rows))
+      (refusedBy 43) (not (deviceMayAccess (rowIn (store .rows) i .state))) _ (λ e. tt) (λ e. refl)
+
+turned : (a b : ℕ) → eqb a b ≡ eqb b a
+turned a b = caseB (eqb b a) (λ e. eq-eqb a b (sym (eqb-true b a e)) ∙ sym e) (λ e. ne-eqb a b (λ z. eqb-false b a e (sym z)) ∙ sym e)
+
+-- ---- all of them: each row by the tokens that mean it
+module _ (place : ℕ → ℕ) where
+  -- the row that a token means has it
+  abbrev Named : List Row → ℕ → Type 0
+  Named rows t = (place t < length rows) × (tokenIn rows (place t) ≡ t)
+
+  abbrev byCompletions : List Returned → ℕ → Row → Row
+  byCompletions [] i r = r
+  byCompletions (e ∷ es) i r = cond (eqb (place (e .token)) i) (completedAs e r) (byCompletions es i r)
+
+  abbrev byAborts : List ℕ → ℕ → Row → Row
+  byAborts [] i r = r
+  byAborts (t ∷ ts) i r = cond (eqb (place t) i) (withState r Aborted) (byAborts ts i r)
+
+  -- a row's token stays
+  named-after : (rows : List Row) (j : ℕ) (s : RequestState) → j < length rows → (ts : List ℕ) → Each (Named rows) ts → Each (Named (set rows j (withState (rowIn rows j) s))) ts
+  named-after rows j s h [] a = tt
+  named-after rows j s h (t ∷ ts) a = (
+    (
+      omega (arith, a .0 .0, length-set rows j (withState (rowIn rows j) s)),
+      caseB (eqb (place t) j)
+          (λ e. let z = eqb-true (place t) j e in
+          ap (λ (n : ℕ). rowIn (set rows j (withState (rowIn rows j) s)) n .token) z
+          ∙ ap (λ (r : Row). r .token) (getD-set-same rows j (withState (rowIn rows j) s) emptyRow h)
+          ∙ ap (λ (n : ℕ). tokenIn rows n) (sym z) ∙ a .0 .1)
+          (λ e. ap (λ (r : Row). r .token) (getD-set-other rows j (place t) (withState (rowIn rows j) s) emptyRow (eqb-false (place t) j e)) ∙ a .0 .1),
+    ),
+    named-after rows j s h ts (a .1),
+  )
+
+  -- tokens that are not t mean other rows
+  module _ (rows : List Row) (t : ℕ) (own : tokenIn rows (place t) ≡ t) where
+    elsewhere : (u : ℕ) → eqb t u ≡ false → tokenIn rows (place u) ≡ u → eqb (place u) (place t) ≡ false
+    elsewhere u n e = ne-eqb (place u) (place t) (λ z. eqb-false t u n (sym own ∙ ap (tokenIn rows) (sym z) ∙ e))
+
+    far-completions : (es : List Returned) (us : List ℕ) → isIn t (tokensIn es ++ us) ≡ false → Each (Named rows) (tokensIn es ++ us) → (r : Row) → byCompletions es (place t) r ≡ r
+    far-completions [] us n a r = refl
+    far-completions (e ∷ es) us n a r =
+        let p = or-false (eqb t (e .token)) (isIn t (tokensIn es ++ us)) (sym (in-cons t (e .token) (tokensIn es ++ us)) ∙ n) in
+        let q = elsewhere (e .token) (p .0) (a .0 .1) in
+        rw q (far-completions es us (p .1) (a .1) r)
+
+    far-aborts : (ts : List ℕ) → isIn t ts ≡ false → Each (Named rows) ts → (r : Row) → byAborts ts (place t) r ≡ r
+    far-aborts [] n a r = refl
+    far-aborts (u ∷ us) n a r =
+        let p = or-false (eqb t u) (isIn t us) (sym (in-cons t u us) ∙ n) in
+        let q = elsewhere u (p .0) (a .0 .1) in
+        rw q (far-aborts us (p .1) (a .1) r)
+
+  -- what the walk leaves
+  record Walked (rows rows′ : List Row) (us : List ℕ) (f : ℕ → Row → Row) : Type 0 where
+    pub each : (i : ℕ) → rowIn rows′ i ≡ f i (rowIn rows i)
+    pub named : Each (Named rows′) us
+    pub size : length rows′ ≡ length rows
+
+  abbrev WalkedBy : Verdict → List Row → List Row → List ℕ → (ℕ → Row → Row) → Type 0
+  WalkedBy (verdict.Refused r) rows rows′ us f = Unit {0}
+  WalkedBy verdict.Pass rows rows′ us f = Walked rows rows′ us f
+
+  completions-walk : (room : ℕ) (us : List ℕ) (es : List Returned) (bytes : List ℕ) (store : Store) (area : List ℕ) → Each (Named (store .rows)) (tokensIn es ++ us)
+      → Distinct (tokensIn es ++ us)
+      → WalkedBy (completeAll place room es bytes store area .verdict) (store .rows) (completeAll place room es bytes store area .store .rows) us (byCompletions es)
+  completions-walk room us [] bytes store area a d = record { each = λ i. refl; named = a; size = refl }
+  completions-walk room us (e ∷ es) bytes store area a d =
+      go (completeOne (place (e .token)) (place (e .token) * room) room (e .brought .completion) (take (e .brought .given) bytes) store area .verdict)
+      (completeOne (place (e .token)) (place (e .token) * room) room (e .brought .completion) (take (e .brought .given) bytes) store area)
+      (complete-set store (place (e .token)) (e .brought .completion) (place (e .token) * room) room (take (e .brought .given) bytes) area) refl
+      (λ s x b. completions-walk room us es (drop (e .brought .given) bytes) s x b (d .1))
+    where
+      go : (v : Verdict) (w : WalkTo) → SetBy v (set (store .rows) (place (e .token)) (completedAs e (rowIn (store .rows) (place (e .token))))) (w .store .rows) → w .verdict ≡ v
+          → ((s : Store) (x : List ℕ) → Each (Named (s .rows)) (tokensIn es ++ us)
+          → WalkedBy (completeAll place room es (drop (e .brought .given) bytes) s x .verdict) (s .rows) (completeAll place room es (drop (e .brought .given) bytes) s x .store .rows) us (byCompletions es))
+          → WalkedBy (onwardBy v w (λ (s : Store) (x : List ℕ). completeAll place room es (drop (e .brought .given) bytes) s x) .verdict) (store .rows)
+          (onwardBy v w (λ (s : Store) (x : List ℕ). completeAll place room es (drop (e .brought .given) bytes) s x) .store .rows) us (byCompletions (e ∷ es))
+      go (verdict.Refused r) w q ev rest = rw ev tt
+      go verdict.Pass w q ev rest =
+          let p : ℕ = place (e .token) in
+          let next : Row = completedAs e (rowIn (store .rows) p) in
+          let here : Each (Named (w .store .rows)) (tokensIn es ++ us) =
+          subst (λ (l : List Row). Each (Named l) (tokensIn es ++ us)) (sym q) (named-after (store .rows) p (next .state) (a .0 .0) (tokensIn es ++ us) (a .1)) in
+          after (completeAll place room es (drop (e .brought .given) bytes) (w .store) (w .area) .verdict)
+          (completeAll place room es (drop (e .brought .given) bytes) (w .store) (w .area) .store .rows) (w .store .rows) q here (rest (w .store) (w .area) here)
+        where
+          after : (v : Verdict) (rows′ rows₁ : List Row) → rows₁ ≡ set (store .rows) (place (e .token)) (completedAs e (rowIn (store .rows) (place (e .token)))) → Each (Named rows₁) (tokensIn es ++ us)
+              → WalkedBy v rows₁ rows′ us (byCompletions es) → WalkedBy v (store .rows) rows′ us (byCompletions (e ∷ es))
+          after (verdict.Refused r) rows′ rows₁ q here k = tt
+          after verdict.Pass rows′ rows₁ q here k =
+              let p : ℕ = place (e .token) in
+              let next : Row = completedAs e (rowIn (store .rows) p) in
+              let at-p : rowIn rows₁ p ≡ next = ap (λ (l : List Row). rowIn l p) q ∙ getD-set-same (store .rows) p next emptyRow (a .0 .0) in
+              let token-p : tokenIn rows₁ p ≡ e .token = ap (λ (r : Row). r .token) at-p ∙ a .0 .1 in
+              record {
+                named = k .named;
+                size = k .size ∙ ap (λ (l : List Row). length l) q ∙ length-set (store .rows) p next;
+                each = λ i.
+                    caseB (eqb p i)
+                    (λ y.
+                    let z = eqb-true p i y in
+                    rw y (k .each i ∙ ap (λ (n : ℕ). byCompletions es n (rowIn rows₁ n)) (sym z) ∙ far-completions rows₁ (e .token) token-p es us (d .0) here (rowIn rows₁ p) ∙ at-p
+                    ∙ ap (λ (n : ℕ). completedAs e (rowIn (store .rows) n)) z))
+                    (λ y.
+                    let other : rowIn rows₁ i ≡ rowIn (store .rows) i = ap (λ (l : List Row). rowIn l i) q ∙ getD-set-other (store .rows) p i next emptyRow (λ z. eqb-false p i y (sym z)) in
+                    rw y (k .each i ∙ ap (byCompletions es i) other));
+              }
+
+  aborts-walk : (ts : List ℕ) (store : Store) → Each (Named (store .rows)) ts → Distinct ts
+      → WalkedBy (abortAll place ts store .verdict) (store .rows) (abortAll place ts store .store .rows) [] (byAborts ts)
+  aborts-walk [] store a d = record { each = λ i. refl; named = tt; size = refl }
+  aborts-walk (t ∷ ts) store a d =
+      go (abortOne (place t) store .verdict) (abortOne (place t) store) (abort-set store (place t)) refl (λ s b. aborts-walk ts s b (d .1))
+    where
+      go : (v : Verdict) (w : AbortTo) → SetBy v (set (store .rows) (place t) (withState (rowIn (store .rows) (place t)) Aborted)) (w .store .rows) → w .verdict ≡ v
+          → ((s : Store) → Each (Named (s .rows)) ts → WalkedBy (abortAll place ts s .verdict) (s .rows) (abortAll place ts s .store .rows) [] (byAborts ts))
+          → WalkedBy (furtherBy v w (λ (s : Store). abortAll place ts s) .verdict) (store .rows) (furtherBy v w (λ (s : Store). abortAll place ts s) .store .rows) [] (byAborts (t ∷ ts))
+      go (verdict.Refused r) w q ev rest = rw ev tt
+      go verdict.Pass w q ev rest =
+          let here : Each (Named (w .store .rows)) ts =
+          subst (λ (l : List Row). Each (Named l) ts) (sym q) (named-after (store .rows) (place t) Aborted (a .0 .0) ts (a .1)) in
+          after (abortAll place ts (w .store) .verdict) (abortAll place ts (w .store) .store .rows) (w .store .rows) q here (rest (w .store) here)
+        where
+          after : (v : Verdict) (rows′ rows₁ : List Row) → rows₁ ≡ set (store .rows) (place t) (withState (rowIn (store .rows) (place t)) Aborted) → Each (Named rows₁) ts
+              → WalkedBy v rows₁ rows′ [] (byAborts ts) → WalkedBy v (store .rows) rows′ [] (byAborts (t ∷ ts))
+          after (verdict.Refused r) rows′ rows₁ q here k = tt
+          after verdict.Pass rows′ rows₁ q here k =
+              let p : ℕ = place t in
+              let next : Row = withState (rowIn (store .rows) p) Aborted in
+              let at-p : rowIn rows₁ p ≡ next = ap (λ (l : List Row). rowIn l p) q ∙ getD-set-same (store .rows) p next emptyRow (a .0 .0) in
+              let token-p : tokenIn rows₁ p ≡ t = ap (λ (r : Row). r .token) at-p ∙ a .0 .1 in
+              record {
+                named = tt;
+                size = k .size ∙ ap (λ (l : List Row). length l) q ∙ length-set (store .rows) p next;
+                each = λ i.
+                    caseB (eqb p i)
+                    (λ y.
+                    let z = eqb-true p i y in
+                    rw y (k .each i ∙ ap (λ (n : ℕ). byAborts ts n (rowIn rows₁ n)) (sym z) ∙ far-aborts rows₁ t token-p ts (d .0) here (rowIn rows₁ p) ∙ at-p
+                    ∙ ap (λ (n : ℕ). withState (rowIn (store .rows) n) Aborted) z))
+                    (λ y.
+                    let other : rowIn rows₁ i ≡ rowIn (store .rows) i = ap (λ (l : List Row). rowIn l i) q ∙ getD-set-other (store .rows) p i next emptyRow (λ z. eqb-false p i y (sym z)) in
+                    rw y (k .each i ∙ ap (byAborts ts i) other));
+              }
+
+  record Applied (rows rows′ : List Row) (es : List Returned) (aborted : List ℕ) : Type 0 where
+    pub each : (i : ℕ) → rowIn rows′ i ≡ byAborts aborted i (byCompletions es i (rowIn rows i))
+    pub size : length rows′ ≡ length rows
+
+  applied-rows : (room : ℕ) (es : List Returned) (aborted bytes : List ℕ) (store : Store) (area : List ℕ) → Each (Named (store .rows)) (tokensIn es ++ aborted)
+      → Distinct (tokensIn es ++ aborted) → applyAll place room es aborted bytes store area .verdict ≡ verdict.Pass
+      → Applied (store .rows) (applyAll place room es aborted bytes store area .store .rows) es aborted
+  unfolding applyAll abortsAfter
+  applied-rows room es aborted bytes store area a d =
+      go (completeAll place room es bytes store area .verdict) (completeAll place room es bytes store area) (completions-walk room aborted es bytes store area a d) refl
+    where
+      go : (v : Verdict) (w : WalkTo) → WalkedBy v (store .rows) (w .store .rows) aborted (byCompletions es) → w .verdict ≡ v
+          → abortsAfter v w place aborted .verdict ≡ verdict.Pass → Applied (store .rows) (abortsAfter v w place aborted .store .rows) es aborted
+      go (verdict.Refused r) w k ev e = let n : verdict.Refused r ≡ verdict.Pass = sym ev ∙ e in let z : _≡_ {A = ℕ} 0 1 = cc in absurd (omega arith)
+      go verdict.Pass w k ev e =
+          let m : Walked (w .store .rows) (abortAll place aborted (w .store) .store .rows) [] (byAborts aborted) =
+          subst (λ (y : Verdict). WalkedBy y (w .store .rows) (abortAll place aborted (w .store) .store .rows) [] (byAborts aborted)) e
+          (aborts-walk aborted (w .store) (k .named) (distinct-last (tokensIn es) aborted d)) in
+          record { each = λ i. m .each i ∙ ap (byAborts aborted i) (k .each i); size = m .size ∙ k .size }
+
+  -- ---- by the row's own token
+  module _ (rows : List Row) (i : ℕ) where
+    -- a token means the row just where it is the row's
+    abbrev Meets : ℕ → Type 0
+    Meets t = (place t ≡ i → t ≡ tokenIn rows i) × (t ≡ tokenIn rows i → place t ≡ i)
+
+    meet-eqb : (t : ℕ) → Meets t → eqb (place t) i ≡ eqb t (tokenIn rows i)
+    meet-eqb t m = caseB (eqb t (tokenIn rows i))
+        (λ e. eq-eqb (place t) i (m .1 (eqb-true t (tokenIn rows i) e)) ∙ sym e)
+        (λ e. ne-eqb (place t) i (λ z. eqb-false t (tokenIn rows i) e (m .0 z)) ∙ sym e)
+
+    aborts-named : (ts : List ℕ) → Each Meets ts → byAborts ts i (rowIn rows i) ≡ cond (isIn (tokenIn rows i) ts) (withState (rowIn rows i) Aborted) (rowIn rows i)
+    aborts-named [] m = refl
+    aborts-named (t ∷ ts) m =
+        let e = meet-eqb t (m .0) ∙ turned t (tokenIn rows i) in
+        let c = in-cons (tokenIn rows i) t ts in
+        let ih = aborts-named ts (m .1) in
+        rw (e, c) (caseB (eqb (tokenIn rows i) t) (λ y. rw y) (λ y. rw y ih))
+
+    -- none of them is the row's
+    aborts-off : (ts : List ℕ) → Each Meets ts → isIn (tokenIn rows i) ts ≡ false → (r : Row) → byAborts ts i r ≡ r
+    aborts-off [] m n r = refl
+    aborts-off (t ∷ ts) m n r =
+        let p = or-false (eqb (tokenIn rows i) t) (isIn (tokenIn rows i) ts) (sym (in-cons (tokenIn rows i) t ts) ∙ n) in
+        let e : eqb (place t) i ≡ false = meet-eqb t (m .0) ∙ turned t (tokenIn rows i) ∙ p .0 in
+        rw e (aborts-off ts (m .1) (p .1) r)
+
+    in-last : (t : ℕ) (ts us : List ℕ) → isIn t (ts ++ us) ≡ false → isIn t us ≡ false
+    in-last t ts us e = or-false (isIn t ts) (isIn t us) (sym (in-append t ts us) ∙ e) .1
+
+    row-named : (es : List Returned) (aborted : List ℕ) → Each Meets (tokensIn es ++ aborted) → Distinct (tokensIn es ++ aborted)
+        → byAborts aborted i (byCompletions es i (rowIn rows i)) ≡ namedAs es aborted (rowIn rows i)
+    row-named [] aborted m d = aborts-named aborted m
+    row-named (e ∷ es) aborted m d =
+        let q = meet-eqb (e .token) (m .0) in
+        let ih = row-named es aborted (m .1) (d .1) in
+        rw q (caseB (eqb (e .token) (tokenIn rows i))
+        (λ y.
+        let z = eqb-true (e .token) (tokenIn rows i) y in
+        let n : isIn (tokenIn rows i) aborted ≡ false = ap (λ (t : ℕ). isIn t aborted) (sym z) ∙ in-last (e .token) (tokensIn es) aborted (d .0) in
+        rw y (aborts-off aborted (each-last Meets (tokensIn es) aborted (m .1)) n (completedAs e (rowIn rows i))))
+        (λ y. rw y ih))
+
+-- a row that the reply names is settled
+settled-named : (es : List Returned) (aborted : List ℕ) (r : Row) → isIn (r .token) (tokensIn es ++ aborted) ≡ true → isSettled (namedAs es aborted r .state) ≡ true
+settled-named [] aborted r e = rw e
+settled-named (c ∷ cs) aborted r e =
+    caseB (eqb (c .token) (r .token)) (λ y. rw y)
+    (λ y. rw y (settled-named cs aborted r (or-right (eqb (r .token) (c .token)) _ (turned (r .token) (c .token) ∙ y) (sym (in-cons (r .token) (c .token) (tokensIn cs ++ aborted)) ∙ e))))
+
+-- ---- the affected rows
+module _ (d : DeviceId) (endpoint : ℕ) (rows : List Row) (few : count isHeld rows ≤ 128) where
+  abbrev own : List ℕ
+  own = tokensOf rows (affectedOf d endpoint rows)
+
+  abbrev place : ℕ → ℕ
+  place t = meant (affectedOf d endpoint rows) own t
+
+  -- an affected row's token is expected
+  abbrev isToken : ℕ → View → ℕ
+  isToken t v = cond (eqb t (v .token)) 1 0
+
+  weighed-in : (t : ℕ) (l : List ℕ) → 1 ≤ sumBy (isToken t) (map (seen d endpoint rows) l) → isIn t (tokensOf rows l) ≡ true
+  weighed-in t [] h = absurd (omega arith)
+  weighed-in t (j ∷ js) h =
+      in-cons t (tokenIn rows j) (tokensOf rows js)
+      ∙ caseB (eqb t (tokenIn rows j)) (λ y. rw y) (λ y. let z : isToken t (seen d endpoint rows j) ≡ 0 = rw y in rw y (weighed-in t js (omega arith)))
+
+  expected : (i : ℕ) → i < length rows → isAffected d endpoint (rowIn rows i) ≡ true → isIn (tokenIn rows i) own ≡ true
+  expected i h e =
+      let t : ℕ = tokenIn rows i in
+      let same = eq-eqb t t refl in
+      let one : isToken t (rowView (rowIn rows i)) ≡ 1 = rw same in
+      let w : rowW (scoped d endpoint (isToken t)) (rowIn rows i) ≡ 1 = sym (affected-cond d endpoint (rowIn rows i) (isToken t (rowView (rowIn rows i)))) ∙ rw (e, one) in
+      weighed-in t (affectedOf d endpoint rows) (omega (arith, affected-weighs d endpoint rows few (isToken t), sum-part (rowW (scoped d endpoint (isToken t))) rows i emptyRow h, w))
+
+  all-in : (l ts : List ℕ) (t : ℕ) → allIn l ts ≡ true → isIn t l ≡ true → isIn t ts ≡ true
+  all-in [] ts t a e = absurd (false≢true e)
+  all-in (u ∷ us) ts t a e =
+      let p = both (isIn u ts) (allIn us ts) a in
+      caseB (eqb t u)
+      (λ y. let z = eqb-true t u y in ap (λ (n : ℕ). isIn n ts) z ∙ p .0)
+      (λ y. let q : (eqb t u || isIn t us) ≡ true = sym (in-cons t u us) ∙ e in all-in us ts t (p .1) (or-right (eqb t u) (isIn t us) y q))
+
+  own-token : (t : ℕ) → isIn t own ≡ true → tokenIn rows (place t) ≡ t
+  own-token t e =
+      let a : getD own (slotOf own t) (tokenIn rows 0) ≡ tokenIn rows (place t) = List·getD-map (tokenIn rows) (affectedOf d endpoint rows) (slotOf own t) 0 in
+      let b = getD-any own (slotOf own t) (tokenIn rows 0) 0 (ltb-true (slotOf own t) (length own) e) in
+      let c = eqb-true t (getD own (slotOf own t) 0) (find-hit (eqb t) own 0 (ltb-true (slotOf own t) (length own) e)) in
+      sym a ∙ b ∙ sym c
+
+  named-row : (t : ℕ) → isIn t own ≡ true → Named place rows t
+  named-row t e = (meant-below d endpoint rows t e, own-token t e)
+
+  -- ---- every row, after a reply in scope
+  module _ (different : Different d endpoint rows) (tokens words aborted : List ℕ) (scope : inScope true own (tokens ++ aborted) ≡ true) where
+    abbrev es : List Returned
+    es = returnedOf tokens words
+
+    all-of-them : allIn own (tokens ++ aborted) ≡ true
+    unfolding inScope
+    all-of-them = both (eachOnce own [] (tokens ++ aborted)) (allIn own (tokens ++ aborted)) scope .1
+
+    same-tokens : tokensIn es ++ aborted ≡ tokens ++ aborted
+    same-tokens = ap (λ (l : List ℕ). l ++ aborted) (returned-tokens tokens words)
+
+    distinct : Distinct (tokensIn es ++ aborted)
+    distinct = subst Distinct (sym same-tokens) (scope-distinct own true (tokens ++ aborted) scope)
+
+    each-token : (P : ℕ → Type 0) → ((t : ℕ) → isIn t own ≡ true → P t) → Each P (tokensIn es ++ aborted)
+    each-token P h = subst (Each P) (sym same-tokens) (scope-each own true (tokens ++ aborted) scope P h)
+
+    -- an affected row, by the tokens that mean it and by its own
+    by-row : (i : ℕ) → i < length rows → isAffected d endpoint (rowIn rows i) ≡ true
+        → byAborts place aborted i (byCompletions place es i (rowIn rows i)) ≡ namedAs es aborted (rowIn rows i)
+    by-row i h a =
+        row-named place rows i es aborted
+        (each-token (Meets place rows i)
+        (λ t e. (
+          λ z. sym (own-token t e) ∙ ap (tokenIn rows) z,
+          λ z. different (place t) i (meant-below d endpoint rows t e) h (meant-affected d endpoint rows t e) a (own-token t e ∙ z),
+        )))
+        distinct
+
+    recovered-rows : (rows′ : List Row) → Applied place rows rows′ es aborted → Spares (λ (i : ℕ). isAffected d endpoint (rowIn rows i)) rows rows′
+        → Recovered d endpoint tokens words aborted rows rows′
+    recovered-rows rows′ k spares =
+        let f : Row → Row = recoveredAs d endpoint es aborted in
+        let each : (i : ℕ) → i < length rows → rowIn rows′ i ≡ f (rowIn rows i) = λ i h.
+        caseB (isAffected d endpoint (rowIn rows i)) (λ e. rw e (k .each i ∙ by-row i h e)) (λ e. rw e (spares .row i e)) in
+        record {
+          rows-are = ext-getD emptyRow rows′ (map f rows) (k .size ∙ sym (length-map rows f))
+              (λ i h. each i (omega (arith, h, k .size))
+              ∙ sym (getD-any (map f rows) i emptyRow (f emptyRow) (omega (arith, h, k .size, length-map rows f)) ∙ List·getD-map f rows i emptyRow));
+          named = λ i h e. all-in own (tokens ++ aborted) (tokenIn rows i) all-of-them (expected i h e);
+          settled = λ i h e.
+              ap (λ (r : Row). isSettled (r .state)) (each i h)
+              ∙ rw e (settled-named es aborted (rowIn rows i)
+              (ap (isIn (tokenIn rows i)) same-tokens ∙ all-in own (tokens ++ aborted) (tokenIn rows i) all-of-them (expected i h e)));
+        }
+
+-- ---- the reply
+pub no-report : (f : Refusal) (x : AbortReport) (A : Type 0) → answer.Refused f ≡ answer.Recovered x → A
+no-report f x A e = let z : _≡_ {A = ℕ} 0 1 = cc in absurd (omega arith)
+
+-- what the claim says of a report
+abbrev pub Settles : List Row → List ℕ → List ℕ → List ℕ → List Row → AbortReport → Type 0
+Settles rows tokens words aborted rows′ x =
+    x .«restart_ready» ≡ true → hasError (x .error) ≡ false → Different (x .device) (x .endpoint) rows → Recovered (x .device) (x .endpoint) tokens words aborted rows rows′
+
+module _ (s : Session) (store : Store) (few : count isHeld (store .rows) ≤ 128) (tokens words aborted bytes area : List ℕ) (x : AbortReport) where
+  abbrev Goal : List Row → AbortReport → Type 0
+  Goal rows′ y = Settles (store .rows) tokens words aborted rows′ y
+
+  abbrev Told : RecoveredTo → Type 0
+  Told o = ofRecovery (o .result .answer) ≡ answer.Recovered x → Goal (o .store .rows) x
+
+  refuses : (f : Refusal) (rows′ : List Row) → answer.Refused f ≡ answer.Recovered x → Goal rows′ x
+  refuses f rows′ e = no-report f x (Goal rows′ x) e
+
+  abbrev quiet : Session
+  quiet = withFlight s flight.Nothing
+
+  abbrev mine : Recovery → List ℕ
+  mine y = tokensOf (store .rows) (affectedOf (y .device) (y .endpoint) (store .rows))
+
+  abbrev means : Recovery → ℕ → ℕ
+  means y = meant (affectedOf (y .device) (y .endpoint) (store .rows)) (mine y)
+
+  whole-is : (a b : Bool) → a ≡ true → b ≡ false → (a && not b) ≡ true
+  whole-is a b e f = rw (e, f)
+
+  concluded-told : (y : Recovery) (o : Outcome) → inScope (isWhole o) (mine y) (tokens ++ aborted) ≡ true → (v : Verdict) (w : WalkTo)
+      → w ≡ applyAll (means y) (quiet .«row_bytes») (returnedOf tokens words) aborted bytes store area → w .verdict ≡ v → (ids : Ids)
+      → ofRecovery (concludedBy v quiet y o (reportOf y o (length tokens) (length aborted)) ids (w .store .rows) .answer) ≡ answer.Recovered x → Goal (w .store .rows) x
+  unfolding concludedBy
+  concluded-told y o sc (verdict.Refused r) w ew ev ids e = refuses r (w .store .rows) e
+  concluded-told y o sc verdict.Pass w ew ev ids e =
+      let q : reportOf y o (length tokens) (length aborted) ≡ x = cc in
+      subst (Goal (w .store .rows)) q
+      (λ ready fine different.
+      let whole = whole-is (o .«restart_ready») (hasError (o .error)) ready fine in
+      let scope : inScope true (mine y) (tokens ++ aborted) ≡ true = subst (λ (b : Bool). inScope b (mine y) (tokens ++ aborted) ≡ true) whole sc in
+      let rows : List Row = store .rows in
+      let a = applied-rows (means y) (quiet .«row_bytes») (returnedOf tokens words) aborted bytes store area
+      (each-token (y .device) (y .endpoint) rows few different tokens words aborted scope (Named (means y) rows) (named-row (y .device) (y .endpoint) rows few))
+      (distinct (y .device) (y .endpoint) rows few different tokens words aborted scope)
+      (ap (λ (z : WalkTo). z .verdict) (sym ew) ∙ ev) in
+      subst (λ (z : WalkTo). Recovered (y .device) (y .endpoint) tokens words aborted rows (z .store .rows)) (sym ew)
+      (recovered-rows (y .device) (y .endpoint) rows few different tokens words aborted scope _ a
+      (scope-spares (y .device) (y .endpoint) store true (quiet .«row_bytes») tokens words aborted bytes area scope)))
+
+  by-told : (y : Recovery) (r : RecoveryReply) → Told (replyBy r quiet y tokens words aborted bytes store area)
+  unfolding replyBy doneOf scopedOf
+  by-told y (reply.Error e) = refuses _ (store .rows)
+  by-told y (reply.Done o) = if-by Told _ _ _ (λ n. refuses _ (store .rows))
+      (λ n. concluded-told y o (not-false _ n) _ (applyAll (means y) (quiet .«row_bytes») (returnedOf tokens words) aborted bytes store area) refl refl
+      (idLists (store .rows) (means y) tokens aborted))
+
+  pub recovered-told : (fits : Bool) (r : RecoveryReply) → Told (recoveryReplyOf s fits r tokens words aborted bytes store area)
+  unfolding recoveryReplyOf replyIn replySized
+  recovered-told fits r = go (s .«in_flight»)
+    where
+      go : (f : InFlight) → Told (replyIn f s fits r tokens words aborted bytes store area)
+      go flight.Nothing = refuses _ (store .rows)
+      go (flight.Submission id) = refuses _ (store .rows)
+      go (flight.Poll id) = refuses _ (store .rows)
+      go (flight.Recovery target device endpoint q) =
+          if-by Told _ _ _ (λ n. refuses _ (store .rows))
+          (λ n. if-by Told _ _ _ (λ m. refuses _ (store .rows)) (λ m. by-told (record { target = target; device = device; endpoint = endpoint; kind = q }) r))
+
+-- ---- the report is of the operation that waited
+module _ (s : Session) (store : Store) (tokens words aborted bytes area : List ℕ) (x : AbortReport) where
+  abbrev idle : Session
+  idle = withFlight s flight.Nothing
+
+  abbrev Same : Recovery → Type 0
+  Same y = (y .target ≡ x .target) × (y .device ≡ x .device) × (y .endpoint ≡ x .endpoint)
+
+  concluded-same : (y : Recovery) (o : Outcome) (v : Verdict) (n m : ℕ) (ids : Ids) (rows : List Row)
+      → ofRecovery (concludedBy v idle y o (reportOf y o n m) ids rows .answer) ≡ answer.Recovered x → Same y
+  unfolding concludedBy
+  concluded-same y o (verdict.Refused r) n m ids rows e = no-report r x (Same y) e
+  concluded-same y o verdict.Pass n m ids rows e =
+      let q : reportOf y o n m ≡ x = cc in
+      (ap (λ (z : AbortReport). z .target) q, ap (λ (z : AbortReport). z .device) q, ap (λ (z : AbortReport). z .endpoint) q)
+
+  abbrev SameTo : Recovery → RecoveredTo → Type 0
+  SameTo y o = ofRecovery (o .result .answer) ≡ answer.Recovered x → Same y
+
+  by-same : (y : Recovery) (r : RecoveryReply) → SameTo y (replyBy r idle y tokens words aborted bytes store area)
+  unfolding replyBy doneOf scopedOf
+  by-same y (reply.Error e) = no-report _ x (Same y)
+  by-same y (reply.Done o) = if-by (SameTo y) _ _ _ (λ n. no-report _ x (Same y))
+      (λ n. concluded-same y o _ (length tokens) (length aborted) _ _)
+
+  abbrev Waited : InFlight → Type 0
+  Waited f = (q : RecoveryKind) × (f ≡ flight.Recovery (x .target) (x .device) (x .endpoint) q)
+
+  same-flight : (y : Recovery) (q : RecoveryKind) → Same y → Waited (flight.Recovery (y .target) (y .device) (y .endpoint) q)
+  same-flight y q e = let a = e .0 in let b = e .1 in let c = e .2 in (q, rw (a, b, c))
+
+  pub waited-told : (fits : Bool) (r : RecoveryReply) → ofRecovery (recoveryReplyOf s fits r tokens words aborted bytes store area .result .answer) ≡ answer.Recovered x → Waited (s .«in_flight»)
+  unfolding recoveryReplyOf replyIn replySized
+  waited-told fits r = go (s .«in_flight»)
+    where
+      go : (f : InFlight) → ofRecovery (replyIn f s fits r tokens words aborted bytes store area .result .answer) ≡ answer.Recovered x → Waited f
+      go flight.Nothing = no-report _ x (Waited flight.Nothing)
+      go (flight.Submission id) = no-report _ x (Waited (flight.Submission id))
+      go (flight.Poll id) = no-report _ x (Waited (flight.Poll id))
+      go (flight.Recovery target device endpoint q) =
+          let y : Recovery = record { target = target; device = device; endpoint = endpoint; kind = q } in
+          if-by (λ (o : RecoveredTo). ofRecovery (o .result .answer) ≡ answer.Recovered x → Waited (flight.Recovery target device endpoint q)) _ _ _
+          (λ n. no-report _ x (Waited (flight.Recovery target device endpoint q)))
+          (λ n. if-by (λ (o : RecoveredTo). ofRecovery (o .result .answer) ≡ answer.Recovered x → Waited (flight.Recovery target device endpoint q)) _ _ _
+          (λ m. no-report _ x (Waited (flight.Recovery target device endpoint q))) (λ m e. same-flight y q (by-same y r e)))

@@ -1,0 +1,169 @@
+-- What a recovery's reply leaves of the rows that it does not affect, whatever it is answered. Assumes nothing.
+use Prim.Native.Nat.{ℕ, _*_}
+use mathlib.Core.Path.{_≡_, refl, sym, ap, _∙_}
+use mathlib.Core.Bool.{Bool, true, false, true≢false}
+use mathlib.Core.List.{List, [], _∷_, _++_}
+use lib.ListN.{length, set, take, drop, length-set}
+use lib.Seq.{getD-set-other}
+use borrow.Author.Tests.{not-false}
+use Rattle.chain.proofs.Chain.{if-by}
+use Rattle.words.specs.declared.OptionU32.{OptionU32}
+use Rattle.models.specs.declared.DeviceId.{DeviceId}
+use Rattle.models.specs.declared.Verdict.{Verdict}
+use Rattle.models.specs.declared.Verdict.the-variants as verdict
+use Rattle.rows.specs.Store.{Store, putIn}
+use Rattle.rows.specs.Table.{emptyRow, rowIn}
+use Rattle.rows.specs.declared.Row.{Row}
+use Rattle.ledger.specs.Rules.{changeRow}
+use Rattle.ledger.specs.declared.rules.Change.the-variants as change
+use Rattle.ledger.specs.declared.rules.Step.{Step}
+use Rattle.ledger.specs.declared.rules.Step.the-variants as step
+use Rattle.checks.specs.declared.completion.CompletionTest.{CompletionTest}
+use Rattle.checks.specs.declared.completion.CompletionTest.the-variants as test
+use Rattle.session.specs.declared.InFlight.{InFlight}
+use Rattle.session.specs.declared.InFlight.the-variants as flight
+use Rattle.session.specs.declared.Session.{Session}
+use Rattle.session.specs.Session.{withFlight}
+use Rattle.scope.specs.Affected.{isAffected, affectedOf, tokensOf}
+use Rattle.scope.specs.Scope.{meant, inScope}
+use Rattle.scope.specs.Returned.{Returned, returnedOf}
+use Rattle.recovery.specs.Entries.{WalkTo, rowCompletedBy, testedBy, completeOne, onwardBy, completeAll, AbortTo, abortedBy, abortOne, furtherBy, abortAll}
+use Rattle.recovery.specs.Reply.{RecoveredTo, isWhole, abortsAfter, applyAll, scopedOf, doneOf, replyBy, replySized, replyIn, recoveryReplyOf}
+use Rattle.recovery.specs.declared.Recovery.{Recovery}
+use Rattle.recovery.specs.declared.RecoveryReply.{RecoveryReply}
+use Rattle.recovery.specs.declared.RecoveryReply.the-variants as reply
+use Rattle.history.specs.Claim.{Spared}
+use Rattle.history.proofs.Tokens.{tokensIn, Each, each-first, each-last, scope-each}
+use Rattle.history.proofs.Recovers.{returned-tokens, meant-affected}
+
+-- ---- a walk that changes marked rows only
+module _ (marks : ℕ → Bool) where
+  pub record Spares (rows rows′ : List Row) : Type 0 where
+    pub size : length rows′ ≡ length rows
+    pub row : (i : ℕ) → marks i ≡ false → rowIn rows′ i ≡ rowIn rows i
+
+  none : (rows : List Row) → Spares rows rows
+  none rows = record { size = refl; row = λ i e. refl }
+
+  further : (a b c : List Row) → Spares a b → Spares b c → Spares a c
+  further a b c p q = record { size = q .size ∙ p .size; row = λ i e. q .row i e ∙ p .row i e }
+
+  module _ (p : ℕ) (on : marks p ≡ true) (store : Store) where
+    one-put : (r : Row) → Spares (store .rows) (set (store .rows) p r)
+    one-put r = record {
+      size = length-set (store .rows) p r;
+      row = λ i e. getD-set-other (store .rows) p i r emptyRow (λ z. true≢false (sym on ∙ ap marks (sym z) ∙ e));
+    }
+
+    completed-row : (m : Step) (at room : ℕ) (bytes area : List ℕ) → Spares (store .rows) (rowCompletedBy m p at room bytes store area .store .rows)
+    unfolding rowCompletedBy putIn
+    completed-row (step.Refused r) at room bytes area = none (store .rows)
+    completed-row (step.To next report) at room bytes area = one-put next
+
+    tested-row : (t : CompletionTest) (code : OptionU32) (at room : ℕ) (bytes area : List ℕ) → Spares (store .rows) (testedBy t code p at room bytes store area .store .rows)
+    unfolding testedBy
+    tested-row test.MissingLength code at room bytes area = none (store .rows)
+    tested-row test.Invalid code at room bytes area = none (store .rows)
+    tested-row (test.Valid actual n) code at room bytes area = completed-row (changeRow (rowIn (store .rows) p) (change.Complete actual n)) at room bytes area
+
+    aborted-row : (m : Step) → Spares (store .rows) (abortedBy m p store .store .rows)
+    unfolding abortedBy putIn
+    aborted-row (step.Refused r) = none (store .rows)
+    aborted-row (step.To next report) = one-put next
+
+  module _ (place : ℕ → ℕ) where
+    -- the rows that tokens mean are marked
+    abbrev pub Marked : ℕ → Type 0
+    Marked t = marks (place t) ≡ true
+
+    completions-spare : (room : ℕ) (es : List Returned) (bytes : List ℕ) (store : Store) (area : List ℕ) → Each Marked (tokensIn es)
+        → Spares (store .rows) (completeAll place room es bytes store area .store .rows)
+    unfolding completeOne
+    completions-spare room [] bytes store area a = none (store .rows)
+    completions-spare room (e ∷ es) bytes store area a =
+        let p : ℕ = place (e .token) in
+        let given : List ℕ = take (e .brought .given) bytes in
+        let one : WalkTo = completeOne p (p * room) room (e .brought .completion) given store area in
+        go (one .verdict) one (tested-row p (a .0) store _ (e .brought .completion .«completion_code») (p * room) room given area)
+        (λ s x. completions-spare room es (drop (e .brought .given) bytes) s x (a .1))
+      where
+        go : (v : Verdict) (w : WalkTo) → Spares (store .rows) (w .store .rows)
+            → ((s : Store) (x : List ℕ) → Spares (s .rows) (completeAll place room es (drop (e .brought .given) bytes) s x .store .rows))
+            → Spares (store .rows) (onwardBy v w (λ (s : Store) (x : List ℕ). completeAll place room es (drop (e .brought .given) bytes) s x) .store .rows)
+        go (verdict.Refused r) w q rest = q
+        go verdict.Pass w q rest = further (store .rows) (w .store .rows) _ q (rest (w .store) (w .area))
+
+    aborts-spare : (ts : List ℕ) (store : Store) → Each Marked ts → Spares (store .rows) (abortAll place ts store .store .rows)
+    unfolding abortOne
+    aborts-spare [] store a = none (store .rows)
+    aborts-spare (t ∷ ts) store a =
+        go (abortOne (place t) store .verdict) (abortOne (place t) store) (aborted-row (place t) (a .0) store _) (λ s. aborts-spare ts s (a .1))
+      where
+        go : (v : Verdict) (w : AbortTo) → Spares (store .rows) (w .store .rows) → ((s : Store) → Spares (s .rows) (abortAll place ts s .store .rows))
+            → Spares (store .rows) (furtherBy v w (λ (s : Store). abortAll place ts s) .store .rows)
+        go (verdict.Refused r) w q rest = q
+        go verdict.Pass w q rest = further (store .rows) (w .store .rows) _ q (rest (w .store))
+
+    apply-spares : (room : ℕ) (es : List Returned) (aborted bytes : List ℕ) (store : Store) (area : List ℕ) → Each Marked (tokensIn es ++ aborted)
+        → Spares (store .rows) (applyAll place room es aborted bytes store area .store .rows)
+    unfolding applyAll abortsAfter
+    apply-spares room es aborted bytes store area a =
+        go (completeAll place room es bytes store area .verdict) (completeAll place room es bytes store area)
+        (completions-spare room es bytes store area (each-first Marked (tokensIn es) aborted a))
+      where
+        go : (v : Verdict) (w : WalkTo) → Spares (store .rows) (w .store .rows) → Spares (store .rows) (abortsAfter v w place aborted .store .rows)
+        go (verdict.Refused r) w q = q
+        go verdict.Pass w q =
+            further (store .rows) (w .store .rows) _ q (aborts-spare aborted (w .store) (each-last Marked (tokensIn es) aborted a))
+
+-- ---- in scope, the tokens mean affected rows
+module _ (d : DeviceId) (endpoint : ℕ) (store : Store) where
+  abbrev own : List ℕ
+  own = tokensOf (store .rows) (affectedOf d endpoint (store .rows))
+
+  abbrev place : ℕ → ℕ
+  place t = meant (affectedOf d endpoint (store .rows)) own t
+
+  abbrev affects : ℕ → Bool
+  affects i = isAffected d endpoint (rowIn (store .rows) i)
+
+  pub scope-spares : (whole : Bool) (room : ℕ) (tokens words aborted bytes area : List ℕ) → inScope whole own (tokens ++ aborted) ≡ true
+      → Spares affects (store .rows) (applyAll place room (returnedOf tokens words) aborted bytes store area .store .rows)
+  scope-spares whole room tokens words aborted bytes area s =
+      let ts = returned-tokens tokens words in
+      apply-spares affects place room (returnedOf tokens words) aborted bytes store area
+      (rw ts (scope-each own whole (tokens ++ aborted) s (Marked affects place) (meant-affected d endpoint (store .rows))))
+
+-- ---- the reply
+pub all-spared : (f : InFlight) (rows : List Row) → Spared f rows rows
+all-spared flight.Nothing rows = refl
+all-spared (flight.Submission id) rows = refl
+all-spared (flight.Poll id) rows = refl
+all-spared (flight.Recovery target d endpoint q) rows = record { number = refl; equal = λ i h e. refl }
+
+module _ (s : Session) (store : Store) (tokens words aborted bytes area : List ℕ) where
+  abbrev To : InFlight → RecoveredTo → Type 0
+  To f o = Spared f (store .rows) (o .store .rows)
+
+  by-spares : (x : Recovery) (r : RecoveryReply)
+      → To (flight.Recovery (x .target) (x .device) (x .endpoint) (x .kind)) (replyBy r (withFlight s flight.Nothing) x tokens words aborted bytes store area)
+  unfolding replyBy doneOf scopedOf
+  by-spares x (reply.Error e) = all-spared (flight.Recovery (x .target) (x .device) (x .endpoint) (x .kind)) (store .rows)
+  by-spares x (reply.Done o) =
+      let f = flight.Recovery (x .target) (x .device) (x .endpoint) (x .kind) in
+      if-by (To f) _ _ _ (λ n. all-spared f (store .rows))
+      (λ n. let k = scope-spares (x .device) (x .endpoint) store (isWhole o) (s .«row_bytes») tokens words aborted bytes area (not-false _ n) in
+      record { number = k .size; equal = λ i h e. k .row i e })
+
+  pub reply-spares : (fits : Bool) (r : RecoveryReply) → To (s .«in_flight») (recoveryReplyOf s fits r tokens words aborted bytes store area)
+  unfolding recoveryReplyOf replyIn replySized
+  reply-spares fits r = go (s .«in_flight»)
+    where
+      go : (f : InFlight) → To f (replyIn f s fits r tokens words aborted bytes store area)
+      go flight.Nothing = refl
+      go (flight.Submission id) = refl
+      go (flight.Poll id) = refl
+      go (flight.Recovery target d endpoint q) =
+          let f = flight.Recovery target d endpoint q in
+          if-by (To f) _ _ _ (λ n. all-spared f (store .rows))
+          (λ n. if-by (To f) _ _ _ (λ m. all-spared f (store .rows)) (λ m. by-spares (record { target = target; device = d; endpoint = endpoint; kind = q }) r))

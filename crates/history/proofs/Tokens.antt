@@ -1,0 +1,77 @@
+-- The tokens that a reply returns, and what holds of each of those in scope. Assumes nothing.
+use Prim.Native.Nat.{ℕ}
+use mathlib.Core.Path.{_≡_, refl, sym, ap, _∙_}
+use mathlib.Core.Bool.{Bool, true, false, not, _&&_, _||_, true≢false, false≢true}
+use mathlib.Core.List.{List, [], _∷_, _++_, map}
+use lib.Dec.{eqb}
+use borrow.Author.Tests.{eq-eqb, eqb-true, not-true}
+use Rattle.chain.proofs.Chain.{caseB, both}
+use Rattle.scope.specs.Returned.{Returned}
+use Rattle.scope.specs.Scope.{isIn, eachOnce, allIn, inScope}
+use Rattle.scope.proofs.Scoping.{in-cons}
+
+abbrev pub tokensIn : List Returned → List ℕ
+tokensIn es = map (λ (e : Returned). e .token) es
+
+abbrev pub Each : (ℕ → Type 0) → List ℕ → Type 0
+Each P [] = Unit {0}
+Each P (t ∷ ts) = P t × Each P ts
+
+abbrev pub Distinct : List ℕ → Type 0
+Distinct [] = Unit {0}
+Distinct (t ∷ ts) = (isIn t ts ≡ false) × Distinct ts
+
+pub each-first : (P : ℕ → Type 0) (ts us : List ℕ) → Each P (ts ++ us) → Each P ts
+each-first P [] us a = tt
+each-first P (t ∷ ts) us a = (a .0, each-first P ts us (a .1))
+
+pub each-last : (P : ℕ → Type 0) (ts us : List ℕ) → Each P (ts ++ us) → Each P us
+each-last P [] us a = a
+each-last P (t ∷ ts) us a = each-last P ts us (a .1)
+
+pub distinct-last : (ts us : List ℕ) → Distinct (ts ++ us) → Distinct us
+distinct-last [] us d = d
+distinct-last (t ∷ ts) us d = distinct-last ts us (d .1)
+
+and3 : (a b c : Bool) → (a && b && c) ≡ true → (a ≡ true) × (b ≡ true) × (c ≡ true)
+and3 true true c e = (refl, refl, e)
+and3 true false c e = absurd (false≢true e)
+and3 false b c e = absurd (false≢true e)
+
+-- ---- in scope: each is expected, and came not before
+module _ (own : List ℕ) where
+  each-own : (P : ℕ → Type 0) → ((t : ℕ) → isIn t own ≡ true → P t) → (ts l : List ℕ) → eachOnce own l ts ≡ true → Each P ts
+  each-own P h [] l e = tt
+  each-own P h (t ∷ ts) l e =
+      let p = and3 (isIn t own) (not (isIn t l)) (eachOnce own (t ∷ l) ts) e in
+      (h t (p .0), each-own P h ts (t ∷ l) (p .2))
+
+  apart : (ts l : List ℕ) (u : ℕ) → eachOnce own l ts ≡ true → isIn u l ≡ true → isIn u ts ≡ false
+  apart [] l u e i = refl
+  apart (t ∷ ts) l u e i =
+      let p = and3 (isIn t own) (not (isIn t l)) (eachOnce own (t ∷ l) ts) e in
+      let n : eqb u t ≡ false = caseB (eqb u t)
+      (λ y. let z = eqb-true u t y in absurd (true≢false (sym i ∙ ap (λ (x : ℕ). isIn x l) z ∙ not-true (isIn t l) (p .1))))
+      (λ y. y) in
+      let later : isIn u (t ∷ l) ≡ true = in-cons u t l ∙ rw (n, i) in
+      in-cons u t ts ∙ rw n (apart ts (t ∷ l) u (p .2) later)
+
+  self-in : (t : ℕ) (l : List ℕ) → isIn t (t ∷ l) ≡ true
+  self-in t l = let s = eq-eqb t t refl in in-cons t t l ∙ rw s
+
+  each-apart : (ts l : List ℕ) → eachOnce own l ts ≡ true → Distinct ts
+  each-apart [] l e = tt
+  each-apart (t ∷ ts) l e =
+      let p = and3 (isIn t own) (not (isIn t l)) (eachOnce own (t ∷ l) ts) e in
+      (apart ts (t ∷ l) t (p .2) (self-in t l), each-apart ts (t ∷ l) (p .2))
+
+  module _ (whole : Bool) (ts : List ℕ) (scope : inScope whole own ts ≡ true) where
+    once : eachOnce own [] ts ≡ true
+    unfolding inScope
+    once = both (eachOnce own [] ts) (not whole || allIn own ts) scope .0
+
+    pub scope-each : (P : ℕ → Type 0) → ((t : ℕ) → isIn t own ≡ true → P t) → Each P ts
+    scope-each P h = each-own P h ts [] once
+
+    pub scope-distinct : Distinct ts
+    scope-distinct = each-apart ts [] once

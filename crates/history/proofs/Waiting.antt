@@ -1,0 +1,165 @@
+-- No row changes between a recovery's start and the reply that ends it. Assumes nothing.
+use Prim.Native.Nat.{ℕ}
+use mathlib.Core.Bool.{Bool, cond, false, _&&_, true≢false}
+use mathlib.Core.List.{List, [], _∷_, _++_}
+use mathlib.Core.Path.{_≡_, refl, sym, ap, _∙_, subst}
+use native.Mathlib.Omega.{arith}
+use Rattle.chain.specs.Chain.{_if_else_}
+use Rattle.chain.proofs.Chain.{if-by}
+use Rattle.models.specs.declared.RequestId.{RequestId}
+use Rattle.rows.specs.Store.{Store}
+use Rattle.session.specs.Session.{isBusy}
+use Rattle.session.specs.Lifecycle.{acquireOf, initializeOf, closeOf}
+use Rattle.session.specs.Place.{placed, setDeviceOf, setPortOf, setEndpointsOf, setReconcileOf}
+use Rattle.session.specs.declared.InFlight.{InFlight}
+use Rattle.session.specs.declared.InFlight.the-variants as flight
+use Rattle.session.specs.declared.RecoveryKind.{RecoveryKind}
+use Rattle.session.specs.declared.Session.{Session}
+use Rattle.session.specs.declared.lifecycle.Opening.{Opening}
+use Rattle.submissions.specs.Submit.{readyOf, submitBy, submitOf, planBy, submitPlanOf}
+use Rattle.submissions.specs.Reply.{submitReplyIn, submitReplyOf}
+use Rattle.polls.specs.Poll.{pollOf}
+use Rattle.polls.specs.Finish.{finishIn, finishOf}
+use Rattle.reports.specs.Change.{changeOf}
+use Rattle.recovery.specs.Begin.{beginOf}
+use Rattle.recovery.specs.Reply.{RecoveredTo, replySized, replyIn, recoveryReplyOf}
+use Rattle.recovery.specs.declared.Recovery.{Recovery}
+use Rattle.recovery.specs.declared.RecoveryReply.{RecoveryReply}
+use Rattle.calls.specs.Answers.{ofBegin, ofRecovery}
+use Rattle.calls.specs.Calls.{Call, Open, SetDevice, SetPort, SetEndpoints, SetReconcile, Acquire, Initialize, Close, Submit, SubmitPlan, ReplySubmit, Poll, ReplyPoll, AbortRequest, ResetEndpoint, ReplyRecovery, Cancel, Timeout, Reclaim, Status, Reports, CountReports, CompletedBytes, HeldCount, HeldBytes}
+use Rattle.calls.specs.Step.{World, After, world, stepOf, places, moves, closes, submits, plans, reports, polls, finishes, begins, recovers, rowsFitIn, areaFitsIn}
+use Rattle.calls.specs.declared.Answer.the-variants as answer
+use Rattle.history.specs.Run.{Handed, Event, next, leftBy, endOf, answerTo, historyOf, isOpening, Handing, Follows, Fresh}
+use Rattle.history.specs.Journal.{Entry, Journal, isRecovering, endsBy, recoveryWaits, journalOf, blank}
+use Rattle.history.specs.Claim as claim
+use Rattle.history.proofs.Handings.{by-handed, follows-at, follows-front, follows-on, fresh-front}
+use Rattle.history.proofs.Led.{Led}
+use Rattle.history.proofs.Keeps.{begin-kept, begin-names}
+use Rattle.history.proofs.Never.{reply-ends}
+use Rattle.history.proofs.Theorem.{opened-holds, run-kept, start-step}
+
+-- ---- a call while a recovery waits
+module _ (w : World) (entries : List Entry) (k : Led (w .store .rows) entries) (x : Recovery)
+    (own : w .session .«in_flight» ≡ flight.Recovery (x .target) (x .device) (x .endpoint) (x .kind)) where
+  abbrev Same : After → Type 0
+  Same a = next a ≡ w
+
+  -- 1
+  refused-1 : {O : Type 0} (P : O → Type 0) (a b : O) → P a → P (a if isBusy (w .session .«in_flight») else b)
+  refused-1 P a b h = if-by P a (isBusy (w .session .«in_flight»)) b (λ y. h) (λ y. absurd (true≢false (sym (ap isBusy own) ∙ y)))
+
+  -- its own reply, refused by 3 or 49
+  module _ (r : RecoveryReply) (tokens words aborted bytes : List ℕ) where
+    abbrev Waits : RecoveredTo → Type 0
+    Waits o = endsBy (ofRecovery (o .result .answer)) ≡ false → Same (recovers o w)
+
+    reply-same : (fits : Bool) → Waits (recoveryReplyOf (w .session) fits r tokens words aborted bytes (w .store) (w .area))
+    unfolding recoveryReplyOf replyIn replySized
+    reply-same fits =
+        subst (λ (f : InFlight). Waits (replyIn f (w .session) fits r tokens words aborted bytes (w .store) (w .area))) (sym own)
+        (if-by Waits _ _ _ (λ y e. refl)
+        (λ y. if-by Waits _ _ _ (λ z e. refl)
+        (λ z e. absurd (true≢false (sym (reply-ends (w .session) (w .store) entries k tokens words aborted bytes (w .area) x r) ∙ e)))))
+
+  pub stays : (c : Call) → isOpening c ≡ false
+      → ((r : RecoveryReply) (tokens words aborted bytes : List ℕ) → c ≡ ReplyRecovery r tokens words aborted bytes → endsBy (stepOf c w .result .answer) ≡ false) → Same (stepOf c w)
+  unfolding stepOf setDeviceOf setPortOf setEndpointsOf setReconcileOf placed acquireOf initializeOf closeOf submitOf submitPlanOf submitBy planBy readyOf submitReplyOf submitReplyIn pollOf finishOf finishIn beginOf changeOf
+  stays (Open o) f n = absurd (true≢false f)
+  stays (SetDevice d) f n = refused-1 (λ o. Same (places o w)) _ _ refl
+  stays (SetPort number row) f n = refused-1 (λ o. Same (places o w)) _ _ refl
+  stays (SetEndpoints slot list) f n = refused-1 (λ o. Same (places o w)) _ _ refl
+  stays (SetReconcile slot mark) f n = refused-1 (λ o. Same (places o w)) _ _ refl
+  stays (Acquire reply) f n = refused-1 (λ o. Same (moves o (w .store) w)) _ _ refl
+  stays (Initialize reply) f n = refused-1 (λ o. Same (moves o (w .store) w)) _ _ refl
+  stays (Close fresh reply) f n = refused-1 (λ o. Same (closes o w)) _ _ refl
+  stays (Submit q bytes given packets first second) f n =
+      refused-1 (λ v. Same (submits (submitBy v (w .session) q bytes given packets first second (w .bus) (w .store) (w .area)))) _ _ refl
+  stays (SubmitPlan q bytes first) f n = refused-1 (λ v. Same (plans (planBy v (w .session) q bytes first (w .bus) (w .store) (w .area)))) _ _ refl
+  stays (ReplySubmit reply) f n = subst (λ (g : InFlight). Same (reports (submitReplyIn g (rowsFitIn w) reply (w .session) (w .store)) w)) (sym own) refl
+  stays (Poll id) f n = refused-1 (λ o. Same (polls o w)) _ _ refl
+  stays (ReplyPoll reply bytes) f n = subst (λ (g : InFlight). Same (finishes (finishIn g (w .session) (rowsFitIn w && areaFitsIn w) reply bytes (w .store) (w .area)) w)) (sym own) refl
+  stays (AbortRequest id) f n = refused-1 (λ o. Same (begins o w)) _ _ refl
+  stays (ResetEndpoint id preserve) f n = refused-1 (λ o. Same (begins o w)) _ _ refl
+  stays (ReplyRecovery r tokens words aborted bytes) f n = reply-same r tokens words aborted bytes _ (n r tokens words aborted bytes refl)
+  stays (Cancel id) f n = refused-1 (λ o. Same (reports o w)) _ _ refl
+  stays (Timeout id) f n = refused-1 (λ o. Same (reports o w)) _ _ refl
+  stays (Reclaim id) f n = refused-1 (λ o. Same (reports o w)) _ _ refl
+  stays (Status id) f n = refl
+  stays (Reports from) f n = refl
+  stays CountReports f n = refl
+  stays (CompletedBytes id) f n = refl
+  stays HeldCount f n = refl
+  stays HeldBytes f n = refl
+
+-- ---- a list of calls while it waits
+-- no reply of a recovery ends its operation
+abbrev pub Unended : World → List Event → Type 0
+Unended w es = (before after : List Event) (h : Handed) (r : RecoveryReply) (tokens words aborted bytes : List ℕ)
+    → es ≡ before ++ (claim.recovers r tokens words aborted bytes h ∷ after) → endsBy (answerTo (endOf w before) (claim.recovers r tokens words aborted bytes h)) ≡ false
+
+-- the session and the rows are the same
+abbrev pub Kept : World → World → Type 0
+Kept w v = (v .session ≡ w .session) × (v .store ≡ w .store)
+
+abbrev InFlightIs : World → Recovery → Type 0
+InFlightIs w x = w .session .«in_flight» ≡ flight.Recovery (x .target) (x .device) (x .endpoint) (x .kind)
+
+event-stays : (h : Handed) (c : Call) (w : World) (entries : List Entry) → Led (w .store .rows) entries → (x : Recovery) → InFlightIs w x → Handing h c
+    → ((r : RecoveryReply) (tokens words aborted bytes : List ℕ) → c ≡ ReplyRecovery r tokens words aborted bytes → endsBy (answerTo w (record { call = c; handed = h })) ≡ false)
+    → Kept w (leftBy h c w)
+event-stays h c w entries k x own f =
+    by-handed h c w
+    (λ a v. ((r : RecoveryReply) (tokens words aborted bytes : List ℕ) → c ≡ ReplyRecovery r tokens words aborted bytes → endsBy a ≡ false) → Kept w v) f
+    (λ first bus area n. let e = stays (world (w .session) bus (w .store) area) entries k x own c first n in (ap (λ (v : World). v .session) e, ap (λ (v : World). v .store) e))
+    (λ n. (refl, refl))
+
+waits-on : (es : List Event) (w : World) (entries : List Entry) → Led (w .store .rows) entries → (x : Recovery) → InFlightIs w x → Follows es → Unended w es
+    → Kept w (endOf w es)
+waits-on [] w entries k x own f n = (refl, refl)
+waits-on (e ∷ es) w entries k x own f n =
+    let v : World = leftBy (e .handed) (e .call) w in
+    let one = event-stays (e .handed) (e .call) w entries k x own (f .0)
+    (λ r tokens words aborted bytes is. ap (λ (c : Call). endsBy (answerTo w (record { call = c; handed = e .handed }))) is
+    ∙ n [] es (e .handed) r tokens words aborted bytes (ap (λ (c : Call). record { call = c; handed = e .handed } ∷ es) is)) in
+    let rest = waits-on es v entries (subst (λ (s : Store). Led (s .rows) entries) (sym (one .1)) k) x
+    (ap (λ (s : Session). s .«in_flight») (one .0) ∙ own) (f .1)
+    (λ before after h r tokens words aborted bytes is. n (e ∷ before) after h r tokens words aborted bytes (ap (λ (l : List Event). e ∷ l) is)) in
+    (rest .0 ∙ one .0, rest .1 ∙ one .1)
+
+-- ---- from the start on
+end-append : (w : World) (a b : List Event) → endOf w (a ++ b) ≡ endOf (endOf w a) b
+end-append w [] b = refl
+end-append w (e ∷ a) b = end-append (leftBy (e .handed) (e .call) w) a b
+
+module _ (o : Opening) (w : World) (pass : stepOf (Open o) w .result .answer ≡ answer.Pass) (before more : List Event) (q : RecoveryKind) (id : RequestId)
+    (h : Handed) (x : Recovery) where
+  abbrev start : World
+  start = next (stepOf (Open o) w)
+
+  abbrev mid : World
+  mid = endOf start before
+
+  abbrev all : List Event
+  all = before ++ (claim.starts q id h ∷ more)
+
+  -- the rows after `more` are those before the start
+  pub start-unchanged : answerTo mid (claim.starts q id h) ≡ answer.Recovering x → Follows all → Fresh (o .session ∷ []) all → Unended (leftBy h (claim.startOf q id) mid) more
+      → claim.rowsAfter start all ≡ claim.rowsAfter start before
+  start-unchanged a follows fresh unended =
+      let e : Event = claim.starts q id h in
+      let j : Journal = journalOf (historyOf start before) blank in
+      let run = run-kept before start blank (o .session ∷ []) (opened-holds o w pass) (follows-front before (e ∷ more) follows) (fresh-front (o .session ∷ []) before (e ∷ more) fresh) in
+      let one = by-handed h (claim.startOf q id) mid (λ y v. y ≡ answer.Recovering x → (v .store ≡ mid .store) × InFlightIs v x) (follows-at before more e follows)
+      (λ first bus area y.
+      let v = world (mid .session) bus (mid .store) area in
+      let s = start-step q id v in
+      let b : ofBegin (beginOf (mid .session) (rowsFitIn v) id q (mid .store .rows) .answer) ≡ answer.Recovering x = sym (ap (λ (z : After). z .result .answer) s) ∙ y in
+      let agree = subst (λ (c : Bool). (cond c (recoveryWaits id q j) j) .waiting ≡ beginOf (mid .session) (rowsFitIn v) id q (mid .store .rows) .session .«in_flight») (ap isRecovering b)
+      (begin-kept (mid .session) j (run .0) (mid .store) (run .1) (rowsFitIn v) id q .agree) in (
+        ap (λ (z : After). z .store) s,
+        ap (λ (z : After). z .result .session .«in_flight») s ∙ sym (begin-names (mid .session) j (run .0) (mid .store) (run .1) x (rowsFitIn v) id q b ∙ agree),
+      ))
+      (λ y. let z : _≡_ {A = ℕ} 0 1 = cc in absurd (omega arith)) a in
+      let rest = waits-on more (leftBy h (claim.startOf q id) mid) (j .entries) (subst (λ (s : Store). Led (s .rows) (j .entries)) (sym (one .0)) (run .1 .led)) x (one .1)
+      (follows-on before more e follows) unended in
+      ap (λ (v : World). v .store .rows) (end-append start before (e ∷ more)) ∙ ap (λ (s : Store). s .rows) (rest .1 ∙ one .0)

@@ -1,0 +1,70 @@
+-- One law for each way out of a poll: its premises are the facts in hand there. Assumes nothing.
+use Prim.Native.Nat.{ℕ}
+use mathlib.Core.Bool.{Bool, true, false, not}
+use mathlib.Core.List.{List}
+use mathlib.Core.Path.{_≡_, sym, _∙_}
+use lib.ListN.{getD}
+use Rattle.chain.specs.Lists.{foundIn}
+use Rattle.chain.specs.declared.Found.{Found}
+use Rattle.chain.specs.declared.Found.the-variants as found
+use Rattle.chain.proofs.Chain.{takes, passes, through, not-through}
+use Rattle.models.specs.Refusals.{validation}
+use Rattle.models.specs.Requests.{isPending}
+use Rattle.models.specs.declared.Refusal.{Refusal}
+use Rattle.models.specs.declared.RequestId.{RequestId}
+use Rattle.models.specs.declared.RequestReport.{RequestReport}
+use Rattle.rows.specs.Table.{emptyRow}
+use Rattle.rows.specs.declared.Row.{Row}
+use Rattle.ledger.specs.Rules.{reportOf}
+use Rattle.ledger.specs.Search.{isAt}
+use Rattle.session.specs.Session.{isBusy, isInitialized, withFlight}
+use Rattle.session.specs.declared.InFlight.the-variants as flight
+use Rattle.session.specs.declared.Session.{Session}
+use Rattle.polls.specs.Poll.{pollRefused, pollRow, pollBy, pollOf}
+use Rattle.polls.specs.declared.PollAnswer.{PollAnswer}
+use Rattle.polls.specs.declared.PollAnswer.the-variants as poll
+use Rattle.polls.specs.declared.Polled.{Polled}
+
+abbrev pub polledAs : PollAnswer → Session → Polled
+polledAs a s = record { answer = a; session = s }
+
+-- a refusal by its number
+module _ (s : Session) (n : ℕ) (r : Refusal) (e : r ≡ validation n) where
+  pub poll-number : pollRefused s r ≡ pollRefused s (validation n)
+  poll-number = rw e
+
+-- the row of a poll
+module _ (s : Session) (row : Row) (id : RequestId) (p : Bool) (ep : p ≡ isPending (row .state)) where
+  pub row-told : (x : RequestReport) → not p ≡ true → x ≡ reportOf row → polledAs (poll.Report x) s ≡ pollRow s row id
+  unfolding pollRow
+  row-told x t e = takes Polled _ _ _ _ (not-through p _ true ep t) (rw e)
+
+  module _ (np : not p ≡ false) (b : Bool) (eb : b ≡ isInitialized (s .state)) where
+    pub row-early : (x : Polled) → not b ≡ true → x ≡ pollRefused s (validation 28) → x ≡ pollRow s row id
+    unfolding pollRow
+    row-early x t e = passes Polled _ _ _ _ (not-through p _ false ep np) (takes Polled _ _ _ _ (not-through b _ true eb t) e)
+
+    pub row-asked : (next : Session) → not b ≡ false → next ≡ withFlight s (flight.Poll id) → polledAs (poll.Asked (row .token)) next ≡ pollRow s row id
+    unfolding pollRow
+    row-asked next t e = passes Polled _ _ _ _ (not-through p _ false ep np) (passes Polled _ _ _ _ (not-through b _ false eb t) (rw e))
+
+-- a poll
+module _ (s : Session) (fits : Bool) (id : RequestId) (rows : List Row) (x : Polled) (b : Bool) (eb : b ≡ isBusy (s .«in_flight»)) where
+  pub poll-busy : b ≡ true → x ≡ pollRefused s (validation 1) → x ≡ pollOf s fits id rows
+  unfolding pollOf
+  poll-busy t e = takes Polled _ _ _ _ (through b _ true eb t) e
+
+  module _ (nb : b ≡ false) (f : Bool) (ef : f ≡ fits) where
+    pub poll-unfit : not f ≡ true → x ≡ pollRefused s (validation 3) → x ≡ pollOf s fits id rows
+    unfolding pollOf
+    poll-unfit t e = passes Polled _ _ _ _ (through b _ false eb nb) (takes Polled _ _ _ _ (not-through f _ true ef t) e)
+
+    module _ (nf : not f ≡ false) (g : Found) (eg : g ≡ foundIn (isAt id) rows) where
+      pub poll-none : g ≡ found.Nothing → x ≡ pollRefused s (validation 40) → x ≡ pollOf s fits id rows
+      unfolding pollOf pollBy
+      poll-none t e = passes Polled _ _ _ _ (through b _ false eb nb) (passes Polled _ _ _ _ (not-through f _ false ef nf) (e ∙ rw (sym eg ∙ t)))
+
+      pub poll-at : (i : ℕ) (row : Row) → g ≡ found.At i → row ≡ getD rows i emptyRow → x ≡ pollRow s row id → x ≡ pollOf s fits id rows
+      unfolding pollOf pollBy
+      poll-at i row t er e =
+          passes Polled _ _ _ _ (through b _ false eb nb) (passes Polled _ _ _ _ (not-through f _ false ef nf) (e ∙ rw (sym eg ∙ t, er)))

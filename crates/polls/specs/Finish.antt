@@ -1,0 +1,152 @@
+-- The backend's reply to a poll (document 01, "Request row"). Assumes nothing.
+use Prim.Native.Nat.{ℕ, _*_}
+use mathlib.Core.Bool.{Bool, true, false, not, _&&_}
+use mathlib.Core.List.{List}
+use lib.ListN.{length, getD}
+use Rattle.chain.specs.Chain.{_if_else_}
+use Rattle.chain.specs.Lists.{foundIn}
+use Rattle.chain.specs.declared.Found.{Found}
+use Rattle.chain.specs.declared.Found.the-variants as found
+use Rattle.words.specs.Records.{spliceCut}
+use Rattle.words.specs.declared.OptionU32.{OptionU32}
+use Rattle.words.specs.declared.OptionU32.the-variants as u32
+use Rattle.words.specs.declared.OptionU64.{OptionU64}
+use Rattle.words.specs.declared.OptionU64.the-variants as u64
+use Rattle.models.specs.Refusals.{validation, fromBackend, invalidCompletion}
+use Rattle.models.specs.declared.BackendCompletion.{BackendCompletion}
+use Rattle.models.specs.declared.ErrorCategory.{ErrorCategory}
+use Rattle.models.specs.declared.ErrorCategory.the-variants as category
+use Rattle.models.specs.declared.OperationError.{OperationError}
+use Rattle.models.specs.declared.OptionError.{OptionError}
+use Rattle.models.specs.declared.OptionError.the-variants as error
+use Rattle.models.specs.declared.RequestId.{RequestId}
+use Rattle.models.specs.declared.RequestMetadata.{RequestMetadata}
+use Rattle.standards.specs.Completion.{isStall}
+use Rattle.rows.specs.Table.{emptyRow}
+use Rattle.rows.specs.Store.{Store, putIn}
+use Rattle.rows.specs.declared.Row.{Row}
+use Rattle.ledger.specs.Rules.{changeRow, reportOf}
+use Rattle.ledger.specs.Search.{isAt}
+use Rattle.ledger.specs.declared.rules.Change.the-variants as change
+use Rattle.ledger.specs.declared.rules.Step.{Step}
+use Rattle.ledger.specs.declared.rules.Step.the-variants as step
+use Rattle.checks.specs.Completion.{testCompletion}
+use Rattle.checks.specs.declared.completion.CompletionTest.{CompletionTest}
+use Rattle.checks.specs.declared.completion.CompletionTest.the-variants as test
+use Rattle.session.specs.Session.{marked, withFlight, withStall}
+use Rattle.session.specs.declared.InFlight.{InFlight}
+use Rattle.session.specs.declared.InFlight.the-variants as flight
+use Rattle.session.specs.declared.OptionStall.{OptionStall}
+use Rattle.session.specs.declared.OptionStall.the-variants as stall
+use Rattle.session.specs.declared.Session.{Session}
+use Rattle.reports.specs.Answers.{effect, reportRefused}
+use Rattle.polls.specs.declared.PollReply.{PollReply}
+use Rattle.polls.specs.declared.PollReply.the-variants as reply
+use Rattle.reports.specs.declared.Reported.{Reported}
+use Rattle.reports.specs.declared.ReportAnswer.the-variants as report
+use Rattle.polls.specs.declared.finish.Judgement.{Judgement}
+
+abbrev pub isRecovery : ErrorCategory → Bool
+isRecovery category.Validation = false
+isRecovery category.Unsupported = false
+isRecovery category.OperatingSystem = false
+isRecovery category.Controller = false
+isRecovery category.Timeout = false
+isRecovery category.Disconnect = false
+isRecovery category.RecoveryRequired = true
+
+abbrev pub codeIsStall : OptionU32 → Bool
+codeIsStall u32.None = false
+codeIsStall (u32.Some code) = isStall code
+
+-- both codes are 6 and the category is RecoveryRequired
+abbrev pub isScopedStall : BackendCompletion → OperationError → Bool
+isScopedStall c e = codeIsStall (c .«completion_code») && codeIsStall (e .«completion_code») && isRecovery (e .category)
+
+-- document 01's stall note: revision, device, endpoint; none where the revision is
+unfoldable pub stallOf : OptionU64 → RequestMetadata → Bool → OptionStall
+stallOf u64.None m scoped = stall.None
+stallOf (u64.Some revision) m scoped =
+    stall.None if not scoped else
+    stall.Some (record { revision = revision; device = m .device; endpoint = m .endpoint })
+
+-- with an error: Failed; if not quiescent, a mark, and the stall note is kept (with the raised revision) or dropped
+unfoldable pub failedAs : Session → Row → BackendCompletion → OperationError → Judgement
+failedAs s row c e =
+    record { change = change.Fail e (c .«completion_code») (c .quiescent); session = s; stored = false } if c .quiescent else
+    record {
+      change = change.Fail e (c .«completion_code») (c .quiescent);
+      session = withStall (marked s) (stallOf (marked s .«recovery_revision») (row .metadata) (isScopedStall c e));
+      stored = false;
+    }
+
+-- not valid: Failed, not quiescent, message 48 with the completion's code, a mark, the stall note untouched
+unfoldable pub invalidAs : Session → BackendCompletion → Judgement
+invalidAs s c = record {
+  change = change.Fail (invalidCompletion (c .«completion_code») .error) (c .«completion_code») false;
+  session = marked s;
+  stored = false;
+}
+
+unfoldable pub judgedTest : CompletionTest → Session → BackendCompletion → Judgement
+judgedTest (test.Valid actual code) s c = record { change = change.Complete actual code; session = s; stored = true }
+judgedTest test.MissingLength s c = invalidAs s c
+judgedTest test.Invalid s c = invalidAs s c
+
+unfoldable pub judgedBy : OptionError → Session → Row → BackendCompletion → ℕ → Judgement
+judgedBy (error.Some e) s row c given = failedAs s row c e
+judgedBy error.None s row c given = judgedTest (testCompletion c given (row .metadata .«requested_length»)) s c
+
+unfoldable pub judged : Session → Row → BackendCompletion → ℕ → Judgement
+judged s row c given = judgedBy (c .error) s row c given
+
+-- the answer with its session, and the store and the area after it
+pub record FinishTo : Type 0 where
+  pub result : Reported
+  pub store : Store
+  pub area : List ℕ
+
+abbrev pub finishTo : Reported → Store → List ℕ → FinishTo
+finishTo r store area = record { result = r; store = store; area = area }
+
+-- a valid completion's data overwrites the first of the row's bytes only, cut at the row's end
+unfoldable pub storedIn : ℕ → ℕ → List ℕ → Bool → List ℕ → List ℕ
+storedIn at room bytes stored area = spliceCut at room bytes area if stored else area
+
+-- the row takes the change; one that is not Pending, which no call leads to, is 41 and nothing else happens
+unfoldable pub settled : Step → Judgement → Session → ℕ → ℕ → ℕ → List ℕ → Store → List ℕ → FinishTo
+settled (step.Refused r) j idle i at room bytes store area = finishTo (reportRefused idle r) store area
+settled (step.To next x) j idle i at room bytes store area =
+    finishTo (record { answer = report.Report x; session = j .session }) (putIn store i next) (storedIn at room bytes (j .stored) area)
+
+-- by the reply; `idle` is the session without the poll. 45: a backend's error leaves the row Pending
+unfoldable pub finishAt : PollReply → Session → ℕ → ℕ → ℕ → List ℕ → Store → List ℕ → FinishTo
+finishAt reply.Nothing idle i at room bytes store area =
+    finishTo (record { answer = report.Report (reportOf (getD (store .rows) i emptyRow)); session = idle }) store area
+finishAt (reply.Error e) idle i at room bytes store area = finishTo (reportRefused (effect e idle) (fromBackend 45 e)) store area
+finishAt (reply.Completion c) idle i at room bytes store area =
+    settled
+    (changeRow (getD (store .rows) i emptyRow) (judged idle (getD (store .rows) i emptyRow) c (length bytes) .change))
+    (judged idle (getD (store .rows) i emptyRow) c (length bytes))
+    idle i at room bytes store area
+
+-- 2: no row has the id
+unfoldable pub finishBy : Found → Session → PollReply → List ℕ → Store → List ℕ → FinishTo
+finishBy found.Nothing s x bytes store area = finishTo (reportRefused s (validation 2)) store area
+finishBy (found.At i) s x bytes store area = finishAt x (withFlight s flight.Nothing) i (i * s .«row_bytes») (s .«row_bytes») bytes store area
+
+-- 3
+unfoldable pub finishFound : Session → Bool → RequestId → PollReply → List ℕ → Store → List ℕ → FinishTo
+finishFound s fits id x bytes store area =
+    finishTo (reportRefused s (validation 3)) store area if not fits else
+    finishBy (foundIn (isAt id) (store .rows)) s x bytes store area
+
+-- 2: its kind is not in flight
+unfoldable pub finishIn : InFlight → Session → Bool → PollReply → List ℕ → Store → List ℕ → FinishTo
+finishIn flight.Nothing s fits x bytes store area = finishTo (reportRefused s (validation 2)) store area
+finishIn (flight.Submission id) s fits x bytes store area = finishTo (reportRefused s (validation 2)) store area
+finishIn (flight.Recovery target device endpoint kind) s fits x bytes store area = finishTo (reportRefused s (validation 2)) store area
+finishIn (flight.Poll id) s fits x bytes store area = finishFound s fits id x bytes store area
+
+unfoldable pub finishOf : Session → Bool → PollReply → List ℕ → Store → List ℕ → FinishTo
+finishOf s fits x bytes store area = finishIn (s .«in_flight») s fits x bytes store area

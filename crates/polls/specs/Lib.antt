@@ -1,0 +1,2 @@
+pub mod Poll
+pub mod Finish

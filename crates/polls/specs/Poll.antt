@@ -1,0 +1,43 @@
+-- Polling a request (document 01, "Request row", and the place poll, recovery start). Assumes nothing.
+use mathlib.Core.Bool.{Bool, not}
+use mathlib.Core.List.{List}
+use lib.ListN.{getD}
+use Rattle.chain.specs.Chain.{_if_else_}
+use Rattle.chain.specs.Lists.{foundIn}
+use Rattle.chain.specs.declared.Found.{Found}
+use Rattle.chain.specs.declared.Found.the-variants as found
+use Rattle.models.specs.Refusals.{validation}
+use Rattle.models.specs.Requests.{isPending}
+use Rattle.models.specs.declared.Refusal.{Refusal}
+use Rattle.models.specs.declared.RequestId.{RequestId}
+use Rattle.rows.specs.Table.{emptyRow}
+use Rattle.rows.specs.declared.Row.{Row}
+use Rattle.ledger.specs.Rules.{reportOf}
+use Rattle.ledger.specs.Search.{isAt}
+use Rattle.session.specs.Session.{isBusy, isInitialized, withFlight}
+use Rattle.session.specs.declared.InFlight.the-variants as flight
+use Rattle.session.specs.declared.Session.{Session}
+use Rattle.polls.specs.declared.PollAnswer.the-variants as poll
+use Rattle.polls.specs.declared.Polled.{Polled}
+
+abbrev pub pollRefused : Session → Refusal → Polled
+pollRefused s r = record { answer = poll.Refused r; session = s }
+
+-- a row that isn't Pending is reported in any controller state; 28; else in flight, with its token
+unfoldable pub pollRow : Session → Row → RequestId → Polled
+pollRow s r id =
+    record { answer = poll.Report (reportOf r); session = s } if not (isPending (r .state)) else
+    pollRefused s (validation 28) if not (isInitialized (s .state)) else
+    record { answer = poll.Asked (r .token); session = withFlight s (flight.Poll id) }
+
+-- 40
+unfoldable pub pollBy : Found → Session → RequestId → List Row → Polled
+pollBy found.Nothing s id rows = pollRefused s (validation 40)
+pollBy (found.At i) s id rows = pollRow s (getD rows i emptyRow) id
+
+-- 1, 3
+unfoldable pub pollOf : Session → Bool → RequestId → List Row → Polled
+pollOf s fits id rows =
+    pollRefused s (validation 1) if isBusy (s .«in_flight») else
+    pollRefused s (validation 3) if not fits else
+    pollBy (foundIn (isAt id) rows) s id rows

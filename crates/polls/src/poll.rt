@@ -1,0 +1,66 @@
+// Polling a request.
+use crate::PollAnswer;
+use crate::Polled;
+use chain::Found;
+use ledger::rules;
+use ledger::search;
+use models::RequestId;
+use rows::Row;
+use session::InFlight;
+use session::Session;
+use session::sizes;
+ghost use mathlib.Core.Path.{_≡_};
+ghost use lib.ListN.{length};
+ghost use Rattle.models.specs.Refusals.{validation};
+ghost use Rattle.rows.specs.Table.{rowsOf};
+ghost use Rattle.session.specs.Sizes.{rowsFit};
+ghost use Rattle.polls.specs.Poll.{pollRefused, pollRow, pollOf};
+
+fn poll_refused(session: Session, number: u16) -> Polled
+    ensures { λ r. ⌜ r ≡ pollRefused session (validation number) ⌝ }
+{
+    Polled {
+        answer: PollAnswer::Refused(models::refuse_validation(number)),
+        session,
+    }
+}
+
+// A row that is not Pending is reported in any controller state; 28: not Initialized; else its token is to be asked for.
+fn poll_row(session: Session, row: Row, id: RequestId) -> Polled
+    ensures { λ r. ⌜ r ≡ pollRow session row id ⌝ }
+{
+    let state = row.state;
+    let controller = session.state;
+    if !models::is_pending(state) {
+        return Polled {
+            answer: PollAnswer::Report(rules::report_of(row)),
+            session,
+        };
+    }
+    if !session::is_initialized(controller) {
+        return poll_refused(session, 28);
+    }
+    Polled {
+        answer: PollAnswer::Asked(row.token),
+        session: session::with_flight(session, InFlight::Poll(id)),
+    }
+}
+
+// 1, 3, 40, then by the row.
+pub fn poll_request(session: Session, rows: &[u64], id: RequestId) -> Polled
+    ensures { λ r. ⌜ r ≡ pollOf session (rowsFit (session .«row_count») (session .«row_bytes») (length (now (rows .entry)))) id (rowsOf (now (rows .entry))) ⌝ }
+{
+    let flight = session.in_flight;
+    if session::is_busy(flight) {
+        return poll_refused(session, 1);
+    }
+    if !sizes::rows_fit(session.row_count, session.row_bytes, rows.len()) {
+        return poll_refused(session, 3);
+    }
+    let found = search::find(rows, id);
+    let Found::At(i) = found else {
+        return poll_refused(session, 40);
+    };
+    let row = rows::read_row(rows, i);
+    poll_row(session, row, id)
+}

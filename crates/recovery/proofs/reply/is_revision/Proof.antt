@@ -1,0 +1,13 @@
+use borrow.Author.Needs.{needs}
+use Rattle.recovery.proofs.Recovering.{revision-some}
+use Rattle.recovery.proofs.reply.is_revision.Statement.{statement}
+use Rattle.recovery.proofs.reply.is_revision.Tie as tie
+
+pub is-revision-spec : {M : Type 1} → statement M
+is-revision-spec =
+    tie.close
+    (tie.spec
+    (λ c. search needs)
+    (λ c. search needs)
+    (λ c. search needs)
+    (λ c. search revision-some))

@@ -1,0 +1,57 @@
+-- A recovery's start (document 01, the place poll, recovery start, and "Abort report"). Assumes nothing.
+use mathlib.Core.Bool.{Bool, not}
+use mathlib.Core.List.{List}
+use lib.ListN.{length, getD, replicate}
+use Rattle.chain.specs.Chain.{_if_else_}
+use Rattle.chain.specs.Lists.{foundIn, listed}
+use Rattle.chain.specs.declared.Found.{Found}
+use Rattle.chain.specs.declared.Found.the-variants as found
+use Rattle.models.specs.Refusals.{validation}
+use Rattle.models.specs.Requests.{deviceMayAccess}
+use Rattle.models.specs.declared.Refusal.{Refusal}
+use Rattle.models.specs.declared.RequestId.{RequestId}
+use Rattle.rows.specs.Table.{emptyRow}
+use Rattle.rows.specs.declared.Row.{Row}
+use Rattle.ledger.specs.Search.{isAt}
+use Rattle.session.specs.Session.{isBusy, mayRecover, withFlight}
+use Rattle.session.specs.declared.InFlight.the-variants as flight
+use Rattle.session.specs.declared.RecoveryKind.{RecoveryKind}
+use Rattle.session.specs.declared.Session.{Session}
+use Rattle.scope.specs.Affected.{affectedOf, tokensOf}
+use Rattle.recovery.specs.declared.Recovery.{Recovery}
+use Rattle.recovery.specs.declared.BeginAnswer.the-variants as begin
+use Rattle.recovery.specs.declared.Begun.{Begun}
+
+abbrev pub beginRefused : Session → Refusal → Begun
+beginRefused s r = record { answer = begin.Refused r; session = s; tokens = replicate 128 0; count = 0 }
+
+abbrev pub recoveryOf : RequestId → Row → RecoveryKind → Recovery
+recoveryOf id r kind = record { target = id; device = r .metadata .device; endpoint = r .metadata .endpoint; kind = kind }
+
+-- the operation is in flight; the affected tokens by ascending id
+unfoldable pub begunAs : Session → Recovery → List Row → Begun
+begunAs s x rows = record {
+  answer = begin.Recover x;
+  session = withFlight s (flight.Recovery (x .target) (x .device) (x .endpoint) (x .kind));
+  tokens = listed 128 0 (tokensOf rows (affectedOf (x .device) (x .endpoint) rows));
+  count = length (affectedOf (x .device) (x .endpoint) rows);
+}
+
+-- 43, 44
+unfoldable pub beginRow : Session → Row → RequestId → RecoveryKind → List Row → Begun
+beginRow s r id kind rows =
+    beginRefused s (validation 43) if not (deviceMayAccess (r .state)) else
+    beginRefused s (validation 44) if not (mayRecover (s .state)) else
+    begunAs s (recoveryOf id r kind) rows
+
+-- 40
+unfoldable pub beginBy : Found → Session → RequestId → RecoveryKind → List Row → Begun
+beginBy found.Nothing s id kind rows = beginRefused s (validation 40)
+beginBy (found.At i) s id kind rows = beginRow s (getD rows i emptyRow) id kind rows
+
+-- 1, 3
+unfoldable pub beginOf : Session → Bool → RequestId → RecoveryKind → List Row → Begun
+beginOf s fits id kind rows =
+    beginRefused s (validation 1) if isBusy (s .«in_flight») else
+    beginRefused s (validation 3) if not fits else
+    beginBy (foundIn (isAt id) rows) s id kind rows

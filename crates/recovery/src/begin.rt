@@ -1,0 +1,114 @@
+// A recovery's start: abort, or reset of an endpoint.
+use crate::BeginAnswer;
+use crate::Begun;
+use crate::Recovery;
+use chain::Found;
+use ledger::search;
+use models::RequestId;
+use rows::Row;
+use scope::affected;
+use session::InFlight;
+use session::RecoveryKind;
+use session::Session;
+use session::sizes;
+ghost use mathlib.Core.Path.{_≡_};
+ghost use lib.ListN.{length};
+ghost use Rattle.models.specs.Refusals.{validation};
+ghost use Rattle.rows.specs.Table.{rowsOf};
+ghost use Rattle.session.specs.Sizes.{rowsFit};
+ghost use Rattle.session.specs.declared.RecoveryKind.the-variants as RecoveryKind;
+ghost use Rattle.recovery.specs.Begin.{beginRefused, recoveryOf, begunAs, beginRow, beginOf};
+
+fn refused(session: Session, number: u16) -> Begun
+    ensures { λ r. ⌜ r ≡ beginRefused session (validation number) ⌝ }
+{
+    Begun {
+        answer: BeginAnswer::Refused(models::refuse_validation(number)),
+        session,
+        tokens: [0; 128],
+        count: 0,
+    }
+}
+
+fn recovery_of(id: RequestId, row: Row, kind: RecoveryKind) -> Recovery
+    ensures { λ r. ⌜ r ≡ recoveryOf id row kind ⌝ }
+{
+    let metadata = row.metadata;
+    let device = metadata.device;
+    Recovery {
+        target: id,
+        device,
+        endpoint: metadata.endpoint,
+        kind,
+    }
+}
+
+// The operation is in flight; the affected tokens by ascending id.
+fn begin(session: Session, rows: &[u64], recovery: Recovery) -> Begun
+    ensures { λ r. ⌜ r ≡ begunAs session recovery (rowsOf (now (rows .entry))) ⌝ }
+{
+    let target = recovery.target;
+    let device = recovery.device;
+    let kind = recovery.kind;
+    let flight = InFlight::Recovery(target, device, recovery.endpoint, kind);
+    let mut list = [0usize; 128];
+    let count = affected::collect(rows, &mut list, device, recovery.endpoint);
+    Begun {
+        answer: BeginAnswer::Recover(recovery),
+        session: session::with_flight(session, flight),
+        tokens: affected::tokens_of(rows, &list[..count]),
+        count: count as u64,
+    }
+}
+
+// 43: not held; 44: not Initialized or RecoveryRequired.
+fn begin_row(session: Session, rows: &[u64], row: Row, id: RequestId, kind: RecoveryKind) -> Begun
+    ensures { λ r. ⌜ r ≡ beginRow session row id kind (rowsOf (now (rows .entry))) ⌝ }
+{
+    let state = row.state;
+    let controller = session.state;
+    if !models::device_may_access(state) {
+        return refused(session, 43);
+    }
+    if !session::may_recover(controller) {
+        return refused(session, 44);
+    }
+    let recovery = recovery_of(id, row, kind);
+    begin(session, rows, recovery)
+}
+
+// 1, 3, 40, then by the row.
+fn begin_recovery(session: Session, rows: &[u64], id: RequestId, kind: RecoveryKind) -> Begun
+    ensures { λ r. ⌜ r ≡ beginOf session (rowsFit (session .«row_count») (session .«row_bytes») (length (now (rows .entry)))) id kind (rowsOf (now (rows .entry))) ⌝ }
+{
+    let flight = session.in_flight;
+    if session::is_busy(flight) {
+        return refused(session, 1);
+    }
+    if !sizes::rows_fit(session.row_count, session.row_bytes, rows.len()) {
+        return refused(session, 3);
+    }
+    let found = search::find(rows, id);
+    let Found::At(i) = found else {
+        return refused(session, 40);
+    };
+    let row = rows::read_row(rows, i);
+    begin_row(session, rows, row, id, kind)
+}
+
+pub fn abort_request(session: Session, rows: &[u64], target: RequestId) -> Begun
+    ensures { λ r. ⌜ r ≡ beginOf session (rowsFit (session .«row_count») (session .«row_bytes») (length (now (rows .entry)))) target RecoveryKind.Abort (rowsOf (now (rows .entry))) ⌝ }
+{
+    begin_recovery(session, rows, target, RecoveryKind::Abort)
+}
+
+pub fn reset_endpoint_request(
+    session: Session,
+    rows: &[u64],
+    target: RequestId,
+    preserve: bool,
+) -> Begun
+    ensures { λ r. ⌜ r ≡ beginOf session (rowsFit (session .«row_count») (session .«row_bytes») (length (now (rows .entry)))) target (RecoveryKind.Reset preserve) (rowsOf (now (rows .entry))) ⌝ }
+{
+    begin_recovery(session, rows, target, RecoveryKind::Reset(preserve))
+}

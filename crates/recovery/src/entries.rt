@@ -1,0 +1,178 @@
+// The entries of a reply, applied one after the other. A request stands here for the place of its row in the store.
+use checks::completion;
+use checks::completion::CompletionTest;
+use ledger::rules;
+use ledger::rules::Change;
+use ledger::rules::Step;
+use models::BackendCompletion;
+use models::Verdict;
+use scope::returned;
+use scope::returned::Brought;
+use scope::tokens;
+use words::slices;
+ghost use mathlib.Core.Path.{_≡_};
+ghost use mathlib.Core.Bool.{true};
+ghost use Prim.Native.Nat.{_+_, _*_, _<_, _≤_};
+ghost use mathlib.Core.List.{map};
+ghost use lib.ListN.{length, take};
+ghost use Rattle.chain.specs.Lists.{listed};
+ghost use Rattle.rows.specs.Table.{rowsOf};
+ghost use Rattle.rows.specs.Store.{storeOf};
+ghost use Rattle.scope.specs.Scope.{meant};
+ghost use Rattle.scope.specs.Returned.{returnedOf, listsAgree};
+ghost use Rattle.recovery.specs.Entries.{walkTo, rowCompletedBy, completeOne, itself, completeAll, abortTo, abortOne, abortAll};
+ghost use Rattle.recovery.specs.Places.{Below, Places};
+
+// The one place where a completion changes rows and area. 41: the row is Failed.
+fn complete_row(
+    step: Step,
+    rows: &mut [u64],
+    area: &mut [u8],
+    room: usize,
+    i: usize,
+    bytes: &[u8],
+) -> Verdict
+    requires { ⌜ (i < length (rowsOf (now rows))) × (i * room + room ≤ length (now area)) ⌝ }
+    ensures { λ r. ⌜ walkTo r (storeOf (now (rows .exit))) (now (area .exit)) ≡ rowCompletedBy step i (i * room) room (now (bytes .entry)) (storeOf (now (rows .entry))) (now (area .entry)) ⌝ }
+{
+    match step {
+        Step::Refused(refusal) => Verdict::Refused(refusal),
+        Step::To(next, _) => {
+            rows::write_row(rows, i, next);
+            slices::copy_cut(area, i * room, room, bytes);
+            Verdict::Pass
+        }
+    }
+}
+
+// 47: no length; 48: not valid; 41.
+fn complete_one(
+    rows: &mut [u64],
+    area: &mut [u8],
+    room: usize,
+    i: usize,
+    completion: BackendCompletion,
+    bytes: &[u8],
+) -> Verdict
+    requires { ⌜ (i < length (rowsOf (now rows))) × (i * room + room ≤ length (now area)) ⌝ }
+    ensures { λ r. ⌜ walkTo r (storeOf (now (rows .exit))) (now (area .exit)) ≡ completeOne i (i * room) room completion (now (bytes .entry)) (storeOf (now (rows .entry))) (now (area .entry)) ⌝ }
+{
+    let row = rows::read_row(rows, i);
+    let metadata = row.metadata;
+    let code = completion.completion_code;
+    let test = completion::test_completion(
+        completion,
+        bytes.len() as u64,
+        metadata.requested_length,
+    );
+    match test {
+        CompletionTest::MissingLength => Verdict::Refused(models::refuse_validation(47)),
+        CompletionTest::Invalid => Verdict::Refused(models::refuse_completion(code)),
+        CompletionTest::Valid(actual, n) => {
+            let step = rules::change_row(row, Change::Complete(actual, n));
+            complete_row(step, rows, area, room, i, bytes)
+        }
+    }
+}
+
+// The place of the row that a token means.
+fn place_of(affected: &[usize], own: &[u64], token: u64) -> usize
+    ensures { λ r. ⌜ r ≡ meant (now (affected .entry)) (now (own .entry)) token ⌝ }
+{
+    let j = tokens::slot_of(own, token);
+    if j < affected.len() {
+        return affected[j];
+    }
+    0
+}
+
+// The places of the rows that the first 128 tokens mean; what is left is 0.
+pub(crate) fn places_of(affected: &[usize], own: &[u64], tokens: &[u64]) -> [usize; 128]
+    ensures { λ r. ⌜ r ≡ listed 128 0 (map (meant (now (affected .entry)) (now (own .entry))) (now (tokens .entry))) ⌝ }
+{
+    let n = slices::least(tokens.len(), 128);
+    let mut places = [0usize; 128];
+    let mut k = 0;
+    while k < n {
+        places[k] = place_of(affected, own, tokens[k]);
+        k += 1;
+    }
+    places
+}
+
+// The completion of row i; its data is the first of the bytes that are left.
+fn complete_next(
+    rows: &mut [u64],
+    area: &mut [u8],
+    room: usize,
+    i: usize,
+    brought: Brought,
+    left: &[u8],
+) -> Verdict
+    requires { ⌜ (i < length (rowsOf (now rows))) × (i * room + room ≤ length (now area)) × (brought .given ≤ length (now left)) ⌝ }
+    ensures { λ r. ⌜ walkTo r (storeOf (now (rows .exit))) (now (area .exit)) ≡ completeOne i (i * room) room (brought .completion) (take (brought .given) (now (left .entry))) (storeOf (now (rows .entry))) (now (area .entry)) ⌝ }
+{
+    let completion = brought.completion;
+    let end = brought.given as usize;
+    complete_one(rows, area, room, i, completion, &left[..end])
+}
+
+// The completions of the rows at the places, in order, each with the next bytes of the data area.
+pub(crate) fn complete_all(
+    rows: &mut [u64],
+    area: &mut [u8],
+    room: usize,
+    places: &[usize],
+    completions: &[u64],
+    bytes: &[u8],
+) -> Verdict
+    requires { ⌜ Places (now rows) (now area) room (now places) × (listsAgree (now places) (now completions) (length (now bytes)) ≡ true) ⌝ }
+    ensures { λ r. ⌜ walkTo r (storeOf (now (rows .exit))) (now (area .exit)) ≡ completeAll itself room (returnedOf (now (places .entry)) (now (completions .entry))) (now (bytes .entry)) (storeOf (now (rows .entry))) (now (area .entry)) ⌝ }
+{
+    let n = places.len();
+    let mut at = 0;
+    let mut k = 0;
+    while k < n {
+        let brought = returned::brought_at(completions, k);
+        let end = at + brought.given as usize;
+        let verdict = complete_next(rows, area, room, places[k], brought, &bytes[at..]);
+        let Verdict::Pass = verdict else {
+            return verdict;
+        };
+        at = end;
+        k += 1;
+    }
+    Verdict::Pass
+}
+
+fn abort_one(rows: &mut [u64], i: usize) -> Verdict
+    requires { ⌜ i < length (rowsOf (now rows)) ⌝ }
+    ensures { λ r. ⌜ abortTo r (storeOf (now (rows .exit))) ≡ abortOne i (storeOf (now (rows .entry))) ⌝ }
+{
+    let row = rows::read_row(rows, i);
+    let step = rules::change_row(row, Change::ConfirmAbort);
+    match step {
+        Step::Refused(refusal) => Verdict::Refused(refusal),
+        Step::To(next, _) => {
+            rows::write_row(rows, i, next);
+            Verdict::Pass
+        }
+    }
+}
+
+// The aborts of the rows at the places, in order.
+pub(crate) fn abort_all(rows: &mut [u64], places: &[usize]) -> Verdict
+    requires { ⌜ Below (now rows) (now places) ⌝ }
+    ensures { λ r. ⌜ abortTo r (storeOf (now (rows .exit))) ≡ abortAll itself (now (places .entry)) (storeOf (now (rows .entry))) ⌝ }
+{
+    let n = places.len();
+    let mut j = 0;
+    while j < n {
+        let verdict = abort_one(rows, places[j]);
+        let Verdict::Pass = verdict else {
+            return verdict;
+        };
+        j += 1;
+    }
+    Verdict::Pass
+}

@@ -1,0 +1,482 @@
+// The backend's reply to a recovery.
+use crate::AbortReport;
+use crate::Ids;
+use crate::Outcome;
+use crate::Recovered;
+use crate::Recovery;
+use crate::RecoveryAnswer;
+use crate::RecoveryReply;
+use crate::entries;
+use checks::completion;
+use ledger::search;
+use models::ControllerState;
+use models::DeviceId;
+use models::Refusal;
+use models::RequestId;
+use models::Verdict;
+use rows::columns;
+use scope::affected;
+use scope::returned;
+use scope::tokens;
+use session::InFlight;
+use session::OptionStall;
+use session::RecoverableStall;
+use session::RecoveryKind;
+use session::Session;
+use session::sizes;
+use words::OptionU64;
+use words::slices;
+ghost use mathlib.Core.Path.{_≡_};
+ghost use mathlib.Core.Bool.{true, _&&_};
+ghost use Prim.Native.Nat.{_+_, _≤_};
+ghost use lib.ListN.{length};
+ghost use lib.Dec.{eqb};
+ghost use Rattle.chain.specs.Lists.{listed};
+ghost use Rattle.models.specs.Refusals.{validation};
+ghost use Rattle.models.specs.Requests.{sameDevice};
+ghost use Rattle.rows.specs.Table.{rowsOf};
+ghost use Rattle.rows.specs.Store.{storeOf};
+ghost use Rattle.session.specs.Sizes.{rowsFit, areaFits};
+ghost use Rattle.scope.specs.Returned.{returnedOf, listsAgree};
+ghost use Rattle.recovery.specs.Entries.{itself, walkTo};
+ghost use Rattle.recovery.specs.Places.{Below, Sized, Places};
+ghost use Rattle.recovery.specs.declared.RecoveryReply.the-variants as RecoveryReply;
+ghost use Rattle.recovery.specs.Reports.{noId, idsOf, idLists};
+ghost use Rattle.recovery.specs.Reply.{recoveredTo, recoveryRefused, isWhole, isRevision, restoredBy, resetBy, sessionAfter, refusedAfter, applyAll, reportOf, concludedBy, settledOf, scopedOf, doneOf, replyBy, replySized, recoveryReplyOf};
+
+fn no_id() -> RequestId
+    ensures { λ r. ⌜ r ≡ noId ⌝ }
+{
+    RequestId {
+        session: 0,
+        generation: 0,
+        sequence: 0,
+    }
+}
+
+fn refused(session: Session, refusal: Refusal) -> Recovered
+    ensures { λ r. ⌜ r ≡ recoveryRefused session refusal ⌝ }
+{
+    let none = no_id();
+    let ids = Ids {
+        completed: [none; 128],
+        aborted: [none; 128],
+    };
+    Recovered {
+        answer: RecoveryAnswer::Refused(refusal),
+        session,
+        ids,
+    }
+}
+
+fn refused_by(session: Session, number: u16) -> Recovered
+    ensures { λ r. ⌜ r ≡ recoveryRefused session (validation number) ⌝ }
+{
+    refused(session, models::refuse_validation(number))
+}
+
+// Ready, and without an error.
+fn is_whole(o: Outcome) -> bool
+    ensures { λ r. ⌜ r ≡ isWhole o ⌝ }
+{
+    let error = o.error;
+    let failed = completion::has_error(error);
+    o.restart_ready & !failed
+}
+
+fn is_revision(revision: OptionU64, n: u64) -> bool
+    ensures { λ r. ⌜ r ≡ isRevision revision n ⌝ }
+{
+    let OptionU64::Some(m) = revision else {
+        return false;
+    };
+    m == n
+}
+
+// The stall is that of the device and the endpoint, no row is in doubt, and the revision is the stall's.
+fn matches(
+    session: Session,
+    stall: RecoverableStall,
+    device: DeviceId,
+    endpoint: u8,
+    certain: bool,
+) -> bool
+    ensures { λ r. ⌜ r ≡ (sameDevice (stall .device) device && eqb (stall .endpoint) endpoint && certain && isRevision (session .«recovery_revision») (stall .revision)) ⌝ }
+{
+    let own = stall.device;
+    let revision = session.recovery_revision;
+    let same = models::same_device(own, device);
+    let current = is_revision(revision, stall.revision);
+    same & (stall.endpoint == endpoint) & certain & current
+}
+
+// A reset takes the stall; where it matches, the controller is Initialized again.
+fn restore(session: Session, device: DeviceId, endpoint: u8, certain: bool) -> Session
+    ensures { λ r. ⌜ r ≡ restoredBy (session .«recoverable_stall») session device endpoint certain ⌝ }
+{
+    let stall = session.recoverable_stall;
+    let revision = session.recovery_revision;
+    let taken = session::with_stall(session, OptionStall::None);
+    let OptionStall::Some(note) = stall else {
+        return taken;
+    };
+    if matches(session, note, device, endpoint, certain) {
+        return session::with_state(taken, ControllerState::Initialized, revision);
+    }
+    taken
+}
+
+fn reset(session: Session, recovery: Recovery, rows: &[u64]) -> Session
+    ensures { λ r. ⌜ r ≡ resetBy (recovery .kind) session recovery (rowsOf (now (rows .entry))) ⌝ }
+{
+    let kind = recovery.kind;
+    let device = recovery.device;
+    match kind {
+        RecoveryKind::Abort => session,
+        RecoveryKind::Reset(_) => {
+            let uncertain = search::any_uncertain(rows);
+            restore(session, device, recovery.endpoint, !uncertain)
+        }
+    }
+}
+
+// The session after the entries: an error or not ready marks recovery.
+fn session_after(idle: Session, recovery: Recovery, outcome: Outcome, rows: &[u64]) -> Session
+    ensures { λ r. ⌜ r ≡ sessionAfter idle recovery outcome (rowsOf (now (rows .entry))) ⌝ }
+{
+    if !is_whole(outcome) {
+        return session::mark(idle);
+    }
+    reset(idle, recovery, rows)
+}
+
+// 48 marks; 47 and 41 do not.
+fn refused_after(idle: Session, refusal: Refusal) -> Session
+    ensures { λ r. ⌜ r ≡ refusedAfter idle refusal ⌝ }
+{
+    if refusal.number == 48 {
+        return session::mark(idle);
+    }
+    idle
+}
+
+fn report_of(recovery: Recovery, outcome: Outcome, completed: u64, aborted: u64) -> AbortReport
+    ensures { λ r. ⌜ r ≡ reportOf recovery outcome completed aborted ⌝ }
+{
+    let target = recovery.target;
+    let device = recovery.device;
+    let error = outcome.error;
+    AbortReport {
+        target,
+        device,
+        endpoint: recovery.endpoint,
+        completed,
+        aborted,
+        restart_ready: outcome.restart_ready,
+        error,
+    }
+}
+
+// A recovery whose reply is in: the session without it, the recovery, and what the backend says.
+struct Ended {
+    idle: Session,
+    recovery: Recovery,
+    outcome: Outcome,
+}
+
+fn ids_of(rows: &[u64], places: &[usize]) -> [RequestId; 128]
+    ensures { λ r. ⌜ r ≡ listed 128 noId (idsOf (rowsOf (now (rows .entry))) itself (now (places .entry))) ⌝ }
+{
+    let n = slices::least(places.len(), 128);
+    let none = no_id();
+    let mut ids = [none; 128];
+    let mut k = 0;
+    while k < n {
+        ids[k] = columns::id_in(rows, places[k]);
+        k += 1;
+    }
+    ids
+}
+
+fn id_lists(rows: &[u64], completed: &[usize], aborted: &[usize]) -> Ids
+    ensures { λ r. ⌜ r ≡ idLists (rowsOf (now (rows .entry))) itself (now (completed .entry)) (now (aborted .entry)) ⌝ }
+{
+    let first = ids_of(rows, completed);
+    let second = ids_of(rows, aborted);
+    Ids {
+        completed: first,
+        aborted: second,
+    }
+}
+
+// The completions in order, then the aborts.
+fn apply_all(
+    rows: &mut [u64],
+    area: &mut [u8],
+    room: usize,
+    completed: &[usize],
+    aborted: &[usize],
+    completions: &[u64],
+    bytes: &[u8],
+) -> Verdict
+    requires { ⌜ Places (now rows) (now area) room (now completed) × Below (now rows) (now aborted) × (listsAgree (now completed) (now completions) (length (now bytes)) ≡ true) ⌝ }
+    ensures { λ r. ⌜ walkTo r (storeOf (now (rows .exit))) (now (area .exit)) ≡ applyAll itself room (returnedOf (now (completed .entry)) (now (completions .entry))) (now (aborted .entry)) (now (bytes .entry)) (storeOf (now (rows .entry))) (now (area .entry)) ⌝ }
+{
+    let verdict = entries::complete_all(rows, area, room, completed, completions, bytes);
+    let Verdict::Pass = verdict else {
+        return verdict;
+    };
+    entries::abort_all(rows, aborted)
+}
+
+// The refusal of an entry, or the report.
+fn conclude(
+    verdict: Verdict,
+    ended: Ended,
+    rows: &[u64],
+    report: AbortReport,
+    ids: Ids,
+) -> Recovered
+    ensures { λ r. ⌜ r ≡ concludedBy verdict (ended .idle) (ended .recovery) (ended .outcome) report ids (rowsOf (now (rows .entry))) ⌝ }
+{
+    let idle = ended.idle;
+    let recovery = ended.recovery;
+    let outcome = ended.outcome;
+    match verdict {
+        Verdict::Refused(refusal) => refused(refused_after(idle, refusal), refusal),
+        Verdict::Pass => Recovered {
+            answer: RecoveryAnswer::Report(report),
+            session: session_after(idle, recovery, outcome, rows),
+            ids,
+        },
+    }
+}
+
+// The entries, by the places of their rows, then the session and the report.
+fn settle(
+    ended: Ended,
+    rows: &mut [u64],
+    area: &mut [u8],
+    completed: &[usize],
+    aborted: &[usize],
+    completions: &[u64],
+    bytes: &[u8],
+) -> Recovered
+    requires { ⌜ Places (now rows) (now area) (ended .idle .«row_bytes») (now completed) × Below (now rows) (now aborted) × (listsAgree (now completed) (now completions) (length (now bytes)) ≡ true) ⌝ }
+    ensures { λ r. ⌜ recoveredTo r (storeOf (now (rows .exit))) (now (area .exit)) ≡ settledOf (ended .idle) (ended .recovery) (ended .outcome) itself (now (completed .entry)) (now (completions .entry)) (now (aborted .entry)) (now (bytes .entry)) (storeOf (now (rows .entry))) (now (area .entry)) ⌝ }
+{
+    let idle = ended.idle;
+    let recovery = ended.recovery;
+    let outcome = ended.outcome;
+    let ids = id_lists(rows, completed, aborted);
+    let report = report_of(
+        recovery,
+        outcome,
+        completed.len() as u64,
+        aborted.len() as u64,
+    );
+    let room = idle.row_bytes as usize;
+    let verdict = apply_all(rows, area, room, completed, aborted, completions, bytes);
+    conclude(verdict, ended, rows, report, ids)
+}
+
+// The tokens are in scope.
+fn reply_scoped(
+    ended: Ended,
+    rows: &mut [u64],
+    area: &mut [u8],
+    affected: &[usize],
+    own: &[u64],
+    tokens: &[u64],
+    completions: &[u64],
+    aborted: &[u64],
+    bytes: &[u8],
+) -> Recovered
+    requires { ⌜ Places (now rows) (now area) (ended .idle .«row_bytes») (now affected) × (listsAgree (now tokens) (now completions) (length (now bytes)) ≡ true) × (length (now tokens) + length (now aborted) ≤ 128) ⌝ }
+    ensures { λ r. ⌜ recoveredTo r (storeOf (now (rows .exit))) (now (area .exit)) ≡ scopedOf (ended .idle) (ended .recovery) (ended .outcome) (now (affected .entry)) (now (own .entry)) (now (tokens .entry)) (now (completions .entry)) (now (aborted .entry)) (now (bytes .entry)) (storeOf (now (rows .entry))) (now (area .entry)) ⌝ }
+{
+    let done = entries::places_of(affected, own, tokens);
+    let gone = entries::places_of(affected, own, aborted);
+    let n = tokens.len();
+    let m = aborted.len();
+    settle(
+        ended,
+        rows,
+        area,
+        &done[..n],
+        &gone[..m],
+        completions,
+        bytes,
+    )
+}
+
+// 46: token scope, with a mark.
+fn reply_affected(
+    ended: Ended,
+    rows: &mut [u64],
+    area: &mut [u8],
+    affected: &[usize],
+    own: &[u64],
+    tokens: &[u64],
+    completions: &[u64],
+    aborted: &[u64],
+    bytes: &[u8],
+) -> Recovered
+    requires { ⌜ Places (now rows) (now area) (ended .idle .«row_bytes») (now affected) × (listsAgree (now tokens) (now completions) (length (now bytes)) ≡ true) × (length (now own) ≤ 128) ⌝ }
+    ensures { λ r. ⌜ recoveredTo r (storeOf (now (rows .exit))) (now (area .exit)) ≡ doneOf (ended .idle) (ended .recovery) (ended .outcome) (now (affected .entry)) (now (own .entry)) (now (tokens .entry)) (now (completions .entry)) (now (aborted .entry)) (now (bytes .entry)) (storeOf (now (rows .entry))) (now (area .entry)) ⌝ }
+{
+    let idle = ended.idle;
+    let outcome = ended.outcome;
+    let whole = is_whole(outcome);
+    if !tokens::in_scope(whole, own, tokens, aborted) {
+        return refused_by(session::mark(idle), 46);
+    }
+    reply_scoped(
+        ended,
+        rows,
+        area,
+        affected,
+        own,
+        tokens,
+        completions,
+        aborted,
+        bytes,
+    )
+}
+
+// The affected rows by ascending id, and their tokens.
+fn reply_done(
+    ended: Ended,
+    rows: &mut [u64],
+    area: &mut [u8],
+    tokens: &[u64],
+    completions: &[u64],
+    aborted: &[u64],
+    bytes: &[u8],
+) -> Recovered
+    requires { ⌜ Sized (now rows) (now area) (ended .idle .«row_bytes») × (listsAgree (now tokens) (now completions) (length (now bytes)) ≡ true) ⌝ }
+    ensures { λ r. ⌜ recoveredTo r (storeOf (now (rows .exit))) (now (area .exit)) ≡ replyBy (RecoveryReply.Done (ended .outcome)) (ended .idle) (ended .recovery) (now (tokens .entry)) (now (completions .entry)) (now (aborted .entry)) (now (bytes .entry)) (storeOf (now (rows .entry))) (now (area .entry)) ⌝ }
+{
+    let recovery = ended.recovery;
+    let device = recovery.device;
+    let mut list = [0usize; 128];
+    let count = affected::collect(rows, &mut list, device, recovery.endpoint);
+    let own = affected::tokens_of(rows, &list[..count]);
+    reply_affected(
+        ended,
+        rows,
+        area,
+        &list[..count],
+        &own[..count],
+        tokens,
+        completions,
+        aborted,
+        bytes,
+    )
+}
+
+// 45, always with a mark.
+fn reply_to(
+    idle: Session,
+    rows: &mut [u64],
+    area: &mut [u8],
+    recovery: Recovery,
+    reply: RecoveryReply,
+    tokens: &[u64],
+    completions: &[u64],
+    aborted: &[u64],
+    bytes: &[u8],
+) -> Recovered
+    requires { ⌜ Sized (now rows) (now area) (idle .«row_bytes») × (listsAgree (now tokens) (now completions) (length (now bytes)) ≡ true) ⌝ }
+    ensures { λ r. ⌜ recoveredTo r (storeOf (now (rows .exit))) (now (area .exit)) ≡ replyBy reply idle recovery (now (tokens .entry)) (now (completions .entry)) (now (aborted .entry)) (now (bytes .entry)) (storeOf (now (rows .entry))) (now (area .entry)) ⌝ }
+{
+    match reply {
+        RecoveryReply::Error(error) => {
+            refused(session::mark(idle), models::refuse_backend(45, error))
+        }
+        RecoveryReply::Done(outcome) => {
+            let ended = Ended {
+                idle,
+                recovery,
+                outcome,
+            };
+            reply_done(ended, rows, area, tokens, completions, aborted, bytes)
+        }
+    }
+}
+
+// 3; 49: the lists disagree. The operation stays in flight.
+fn reply_sized(
+    session: Session,
+    rows: &mut [u64],
+    area: &mut [u8],
+    recovery: Recovery,
+    reply: RecoveryReply,
+    tokens: &[u64],
+    completions: &[u64],
+    aborted: &[u64],
+    bytes: &[u8],
+) -> Recovered
+    ensures { λ r. ⌜ recoveredTo r (storeOf (now (rows .exit))) (now (area .exit)) ≡ replySized session (rowsFit (session .«row_count») (session .«row_bytes») (length (now (rows .entry))) && areaFits (session .«row_count») (session .«row_bytes») (length (now (area .entry)))) recovery reply (now (tokens .entry)) (now (completions .entry)) (now (aborted .entry)) (now (bytes .entry)) (storeOf (now (rows .entry))) (now (area .entry)) ⌝ }
+{
+    let rows_fit = sizes::rows_fit(session.row_count, session.row_bytes, rows.len());
+    let area_fits = sizes::area_fits(session.row_count, session.row_bytes, area.len());
+    if !(rows_fit & area_fits) {
+        return refused_by(session, 3);
+    }
+    if !returned::lists_agree(tokens, completions, bytes.len()) {
+        return refused_by(session, 49);
+    }
+    let idle = session::with_flight(session, InFlight::Nothing);
+    reply_to(
+        idle,
+        rows,
+        area,
+        recovery,
+        reply,
+        tokens,
+        completions,
+        aborted,
+        bytes,
+    )
+}
+
+// 2: no recovery is in flight; 3; 49. Else the operation ends.
+pub fn recovery_reply(
+    session: Session,
+    rows: &mut [u64],
+    area: &mut [u8],
+    reply: RecoveryReply,
+    tokens: &[u64],
+    completions: &[u64],
+    aborted: &[u64],
+    bytes: &[u8],
+) -> Recovered
+    ensures { λ r. ⌜ recoveredTo r (storeOf (now (rows .exit))) (now (area .exit)) ≡ recoveryReplyOf session (rowsFit (session .«row_count») (session .«row_bytes») (length (now (rows .entry))) && areaFits (session .«row_count») (session .«row_bytes») (length (now (area .entry)))) reply (now (tokens .entry)) (now (completions .entry)) (now (aborted .entry)) (now (bytes .entry)) (storeOf (now (rows .entry))) (now (area .entry)) ⌝ }
+{
+    let flight = session.in_flight;
+    match flight {
+        InFlight::Nothing => refused_by(session, 2),
+        InFlight::Submission(_) => refused_by(session, 2),
+        InFlight::Poll(_) => refused_by(session, 2),
+        InFlight::Recovery(target, device, endpoint, kind) => {
+            let recovery = Recovery {
+                target,
+                device,
+                endpoint,
+                kind,
+            };
+            reply_sized(
+                session,
+                rows,
+                area,
+                recovery,
+                reply,
+                tokens,
+                completions,
+                aborted,
+                bytes,
+            )
+        }
+    }
+}

@@ -1,0 +1,28 @@
+use Rattle.reports.proofs.Changing.{change-busy, change-unfit, change-on}
+use borrow.Author.Needs.{needs}
+use Rattle.reports.proofs.change.change_request.Statement.{statement}
+use Rattle.reports.proofs.change.change_request.Tie as tie
+
+returns : tie.Need-returns
+returns c = search change-busy
+
+returns-2 : tie.Need-returns-2
+returns-2 c = search change-unfit
+
+returns-3 : tie.Need-returns-3
+returns-3 c = search change-on
+
+pub change-request-spec : {M : Type 1} → statement M
+change-request-spec =
+    tie.close
+    (tie.spec
+    (λ c κs. search needs)
+    (λ c κs. search needs)
+    returns
+    (λ c κs. search needs)
+    (λ c κs. search needs)
+    returns-2
+    (λ c κs. search needs)
+    (λ c κs. search needs)
+    (λ c. search needs)
+    returns-3)

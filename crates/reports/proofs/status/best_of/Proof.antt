@@ -1,0 +1,36 @@
+use borrow.Author.Needs.{needs}
+use Prim.Native.Nat.{_-_}
+use Rattle.rows.specs.Table.{rowsOf}
+use Rattle.reports.proofs.Reporting.{Leads, best-on, best-end}
+use Rattle.reports.proofs.status.best_of.Statement.{statement}
+use Rattle.reports.proofs.status.best_of.Tie as tie
+
+abbrev Inv-loop : tie.InvT-loop
+Inv-loop rows flight after n best₀ i₀ best i = Leads flight after (rowsOf rows) n i best
+
+abbrev μ-loop : tie.MeasureT-loop
+μ-loop rows flight after n best₀ i₀ best i = n - i
+
+loop-holds : tie.Need-loop-holds Inv-loop μ-loop
+loop-holds c = (search needs, search needs, search needs)
+
+loop-again : tie.Need-loop-again Inv-loop μ-loop
+loop-again c = (search needs, search needs, search best-on)
+
+returns : tie.Need-returns Inv-loop μ-loop
+returns c = search best-end
+
+pub best-of-spec : {M : Type 1} → statement M
+best-of-spec =
+    tie.close
+    (tie.spec
+    Inv-loop
+    μ-loop
+    (λ c κs. search needs)
+    loop-holds
+    (λ c κs. search needs)
+    (λ c κs. search needs)
+    (λ c. search needs)
+    (λ c. search needs)
+    loop-again
+    returns)

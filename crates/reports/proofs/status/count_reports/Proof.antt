@@ -1,0 +1,15 @@
+use Rattle.reports.proofs.Reporting.{shown-unfit, shown-on}
+use borrow.Author.Needs.{needs}
+use Rattle.reports.proofs.status.count_reports.Statement.{statement}
+use Rattle.reports.proofs.status.count_reports.Tie as tie
+
+returns : tie.Need-returns
+returns c = search shown-unfit
+
+returns-2 : tie.Need-returns-2
+returns-2 c = search shown-on
+
+pub count-reports-spec : {M : Type 1} → statement M
+count-reports-spec =
+    tie.close
+    (tie.spec (λ c κs. search needs) (λ c κs. search needs) returns (λ c κs. search needs) returns-2)

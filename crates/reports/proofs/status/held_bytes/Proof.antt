@@ -1,0 +1,15 @@
+use Rattle.reports.proofs.Reporting.{bytes-unfit, bytes-on}
+use borrow.Author.Needs.{needs}
+use Rattle.reports.proofs.status.held_bytes.Statement.{statement}
+use Rattle.reports.proofs.status.held_bytes.Tie as tie
+
+returns : tie.Need-returns
+returns c = search bytes-unfit
+
+returns-2 : tie.Need-returns-2
+returns-2 c = search bytes-on
+
+pub held-bytes-spec : {M : Type 1} → statement M
+held-bytes-spec =
+    tie.close
+    (tie.spec (λ c κs. search needs) (λ c κs. search needs) returns (λ c κs. search needs) returns-2)

@@ -1,0 +1,21 @@
+use Rattle.reports.proofs.Reporting.{held-unfit, held-on}
+use borrow.Author.Needs.{needs}
+use Rattle.reports.proofs.status.held_count.Statement.{statement}
+use Rattle.reports.proofs.status.held_count.Tie as tie
+
+returns : tie.Need-returns
+returns c = search held-unfit
+
+returns-2 : tie.Need-returns-2
+returns-2 c = search held-on
+
+pub held-count-spec : {M : Type 1} → statement M
+held-count-spec =
+    tie.close
+    (tie.spec
+    (λ c κs. search needs)
+    (λ c κs. search needs)
+    returns
+    (λ c κs. search needs)
+    (λ c. search needs)
+    returns-2)

@@ -1,0 +1,61 @@
+// Cancel, timeout and reclaim: 1, 3, 40, then 41 or 42.
+use crate::ReportAnswer;
+use crate::Reported;
+use crate::answers;
+use ledger::Applied;
+use ledger::rules::Change;
+use models::RequestId;
+use session::Session;
+use session::sizes;
+ghost use mathlib.Core.Path.{_≡_};
+ghost use lib.ListN.{length};
+ghost use Rattle.rows.specs.Store.{storeOf};
+ghost use Rattle.ledger.specs.declared.rules.Change.the-variants as Change;
+ghost use Rattle.session.specs.Sizes.{rowsFit};
+ghost use Rattle.reports.specs.Answers.{reportedTo};
+ghost use Rattle.reports.specs.Change.{reportedBy, changeOf};
+
+fn reported(applied: Applied, session: Session) -> Reported
+    ensures { λ r. ⌜ r ≡ reportedBy applied session ⌝ }
+{
+    match applied {
+        Applied::Refused(refusal) => answers::refused(session, refusal),
+        Applied::Done(report) => Reported {
+            answer: ReportAnswer::Report(report),
+            session,
+        },
+    }
+}
+
+fn change_request(session: Session, rows: &mut [u64], id: RequestId, change: Change) -> Reported
+    ensures { λ r. ⌜ reportedTo r (storeOf (now (rows .exit))) ≡ changeOf session (rowsFit (session .«row_count») (session .«row_bytes») (length (now (rows .entry)))) id change (storeOf (now (rows .entry))) ⌝ }
+{
+    let flight = session.in_flight;
+    if session::is_busy(flight) {
+        return answers::refused_by(session, 1);
+    }
+    if !sizes::rows_fit(session.row_count, session.row_bytes, rows.len()) {
+        return answers::refused_by(session, 3);
+    }
+    let applied = ledger::apply(rows, id, change);
+    reported(applied, session)
+}
+
+pub fn logical_cancel_request(session: Session, rows: &mut [u64], id: RequestId) -> Reported
+    ensures { λ r. ⌜ reportedTo r (storeOf (now (rows .exit))) ≡ changeOf session (rowsFit (session .«row_count») (session .«row_bytes») (length (now (rows .entry)))) id Change.LogicalCancel (storeOf (now (rows .entry))) ⌝ }
+{
+    change_request(session, rows, id, Change::LogicalCancel)
+}
+
+pub fn timeout_request(session: Session, rows: &mut [u64], id: RequestId) -> Reported
+    ensures { λ r. ⌜ reportedTo r (storeOf (now (rows .exit))) ≡ changeOf session (rowsFit (session .«row_count») (session .«row_bytes») (length (now (rows .entry)))) id Change.Timeout (storeOf (now (rows .entry))) ⌝ }
+{
+    change_request(session, rows, id, Change::Timeout)
+}
+
+// The report is of the request as it was; its row is free.
+pub fn reclaim_request(session: Session, rows: &mut [u64], id: RequestId) -> Reported
+    ensures { λ r. ⌜ reportedTo r (storeOf (now (rows .exit))) ≡ changeOf session (rowsFit (session .«row_count») (session .«row_bytes») (length (now (rows .entry)))) id Change.Reclaim (storeOf (now (rows .entry))) ⌝ }
+{
+    change_request(session, rows, id, Change::Reclaim)
+}

@@ -1,0 +1,44 @@
+// Changes of one request and what the ledger reports: the Rust's services/requests.rs.
+use models::Refusal;
+use models::RequestId;
+use models::RequestReport;
+use session::Session;
+
+pub mod answers;
+pub mod change;
+pub mod status;
+
+// A report, or the refusal.
+pub enum ReportAnswer {
+    Refused(Refusal),
+    Report(RequestReport),
+}
+
+pub struct Reported {
+    pub answer: ReportAnswer,
+    pub session: Session,
+}
+
+pub enum OptionId {
+    None,
+    Some(RequestId),
+}
+
+// The next report in the order of ids, if there is one more.
+pub enum NextReport {
+    Refused(Refusal),
+    None,
+    Report(RequestReport),
+}
+
+// A number of the store's, or the refusal.
+pub enum Tally {
+    Refused(Refusal),
+    Number(u64),
+}
+
+// Bytes of the lent area, by where they start and how many they are.
+pub struct Part {
+    pub start: u64,
+    pub length: u64,
+}

@@ -1,0 +1,263 @@
+// Reports, completed bytes and tallies. All are allowed while something is in flight; a submission in flight has no report yet.
+use crate::NextReport;
+use crate::OptionId;
+use crate::Part;
+use crate::ReportAnswer;
+use crate::Tally;
+use chain::Found;
+use ledger::rules;
+use ledger::search;
+use ledger::tally;
+use models::RequestId;
+use models::RequestState;
+use rows::Row;
+use session::InFlight;
+use session::Session;
+use session::sizes;
+ghost use mathlib.Core.Path.{_≡_};
+ghost use lib.ListN.{length};
+ghost use Rattle.rows.specs.Table.{rowsOf};
+ghost use mathlib.Core.Bool.{_&&_, cond};
+ghost use Rattle.chain.specs.Lists.{count};
+ghost use Rattle.reports.specs.declared.NextReport.the-variants as NextReport;
+ghost use Prim.Native.Nat.{_+_, _<_, min};
+ghost use Rattle.session.specs.Sizes.{rowsFit, areaFits};
+ghost use Rattle.reports.specs.Status.{isSubmitting, statusOf, isShown, comesAfter, beats, better, bestFrom, nextOf, shownCount, completedLength, completedPart, completedBytes, heldCountOf, heldBytesOf};
+
+// The id's submission is in flight.
+fn is_submitting(flight: InFlight, id: RequestId) -> bool
+    ensures { λ r. ⌜ r ≡ isSubmitting flight id ⌝ }
+{
+    match flight {
+        InFlight::Nothing => false,
+        InFlight::Submission(own) => models::same_request(own, id),
+        InFlight::Poll(_) => false,
+        InFlight::Recovery(_, _, _, _) => false,
+    }
+}
+
+// 3; 40: no row has the id, or its submission is in flight.
+pub fn request_status(session: Session, rows: &[u64], id: RequestId) -> ReportAnswer
+    ensures { λ r. ⌜ r ≡ statusOf session (rowsFit (session .«row_count») (session .«row_bytes») (length (now (rows .entry)))) id (rowsOf (now (rows .entry))) ⌝ }
+{
+    let flight = session.in_flight;
+    if !sizes::rows_fit(session.row_count, session.row_bytes, rows.len()) {
+        return ReportAnswer::Refused(models::refuse_validation(3));
+    }
+    if is_submitting(flight, id) {
+        return ReportAnswer::Refused(models::refuse_validation(40));
+    }
+    let found = search::find(rows, id);
+    let Found::At(i) = found else {
+        return ReportAnswer::Refused(models::refuse_validation(40));
+    };
+    let row = rows::read_row(rows, i);
+    ReportAnswer::Report(rules::report_of(row))
+}
+
+// The row is a request that has a report.
+fn is_shown(row: Row, flight: InFlight) -> bool
+    ensures { λ r. ⌜ r ≡ isShown flight row ⌝ }
+{
+    let id = row.id;
+    let submitting = is_submitting(flight, id);
+    row.used & !submitting
+}
+
+// It has a report, and comes after the id.
+fn is_next(row: Row, flight: InFlight, after: OptionId) -> bool
+    ensures { λ r. ⌜ r ≡ (isShown flight row && comesAfter after (row .id)) ⌝ }
+{
+    let id = row.id;
+    let shown = is_shown(row, flight);
+    let later = comes_after(after, id);
+    shown & later
+}
+
+fn comes_after(after: OptionId, id: RequestId) -> bool
+    ensures { λ r. ⌜ r ≡ comesAfter after id ⌝ }
+{
+    match after {
+        OptionId::None => true,
+        OptionId::Some(own) => models::request_before(own, id),
+    }
+}
+
+fn beats_best(best: NextReport, id: RequestId) -> bool
+    ensures { λ r. ⌜ r ≡ beats best id ⌝ }
+{
+    match best {
+        NextReport::Refused(_) => false,
+        NextReport::None => true,
+        NextReport::Report(own) => {
+            let own_id = own.id;
+            models::request_before(id, own_id)
+        }
+    }
+}
+
+// The better of the best report so far and the row's.
+fn better_of(best: NextReport, row: Row, flight: InFlight, after: OptionId) -> NextReport
+    ensures { λ r. ⌜ r ≡ better flight after best row ⌝ }
+{
+    let id = row.id;
+    let shown = is_next(row, flight, after);
+    let wins = beats_best(best, id);
+    if shown & wins {
+        return NextReport::Report(rules::report_of(row));
+    }
+    best
+}
+
+// 3; the report with the least id, or the least after an id. The row of a submission in flight is left out.
+pub fn request_reports(session: Session, rows: &[u64], after: OptionId) -> NextReport
+    ensures { λ r. ⌜ r ≡ nextOf session (rowsFit (session .«row_count») (session .«row_bytes») (length (now (rows .entry)))) after (rowsOf (now (rows .entry))) ⌝ }
+{
+    let flight = session.in_flight;
+    if !sizes::rows_fit(session.row_count, session.row_bytes, rows.len()) {
+        return NextReport::Refused(models::refuse_validation(3));
+    }
+    best_of(rows, flight, after)
+}
+
+fn best_of(rows: &[u64], flight: InFlight, after: OptionId) -> NextReport
+    ensures { λ r. ⌜ r ≡ bestFrom flight after NextReport.None (rowsOf (now (rows .entry))) ⌝ }
+{
+    let n = rows::count(rows);
+    let mut best = NextReport::None;
+    let mut i = 0;
+    while i < n {
+        let row = rows::read_row(rows, i);
+        best = better_of(best, row, flight, after);
+        i += 1;
+    }
+    best
+}
+
+fn add_shown(total: u64, shown: bool) -> u64
+    requires { ⌜ total < 18446744073709551615 ⌝ }
+    ensures { λ r. ⌜ r ≡ total + cond shown 1 0 ⌝ }
+{
+    if shown {
+        return total + 1;
+    }
+    total
+}
+
+fn count_shown(rows: &[u64], flight: InFlight) -> u64
+    ensures { λ r. ⌜ r ≡ count (isShown flight) (rowsOf (now (rows .entry))) ⌝ }
+{
+    let n = rows::count(rows);
+    let mut total: u64 = 0;
+    let mut i = 0;
+    while i < n {
+        let row = rows::read_row(rows, i);
+        let shown = is_shown(row, flight);
+        total = add_shown(total, shown);
+        i += 1;
+    }
+    total
+}
+
+// 3; how many requests have a report.
+pub fn count_reports(session: Session, rows: &[u64]) -> Tally
+    ensures { λ r. ⌜ r ≡ shownCount session (rowsFit (session .«row_count») (session .«row_bytes») (length (now (rows .entry)))) (rowsOf (now (rows .entry))) ⌝ }
+{
+    let flight = session.in_flight;
+    if !sizes::rows_fit(session.row_count, session.row_bytes, rows.len()) {
+        return Tally::Refused(models::refuse_validation(3));
+    }
+    Tally::Number(count_shown(rows, flight))
+}
+
+fn completed_length(state: RequestState) -> u64
+    ensures { λ r. ⌜ r ≡ completedLength state ⌝ }
+{
+    match state {
+        RequestState::Pending {
+            logical_cancel: _,
+            timed_out: _,
+        } => 0,
+        RequestState::Completed {
+            actual_length,
+            completion_code: _,
+            logical_cancel: _,
+        } => actual_length,
+        RequestState::Failed {
+            error: _,
+            completion_code: _,
+            quiescent: _,
+        } => 0,
+        RequestState::Aborted => 0,
+    }
+}
+
+fn cut(length: u64, room: u64) -> u64
+    ensures { λ r. ⌜ r ≡ min length room ⌝ }
+{
+    if length < room {
+        return length;
+    }
+    room
+}
+
+// Where the bytes of a request that is Completed now stand; an empty part otherwise, so that no bytes of a held row ever come back.
+pub fn completed_part(session: Session, rows: &[u64], bytes: usize, id: RequestId) -> Part
+    ensures { λ r. ⌜ r ≡ completedPart session (rowsFit (session .«row_count») (session .«row_bytes») (length (now (rows .entry))) && areaFits (session .«row_count») (session .«row_bytes») bytes) id (rowsOf (now (rows .entry))) ⌝ }
+{
+    let rows_fit = sizes::rows_fit(session.row_count, session.row_bytes, rows.len());
+    let area_fits = sizes::area_fits(session.row_count, session.row_bytes, bytes);
+    let none = Part {
+        start: 0,
+        length: 0,
+    };
+    if !(rows_fit & area_fits) {
+        return none;
+    }
+    let found = search::find(rows, id);
+    let Found::At(i) = found else {
+        return none;
+    };
+    let row = rows::read_row(rows, i);
+    let state = row.state;
+    let room = session.row_bytes;
+    Part {
+        start: i as u64 * room,
+        length: cut(completed_length(state), room),
+    }
+}
+
+// The bytes of a request that is Completed now, as a part of the area.
+pub fn completed_bytes<'a>(
+    session: Session,
+    rows: &[u64],
+    area: &'a [u8],
+    id: RequestId,
+) -> &'a [u8]
+    ensures { λ r. ⌜ now r ≡ completedBytes session (rowsFit (session .«row_count») (session .«row_bytes») (length (now (rows .entry))) && areaFits (session .«row_count») (session .«row_bytes») (length (now (area .entry)))) id (rowsOf (now (rows .entry))) (now (area .entry)) ⌝ }
+{
+    let part = completed_part(session, rows, area.len(), id);
+    let at = part.start as usize;
+    let end = at + part.length as usize;
+    &area[at..end]
+}
+
+// 3; how many rows the device holds.
+pub fn held_count(session: Session, rows: &[u64]) -> Tally
+    ensures { λ r. ⌜ r ≡ heldCountOf (rowsFit (session .«row_count») (session .«row_bytes») (length (now (rows .entry)))) (rowsOf (now (rows .entry))) ⌝ }
+{
+    if !sizes::rows_fit(session.row_count, session.row_bytes, rows.len()) {
+        return Tally::Refused(models::refuse_validation(3));
+    }
+    Tally::Number(tally::held_count(rows) as u64)
+}
+
+// 3; the sum of their requested lengths.
+pub fn held_bytes(session: Session, rows: &[u64]) -> Tally
+    ensures { λ r. ⌜ r ≡ heldBytesOf (rowsFit (session .«row_count») (session .«row_bytes») (length (now (rows .entry)))) (rowsOf (now (rows .entry))) ⌝ }
+{
+    if !sizes::rows_fit(session.row_count, session.row_bytes, rows.len()) {
+        return Tally::Refused(models::refuse_validation(3));
+    }
+    Tally::Number(tally::held_bytes(rows))
+}

@@ -1,0 +1,3 @@
+pub mod Affecting
+pub mod Scoping
+pub mod Returning

@@ -1,0 +1,100 @@
+-- Laws of what a reply brings, in words. Assumes nothing.
+use Prim.Native.Nat.{ℕ, suc, _+_, _-_, _*_, _/_, _%_, _<_, _≤_}
+use mathlib.Core.Path.{_≡_, refl, sym, ap, _∙_}
+use mathlib.Core.Bool.{Bool, true, false, not, _||_, true≢false, false≢true}
+use mathlib.Core.List.{List}
+use native.Mathlib.Omega.{arith}
+use native.Mathlib.Numerals.{add-one}
+use lib.Dec.{eqb}
+use lib.ListN.{length, getD, take, drop}
+use lib.Seq.{take-all}
+use borrow.Author.Tests.{eq-eqb, ne-eqb, eqb-true}
+use Rattle.chain.specs.Lists.{sumBy}
+use Rattle.chain.proofs.Lists.{sum-suc, sum-take}
+use Rattle.words.specs.Records.{tab, part}
+use Rattle.words.proofs.Records.{part-getD, length-tab, getD-tab, sum-tab}
+use Rattle.models.specs.declared.OperationError.{OperationError}
+use Rattle.models.specs.declared.OptionError.the-variants as error
+use Rattle.rows.specs.Codec.{errorOf}
+use Rattle.scope.specs.Returned.{completionWords, errorIn, broughtOf, broughtAt, returnedAt, returnedOf, givenOf, listsAgree}
+use Rattle.scope.specs.declared.returned.Brought.{Brought}
+
+-- ---- one completion
+module _ (w : List ℕ) where
+  pub error-none : getD w 0 0 ≡ 0 → error.None ≡ errorIn w
+  error-none e = rw (eq-eqb (getD w 0 0) 0 e)
+
+  pub error-some : (e : OperationError) → (getD w 0 0 ≡ 0 → ⊥) → e ≡ errorOf (getD w 1 0) (getD w 2 0) (getD w 3 0) (getD w 4 0) → error.Some e ≡ errorIn w
+  error-some e n ee = rw (ne-eqb (getD w 0 0) 0 n, ee)
+
+  pub brought-is : (k : ℕ) (r : Brought) → r ≡ broughtOf (take (k * completionWords + completionWords - k * completionWords) (drop (k * completionWords) w)) → r ≡ broughtAt w k
+  unfolding part broughtAt
+  brought-is k r e = let z : k * completionWords + completionWords - k * completionWords ≡ completionWords = omega arith in e ∙ rw z
+
+  pub given-is : (k : ℕ) → broughtAt w k .given ≡ getD w (k * completionWords + 10) 0
+  unfolding broughtOf broughtAt
+  given-is k = part-getD 0 (k * completionWords) completionWords w 10 (omega arith)
+
+  pub given-read : (k : ℕ) → getD w (k * completionWords + 10) 0 ≡ broughtAt w k .given
+  given-read k = sym (given-is k)
+
+-- ---- the data lengths
+abbrev givens : List ℕ → ℕ → List Brought
+givens w n = tab (broughtAt w) n
+
+abbrev own : Brought → ℕ
+own b = b .given
+
+abbrev pub Summed : List ℕ → ℕ → ℕ → ℕ → ℕ → Type 0
+Summed w n size sum k = (k ≤ n) × (sum ≤ size) × (sum ≡ sumBy own (take k (givens w n)))
+
+module _ (w : List ℕ) (n size sum k : ℕ) (e : sum ≡ sumBy own (take k (givens w n))) where
+  module _ (lt : k < n) where
+    one-more : sumBy own (take (suc k) (givens w n)) ≡ sum + getD w (k * completionWords + 10) 0
+    one-more =
+        sum-suc own (givens w n) k (broughtAt w k) (omega (arith, length-tab (broughtAt w) n))
+        ∙ rw (← e, getD-tab (broughtAt w) n k (broughtAt w k) lt, given-is w k)
+
+    pub sum-on : sum + getD w (k * completionWords + 10) 0 ≡ sumBy own (take (k + 1) (givens w n))
+    sum-on = rw add-one (sym one-more)
+
+    pub sum-over : sum ≤ size → size - sum < getD w (k * completionWords + 10) 0 → false ≡ eqb (sumBy own (givens w n)) size
+    sum-over h o = sym (ne-eqb (sumBy own (givens w n)) size (λ z. omega (arith, one-more, sum-take own (givens w n) (suc k))))
+
+  pub sum-end : n ≤ k → eqb sum size ≡ eqb (sumBy own (givens w n)) size
+  sum-end o = ap (λ (x : ℕ). eqb x size) (e ∙ ap (sumBy own) (take-all k (givens w n) (omega (arith, length-tab (broughtAt w) n))))
+
+-- ---- both lists
+pub given-sum : (tokens w : List ℕ) → sumBy givenOf (returnedOf tokens w) ≡ sumBy own (givens w (length tokens))
+unfolding returnedOf
+given-sum tokens w = sum-tab givenOf (returnedAt tokens w) own (broughtAt w) (λ k. refl) (length tokens)
+
+module _ (tokens w : List ℕ) (size : ℕ) where
+  pub agree-not : (not (eqb (length w / completionWords) (length tokens)) || not (eqb (length w % completionWords) 0)) ≡ true → false ≡ listsAgree tokens w size
+  unfolding listsAgree
+  agree-not t = rw (other (λ z. go z))
+    where
+      other : (length w ≡ length tokens * completionWords → ⊥) → eqb (length w) (length tokens * completionWords) ≡ false
+      other f = ne-eqb (length w) (length tokens * completionWords) f
+
+      go : length w ≡ length tokens * completionWords → ⊥
+      go z =
+          let a = eq-eqb (length w / completionWords) (length tokens) (omega arith) in
+          let b = eq-eqb (length w % completionWords) 0 (omega arith) in
+          let y : _≡_ {A = Bool} false true = rw (a, b) at t in absurd (false≢true y)
+
+  module _ (t : (not (eqb (length w / completionWords) (length tokens)) || not (eqb (length w % completionWords) 0)) ≡ false) where
+    parts : (eqb (length w / completionWords) (length tokens) ≡ true) × (eqb (length w % completionWords) 0 ≡ true)
+    parts = go (eqb (length w / completionWords) (length tokens)) (eqb (length w % completionWords) 0) t
+      where
+        go : (a b : Bool) → (not a || not b) ≡ false → (a ≡ true) × (b ≡ true)
+        go true true e = (refl, refl)
+        go true false e = absurd (true≢false e)
+        go false b e = absurd (true≢false e)
+
+    pub agree-words : length tokens * completionWords ≡ length w
+    agree-words = omega (arith, eqb-true (length w / completionWords) (length tokens) (parts .0), eqb-true (length w % completionWords) 0 (parts .1))
+
+    pub agree-sum : (b : Bool) → b ≡ eqb (sumBy own (givens w (length tokens))) size → b ≡ listsAgree tokens w size
+    unfolding listsAgree
+    agree-sum b e = e ∙ rw (eq-eqb (length w) (length tokens * completionWords) (sym agree-words), given-sum tokens w)

@@ -1,0 +1,22 @@
+use borrow.Author.Needs.{needs}
+use Rattle.scope.specs.Returned.{broughtOf}
+use Rattle.scope.proofs.returned.decode.Statement.{statement}
+use Rattle.scope.proofs.returned.decode.Tie as tie
+
+pub decode-spec : {M : Type 1} → statement M
+unfolding broughtOf
+decode-spec =
+    tie.close
+    (tie.spec
+    (λ c. search needs)
+    (λ c. search needs)
+    (λ c κs. search needs)
+    (λ c. search needs)
+    (λ c κs. search needs)
+    (λ c. search needs)
+    (λ c κs. search needs)
+    (λ c κs. search needs)
+    (λ c. search needs)
+    (λ c κs. search needs)
+    (λ c. search needs)
+    (λ c. cc))

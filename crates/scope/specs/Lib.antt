@@ -1,0 +1,3 @@
+pub mod Affected
+pub mod Scope
+pub mod Returned

@@ -1,0 +1,54 @@
+-- What a reply brings of each request that the backend completed, in words (the Rust's `BackendAbort::completed`). Assumes nothing.
+use Prim.Native.Nat.{ℕ, _*_}
+use mathlib.Core.Bool.{Bool, cond, _&&_}
+use mathlib.Core.List.{List}
+use lib.Dec.{eqb}
+use lib.ListN.{length, getD}
+use Rattle.chain.specs.Lists.{sumBy}
+use Rattle.words.specs.Records.{tab, part}
+use Rattle.words.specs.Words.{flagOf, optionU32Of, optionU64Of}
+use Rattle.models.specs.declared.OptionError.{OptionError}
+use Rattle.models.specs.declared.OptionError.the-variants as error
+use Rattle.rows.specs.Codec.{errorOf}
+use Rattle.scope.specs.declared.returned.Brought.{Brought}
+
+-- a completion's words: error (a flag, then category, message, system number, code), length (a flag and the number), code, whether it
+-- brings data, whether it is quiescent, and how many bytes of the data area are its own
+abbrev pub completionWords : ℕ
+completionWords = 11
+
+abbrev pub errorIn : List ℕ → OptionError
+errorIn w = cond (eqb (getD w 0 0) 0) error.None (error.Some (errorOf (getD w 1 0) (getD w 2 0) (getD w 3 0) (getD w 4 0)))
+
+unfoldable pub broughtOf : List ℕ → Brought
+broughtOf w = record {
+  completion = record {
+    «actual_length» = optionU64Of (getD w 5 0) (getD w 6 0);
+    «completion_code» = optionU32Of (getD w 7 0);
+    «has_data» = flagOf (getD w 8 0);
+    error = errorIn w;
+    quiescent = flagOf (getD w 9 0);
+  };
+  given = getD w 10 0;
+}
+
+unfoldable pub broughtAt : List ℕ → ℕ → Brought
+broughtAt w k = broughtOf (part (k * completionWords) completionWords w)
+
+-- an entry: a token and what came for it
+pub record Returned : Type 0 where
+  pub token : ℕ
+  pub brought : Brought
+
+abbrev pub returnedAt : List ℕ → List ℕ → ℕ → Returned
+returnedAt tokens w k = record { token = getD tokens k 0; brought = broughtAt w k }
+
+unfoldable pub returnedOf : List ℕ → List ℕ → List Returned
+returnedOf tokens w = tab (returnedAt tokens w) (length tokens)
+
+abbrev pub givenOf : Returned → ℕ
+givenOf r = r .brought .given
+
+-- 49: a completion for each token, and their data lengths sum to the data area
+unfoldable pub listsAgree : List ℕ → List ℕ → ℕ → Bool
+listsAgree tokens w size = eqb (length w) (length tokens * completionWords) && eqb (sumBy givenOf (returnedOf tokens w)) size

@@ -1,0 +1,22 @@
+use mathlib.Core.Path.{sym}
+use borrow.Author.Tests.{eq-eqb, ne-eqb}
+use borrow.Author.Needs.{needs}
+use Rattle.session_words.proofs.state.to_ports.Statement.{statement}
+use Rattle.session_words.proofs.state.to_ports.Tie as tie
+
+returns : tie.Need-returns
+returns c = simp (sym (c .before .word-at .ensures), eq-eqb _ _ (c .if1 .taken))
+
+returns-2 : tie.Need-returns-2
+returns-2 c = simp (sym (c .before .before .before .word-at .ensures), ne-eqb _ _ (c .before .before .if1 .left), c .before .word-at2 .ensures, c .word-at3 .ensures)
+
+pub to-ports-spec : {M : Type 1} → statement M
+to-ports-spec =
+    tie.close
+    (tie.spec
+    (λ c κs. search needs)
+    returns
+    (λ c κs. search needs)
+    (λ c κs. search needs)
+    (λ c. search needs)
+    returns-2)

@@ -1,0 +1,170 @@
+-- The session as words. Every list of words says a session. Assumes nothing.
+use Prim.Native.Nat.{ℕ, _+_, _-_, _%_, _^_}
+use mathlib.Core.Bool.{cond, not}
+use mathlib.Core.List.{List, [], _∷_}
+use lib.ListN.{getD, length}
+use lib.Dec.{eqb}
+use Rattle.chain.specs.Chain.{_if_else_}
+use Rattle.words.specs.Words.{flagWord, flagOf, optionU64Of, optionU64Words}
+use Rattle.words.specs.declared.OptionWords.{OptionWords}
+use Rattle.models.specs.Codes.{controllerOf, controllerWord}
+use Rattle.models.specs.declared.DeviceId.{DeviceId}
+use Rattle.models.specs.declared.OptionPorts.{OptionPorts}
+use Rattle.models.specs.declared.OptionPorts.the-variants as ports
+use Rattle.models.specs.declared.RequestId.{RequestId}
+use Rattle.session.specs.declared.InFlight.{InFlight}
+use Rattle.session.specs.declared.InFlight.the-variants as flight
+use Rattle.session.specs.declared.OptionStall.{OptionStall}
+use Rattle.session.specs.declared.OptionStall.the-variants as stall
+use Rattle.session.specs.declared.RecoveryKind.{RecoveryKind}
+use Rattle.session.specs.declared.RecoveryKind.the-variants as kind
+use Rattle.session.specs.declared.Session.{Session}
+use Rattle.session_words.specs.declared.state.FlightWords.{FlightWords}
+use Rattle.session_words.specs.declared.state.PortsWords.{PortsWords}
+use Rattle.session_words.specs.declared.state.StallWords.{StallWords}
+
+-- how many words a session has
+abbrev pub sessionSize : ℕ
+sessionSize = 26
+
+abbrev pub portsOf : ℕ → ℕ → ℕ → OptionPorts
+portsOf present session count = cond (eqb present 0) ports.None (ports.Some (record { session = session; count = count % 2 ^ 8 }))
+
+abbrev pub portsWords : OptionPorts → PortsWords
+portsWords ports.None = record { present = 0; session = 0; count = 0 }
+portsWords (ports.Some p) = record { present = 1; session = p .session; count = p .count }
+
+abbrev pub deviceOf : ℕ → ℕ → ℕ → DeviceId
+deviceOf session generation slot = record { session = session; generation = generation; slot = slot % 2 ^ 8 }
+
+abbrev pub requestOf : ℕ → ℕ → ℕ → RequestId
+requestOf session generation sequence = record { session = session; generation = generation; sequence = sequence }
+
+-- the device and the request from word `at` on
+abbrev pub deviceAt : List ℕ → ℕ → DeviceId
+deviceAt w at = deviceOf (getD w at 0) (getD w (at + 1) 0) (getD w (at + 2) 0)
+
+abbrev pub idAt : List ℕ → ℕ → RequestId
+idAt w at = requestOf (getD w at 0) (getD w (at + 1) 0) (getD w (at + 2) 0)
+
+abbrev pub stallOf : ℕ → ℕ → DeviceId → ℕ → OptionStall
+stallOf present revision device endpoint =
+    cond (eqb present 0) stall.None (stall.Some (record { revision = revision; device = device; endpoint = endpoint % 2 ^ 8 }))
+
+abbrev pub stallWords : OptionStall → StallWords
+stallWords stall.None = record { present = 0; revision = 0; session = 0; generation = 0; slot = 0; endpoint = 0 }
+stallWords (stall.Some x) = record {
+  present = 1;
+  revision = x .revision;
+  session = x .device .session;
+  generation = x .device .generation;
+  slot = x .device .slot;
+  endpoint = x .endpoint;
+}
+
+-- 0 abort, 1 reset, any other a reset that preserves the data toggle
+abbrev pub kindOf : ℕ → RecoveryKind
+kindOf w = cond (eqb w 0) kind.Abort (kind.Reset (flagOf (w - 1)))
+
+abbrev pub kindWord : RecoveryKind → ℕ
+kindWord kind.Abort = 0
+kindWord (kind.Reset preserve) = 1 + flagWord preserve
+
+-- tags: 0 nothing, 1 a submission, 2 a poll, any other a recovery
+abbrev pub flightOf : ℕ → RequestId → DeviceId → ℕ → ℕ → InFlight
+flightOf tag id device endpoint k =
+    cond (eqb tag 0) flight.Nothing
+    (cond (eqb tag 1) (flight.Submission id)
+    (cond (eqb tag 2) (flight.Poll id)
+    (flight.Recovery id device (endpoint % 2 ^ 8) (kindOf k))))
+
+abbrev pub idFlight : ℕ → RequestId → FlightWords
+idFlight tag id = record {
+  tag = tag;
+  session = id .session;
+  generation = id .generation;
+  sequence = id .sequence;
+  «device_session» = 0;
+  «device_generation» = 0;
+  slot = 0;
+  endpoint = 0;
+  kind = 0;
+}
+
+abbrev pub recoveryFlight : RequestId → DeviceId → ℕ → RecoveryKind → FlightWords
+recoveryFlight id device endpoint k = record {
+  tag = 3;
+  session = id .session;
+  generation = id .generation;
+  sequence = id .sequence;
+  «device_session» = device .session;
+  «device_generation» = device .generation;
+  slot = device .slot;
+  endpoint = endpoint;
+  kind = kindWord k;
+}
+
+abbrev pub flightWords : InFlight → FlightWords
+flightWords flight.Nothing = idFlight 0 (requestOf 0 0 0)
+flightWords (flight.Submission id) = idFlight 1 id
+flightWords (flight.Poll id) = idFlight 2 id
+flightWords (flight.Recovery id device endpoint k) = recoveryFlight id device endpoint k
+
+-- the ports, the stall and what is in flight of a session's words
+abbrev pub portsIn : List ℕ → OptionPorts
+portsIn w = portsOf (getD w 3 0) (getD w 4 0) (getD w 5 0)
+
+abbrev pub stallIn : List ℕ → OptionStall
+stallIn w = stallOf (getD w 9 0) (getD w 10 0) (deviceAt w 11) (getD w 14 0)
+
+abbrev pub flightIn : List ℕ → InFlight
+flightIn w = flightOf (getD w 15 0) (idAt w 16) (deviceAt w 19) (getD w 22 0) (getD w 23 0)
+
+unfoldable pub sessionOf : List ℕ → Session
+sessionOf w = record {
+  number = getD w 0 0;
+  generation = getD w 1 0;
+  «next_sequence» = getD w 2 0;
+  ports = portsIn w;
+  state = controllerOf (getD w 6 0);
+  «recovery_revision» = optionU64Of (getD w 7 0) (getD w 8 0);
+  «recoverable_stall» = stallIn w;
+  «in_flight» = flightIn w;
+  «row_count» = getD w 24 0;
+  «row_bytes» = getD w 25 0;
+}
+
+abbrev pub portsTail : PortsWords → List ℕ → List ℕ
+portsTail p rest = p .present ∷ p .session ∷ p .count ∷ rest
+
+abbrev pub revisionTail : OptionWords → List ℕ → List ℕ
+revisionTail r rest = r .present ∷ r .value ∷ rest
+
+abbrev pub stallTail : StallWords → List ℕ → List ℕ
+stallTail x rest = x .present ∷ x .revision ∷ x .session ∷ x .generation ∷ x .slot ∷ x .endpoint ∷ rest
+
+abbrev pub flightTail : FlightWords → List ℕ → List ℕ
+flightTail f rest =
+    f .tag ∷ f .session ∷ f .generation ∷ f .sequence ∷ f .«device_session» ∷ f .«device_generation» ∷ f .slot ∷ f .endpoint ∷ f .kind ∷ rest
+
+unfoldable pub sessionWords : Session → List ℕ
+sessionWords s =
+    s .number ∷ s .generation ∷ s .«next_sequence»
+    ∷ portsTail (portsWords (s .ports))
+    (controllerWord (s .state)
+    ∷ revisionTail (optionU64Words (s .«recovery_revision»))
+    (stallTail (stallWords (s .«recoverable_stall»))
+    (flightTail (flightWords (s .«in_flight»))
+    (s .«row_count» ∷ s .«row_bytes» ∷ []))))
+
+-- a session kept in words, as a store is
+pub record Kept : Type 0 where
+  pub words : List ℕ
+  pub session : Session
+
+unfoldable pub keptOf : List ℕ → Kept
+keptOf w = record { words = w; session = sessionOf w }
+
+-- the session written to the words l, which stay where they are not as many as a session has
+unfoldable pub keptAs : List ℕ → Session → Kept
+keptAs l s = keptOf l if not (eqb (length l) sessionSize) else record { words = sessionWords s; session = s }

@@ -1,0 +1,2 @@
+// The session as words.
+pub mod state;

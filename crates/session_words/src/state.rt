@@ -1,0 +1,304 @@
+// The session as words, one a field.
+use models::DeviceId;
+use models::OptionPorts;
+use models::Ports;
+use models::RequestId;
+use models::codes;
+use session::InFlight;
+use session::OptionStall;
+use session::RecoverableStall;
+use session::RecoveryKind;
+use session::Session;
+use words::slices;
+use words::slices::word_at;
+ghost use mathlib.Core.Path.{_≡_};
+ghost use Rattle.session_words.specs.State.{deviceAt, idAt, portsOf, portsIn, portsWords, deviceOf, requestOf, stallOf, stallIn, stallWords, kindOf, kindWord, flightOf, flightIn, idFlight, recoveryFlight, flightWords, sessionOf, sessionWords, keptOf, keptAs};
+
+// How many words a session has.
+pub const WORDS: usize = 26;
+
+// The words of optional ports, of an optional stall and of what is in flight.
+pub struct PortsWords {
+    pub present: u64,
+    pub session: u64,
+    pub count: u64,
+}
+
+pub struct StallWords {
+    pub present: u64,
+    pub revision: u64,
+    pub session: u64,
+    pub generation: u64,
+    pub slot: u64,
+    pub endpoint: u64,
+}
+
+pub struct FlightWords {
+    pub tag: u64,
+    pub session: u64,
+    pub generation: u64,
+    pub sequence: u64,
+    pub device_session: u64,
+    pub device_generation: u64,
+    pub slot: u64,
+    pub endpoint: u64,
+    pub kind: u64,
+}
+
+pub fn device_at(w: &[u64], at: u8) -> DeviceId
+    ensures { λ r. ⌜ r ≡ deviceAt (now (w .entry)) at ⌝ }
+{
+    let i = at as usize;
+    DeviceId {
+        session: word_at(w, i),
+        generation: word_at(w, i + 1),
+        slot: (word_at(w, i + 2) % 256) as u8,
+    }
+}
+
+pub fn id_at(w: &[u64], at: u8) -> RequestId
+    ensures { λ r. ⌜ r ≡ idAt (now (w .entry)) at ⌝ }
+{
+    let i = at as usize;
+    RequestId {
+        session: word_at(w, i),
+        generation: word_at(w, i + 1),
+        sequence: word_at(w, i + 2),
+    }
+}
+
+fn to_ports(w: &[u64]) -> OptionPorts
+    ensures { λ r. ⌜ r ≡ portsIn (now (w .entry)) ⌝ }
+{
+    let present = word_at(w, 3);
+    if present == 0 {
+        return OptionPorts::None;
+    }
+    OptionPorts::Some(Ports {
+        session: word_at(w, 4),
+        count: (word_at(w, 5) % 256) as u8,
+    })
+}
+
+fn ports_words(ports: OptionPorts) -> PortsWords
+    ensures { λ r. ⌜ (portsOf (r .present) (r .session) (r .count) ≡ ports) × (r ≡ portsWords ports) ⌝ }
+{
+    match ports {
+        OptionPorts::None => PortsWords {
+            present: 0,
+            session: 0,
+            count: 0,
+        },
+        OptionPorts::Some(p) => PortsWords {
+            present: 1,
+            session: p.session,
+            count: p.count as u64,
+        },
+    }
+}
+
+fn to_stall(w: &[u64]) -> OptionStall
+    ensures { λ r. ⌜ r ≡ stallIn (now (w .entry)) ⌝ }
+{
+    let present = word_at(w, 9);
+    if present == 0 {
+        return OptionStall::None;
+    }
+    OptionStall::Some(RecoverableStall {
+        revision: word_at(w, 10),
+        device: device_at(w, 11),
+        endpoint: (word_at(w, 14) % 256) as u8,
+    })
+}
+
+fn stall_words(stall: OptionStall) -> StallWords
+    ensures { λ r. ⌜ (stallOf (r .present) (r .revision) (deviceOf (r .session) (r .generation) (r .slot)) (r .endpoint) ≡ stall) × (r ≡ stallWords stall) ⌝ }
+{
+    match stall {
+        OptionStall::None => StallWords {
+            present: 0,
+            revision: 0,
+            session: 0,
+            generation: 0,
+            slot: 0,
+            endpoint: 0,
+        },
+        OptionStall::Some(s) => StallWords {
+            present: 1,
+            revision: s.revision,
+            session: s.device.session,
+            generation: s.device.generation,
+            slot: s.device.slot as u64,
+            endpoint: s.endpoint as u64,
+        },
+    }
+}
+
+fn to_kind(w: u64) -> RecoveryKind
+    ensures { λ r. ⌜ r ≡ kindOf w ⌝ }
+{
+    if w == 0 {
+        return RecoveryKind::Abort;
+    }
+    RecoveryKind::Reset(words::to_flag(w - 1))
+}
+
+pub fn kind_word(kind: RecoveryKind) -> u64
+    ensures { λ r. ⌜ (kindOf r ≡ kind) × (r ≡ kindWord kind) ⌝ }
+{
+    match kind {
+        RecoveryKind::Abort => 0,
+        RecoveryKind::Reset(preserve) => {
+            if preserve {
+                return 2;
+            }
+            1
+        }
+    }
+}
+
+fn to_flight(w: &[u64]) -> InFlight
+    ensures { λ r. ⌜ r ≡ flightIn (now (w .entry)) ⌝ }
+{
+    let tag = word_at(w, 15);
+    if tag == 0 {
+        return InFlight::Nothing;
+    }
+    let id = id_at(w, 16);
+    if tag == 1 {
+        return InFlight::Submission(id);
+    }
+    if tag == 2 {
+        return InFlight::Poll(id);
+    }
+    let device = device_at(w, 19);
+    let kind = to_kind(word_at(w, 23));
+    InFlight::Recovery(id, device, (word_at(w, 22) % 256) as u8, kind)
+}
+
+fn id_flight(tag: u64, id: RequestId) -> FlightWords
+    ensures { λ r. ⌜ r ≡ idFlight tag id ⌝ }
+{
+    FlightWords {
+        tag,
+        session: id.session,
+        generation: id.generation,
+        sequence: id.sequence,
+        device_session: 0,
+        device_generation: 0,
+        slot: 0,
+        endpoint: 0,
+        kind: 0,
+    }
+}
+
+fn recovery_flight(id: RequestId, device: DeviceId, endpoint: u8, kind: RecoveryKind) -> FlightWords
+    ensures { λ r. ⌜ (kindOf (r .kind) ≡ kind) × (r ≡ recoveryFlight id device endpoint kind) ⌝ }
+{
+    FlightWords {
+        tag: 3,
+        session: id.session,
+        generation: id.generation,
+        sequence: id.sequence,
+        device_session: device.session,
+        device_generation: device.generation,
+        slot: device.slot as u64,
+        endpoint: endpoint as u64,
+        kind: kind_word(kind),
+    }
+}
+
+fn flight_words(flight: InFlight) -> FlightWords
+    ensures { λ r. ⌜ (flightOf (r .tag) (requestOf (r .session) (r .generation) (r .sequence)) (deviceOf (r .«device_session») (r .«device_generation») (r .slot)) (r .endpoint) (r .kind) ≡ flight) × (r ≡ flightWords flight) ⌝ }
+{
+    match flight {
+        InFlight::Nothing => id_flight(
+            0,
+            RequestId {
+                session: 0,
+                generation: 0,
+                sequence: 0,
+            },
+        ),
+        InFlight::Submission(id) => id_flight(1, id),
+        InFlight::Poll(id) => id_flight(2, id),
+        InFlight::Recovery(id, device, endpoint, kind) => recovery_flight(
+            id,
+            device,
+            endpoint,
+            kind,
+        ),
+    }
+}
+
+// The session that the words say; a word that is missing says 0.
+pub fn to_session(w: &[u64]) -> Session
+    ensures { λ r. ⌜ r ≡ sessionOf (now (w .entry)) ⌝ }
+{
+    Session {
+        number: word_at(w, 0),
+        generation: word_at(w, 1),
+        next_sequence: word_at(w, 2),
+        ports: to_ports(w),
+        state: codes::to_controller(word_at(w, 6)),
+        recovery_revision: words::to_option_u64(word_at(w, 7), word_at(w, 8)),
+        recoverable_stall: to_stall(w),
+        in_flight: to_flight(w),
+        row_count: word_at(w, 24),
+        row_bytes: word_at(w, 25),
+    }
+}
+
+// The words of a session, and the session that they say.
+pub fn session_words(session: Session) -> [u64; 26]
+    ensures { λ w. ⌜ (sessionOf w ≡ session) × (w ≡ sessionWords session) ⌝ }
+{
+    let ports = session.ports;
+    let state = session.state;
+    let revision = session.recovery_revision;
+    let stall = session.recoverable_stall;
+    let flight = session.in_flight;
+    let p = ports_words(ports);
+    let r = words::option_u64_words(revision);
+    let x = stall_words(stall);
+    let f = flight_words(flight);
+    [
+        session.number,
+        session.generation,
+        session.next_sequence,
+        p.present,
+        p.session,
+        p.count,
+        codes::controller_word(state),
+        r.present,
+        r.value,
+        x.present,
+        x.revision,
+        x.session,
+        x.generation,
+        x.slot,
+        x.endpoint,
+        f.tag,
+        f.session,
+        f.generation,
+        f.sequence,
+        f.device_session,
+        f.device_generation,
+        f.slot,
+        f.endpoint,
+        f.kind,
+        session.row_count,
+        session.row_bytes,
+    ]
+}
+
+// Writes the session to its words; slices of another size stay as they are.
+pub fn write_session(w: &mut [u64], session: Session)
+    ensures { λ _. ⌜ keptOf (now (w .exit)) ≡ keptAs (now (w .entry)) session ⌝ }
+{
+    if w.len() != WORDS {
+        return;
+    }
+    let next = session_words(session);
+    slices::copy_words(w, 0, &next, 26);
+}

@@ -1,0 +1,5 @@
+pub mod Replying
+pub mod Beginning
+pub mod Fitting
+pub mod Submitting
+pub mod Planning

@@ -1,0 +1,28 @@
+use Rattle.submissions.proofs.Beginning.{begin-stop, begin-on}
+use borrow.Author.Needs.{needs}
+use Rattle.submissions.proofs.begin.begin.Statement.{statement}
+use Rattle.submissions.proofs.begin.begin.Tie as tie
+
+returns : tie.Need-returns
+returns c = search begin-stop
+
+returns-2 : tie.Need-returns-2
+returns-2 c = search begin-on
+
+pub begin-spec : {M : Type 1} → statement M
+begin-spec =
+    tie.close
+    (tie.spec
+    (λ c κs. search needs)
+    (λ c. search needs)
+    (λ c κs. search needs)
+    (λ c. search needs)
+    (λ c κs. search needs)
+    (λ c κs. search needs)
+    (λ c κs. search needs)
+    (λ c κs. search needs)
+    (λ c κs. search needs)
+    returns
+    (λ c. search needs)
+    (λ c. search needs)
+    returns-2)

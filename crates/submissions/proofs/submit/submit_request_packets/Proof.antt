@@ -1,0 +1,29 @@
+use Rattle.submissions.proofs.Submitting.{submit-stop, submit-on}
+use Rattle.submissions.proofs.Fitting.{ready-sizes}
+use borrow.Author.Needs.{needs}
+use Rattle.submissions.proofs.submit.submit_request_packets.Statement.{statement}
+use Rattle.submissions.proofs.submit.submit_request_packets.Tie as tie
+
+submit-checked-requires : tie.Need-submit-checked-requires
+submit-checked-requires c κs = search ready-sizes
+
+returns : tie.Need-returns
+returns c = search submit-stop
+
+returns-2 : tie.Need-returns-2
+returns-2 c = search submit-on
+
+pub submit-request-packets-spec : {M : Type 1} → statement M
+submit-request-packets-spec =
+    tie.close
+    (tie.spec
+    (λ c κs. search needs)
+    (λ c. search needs)
+    (λ c κs. search needs)
+    (λ c. search needs)
+    submit-checked-requires
+    returns
+    (λ c. search needs)
+    (λ c. search needs)
+    (λ c. search needs)
+    returns-2)

@@ -1,0 +1,36 @@
+use Rattle.submissions.proofs.Beginning.{room-in}
+use Rattle.submissions.proofs.Submitting.{room-none, room-at}
+use Rattle.submissions.proofs.Fitting.{bus-fits, room-fits, room-place}
+use borrow.Author.Needs.{needs}
+use Rattle.submissions.proofs.submit.submit_room.Statement.{statement}
+use Rattle.submissions.proofs.submit.submit_room.Tie as tie
+
+returns : tie.Need-returns
+returns c = search room-none
+
+mul-at : tie.Need-mul-at
+mul-at c = search room-fits
+
+submit-prepared-requires : tie.Need-submit-prepared-requires
+submit-prepared-requires c κs = search (bus-fits, room-in, room-place)
+
+returns-2 : tie.Need-returns-2
+returns-2 c = search room-at
+
+pub submit-room-spec : {M : Type 1} → statement M
+submit-room-spec =
+    tie.close
+    (tie.spec
+    (λ c κs. search needs)
+    (λ c. search needs)
+    (λ c. search needs)
+    (λ c κs. search needs)
+    (λ c κs. search needs)
+    (λ c. search needs)
+    returns
+    mul-at
+    submit-prepared-requires
+    (λ c. search needs)
+    (λ c. search needs)
+    (λ c. search needs)
+    returns-2)

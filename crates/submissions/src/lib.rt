@@ -1,0 +1,53 @@
+// Submissions: the Rust's services/requests.rs and `submit_control_plan` of services/explicit.rs. One call says what the backend is to do,
+// one brings its reply.
+use checks::plan::ValidatedControlPlan;
+use models::OperationError;
+use models::Refusal;
+use models::RequestId;
+use models::RequestMetadata;
+use session::Session;
+
+mod begin;
+pub mod reply;
+pub mod submit;
+
+// What the backend is to do for a request. Its buffer is the first bytes of the row's part of the area; packets are the caller's list.
+pub struct Submission {
+    pub id: RequestId,
+    pub row: u64,
+    pub metadata: RequestMetadata,
+    pub has_packets: bool,
+}
+
+pub enum SubmitAnswer {
+    Refused(Refusal),
+    Begun(Submission),
+}
+
+pub struct Submitted {
+    pub answer: SubmitAnswer,
+    pub session: Session,
+}
+
+// What the backend is to do for a control plan. Its SETUP bytes are `standards::setup::setup_bytes` of the metadata's packet.
+pub struct PlanSubmission {
+    pub id: RequestId,
+    pub row: u64,
+    pub plan: ValidatedControlPlan,
+}
+
+pub enum PlanAnswer {
+    Refused(Refusal),
+    Begun(PlanSubmission),
+}
+
+pub struct PlanSubmitted {
+    pub answer: PlanAnswer,
+    pub session: Session,
+}
+
+// The backend's reply to a submission.
+pub enum SubmitReply {
+    Token(u64),
+    Error(OperationError),
+}

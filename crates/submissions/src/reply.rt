@@ -1,0 +1,78 @@
+// The backend's reply to a submission.
+use crate::SubmitReply;
+use ledger::Applied;
+use ledger::rules::Change;
+use models::OperationError;
+use models::RequestId;
+use reports::ReportAnswer;
+use reports::Reported;
+use reports::answers::refused;
+use reports::answers::refused_by;
+use reports::answers::take_effect;
+use session::InFlight;
+use session::Session;
+use session::sizes;
+ghost use mathlib.Core.Path.{_≡_};
+ghost use lib.ListN.{length};
+ghost use Rattle.rows.specs.Store.{storeOf};
+ghost use Rattle.session.specs.Sizes.{rowsFit};
+ghost use Rattle.reports.specs.Answers.{reportedTo};
+ghost use Rattle.submissions.specs.Reply.{acceptedBy, discardedBy, submitReplyBy, submitReplyOf};
+
+// The backend took the request: the operation ends with the row's report.
+fn accepted(applied: Applied, session: Session) -> Reported
+    ensures { λ r. ⌜ r ≡ acceptedBy applied session ⌝ }
+{
+    let Applied::Done(report) = applied else {
+        return refused_by(session, 2);
+    };
+    Reported {
+        answer: ReportAnswer::Report(report),
+        session: session::with_flight(session, InFlight::Nothing),
+    }
+}
+
+// The backend refused it: 45.
+fn discarded(applied: Applied, error: OperationError, session: Session) -> Reported
+    ensures { λ r. ⌜ r ≡ discardedBy applied error session ⌝ }
+{
+    let Applied::Done(_) = applied else {
+        return refused_by(session, 2);
+    };
+    let marked = take_effect(session, error);
+    let ended = session::with_flight(marked, InFlight::Nothing);
+    refused(ended, models::refuse_backend(45, error))
+}
+
+fn reply_to(session: Session, rows: &mut [u64], id: RequestId, reply: SubmitReply) -> Reported
+    ensures { λ r. ⌜ reportedTo r (storeOf (now (rows .exit))) ≡ submitReplyBy reply id session (storeOf (now (rows .entry))) ⌝ }
+{
+    match reply {
+        SubmitReply::Token(token) => {
+            let applied = ledger::apply(rows, id, Change::Accept(token));
+            accepted(applied, session)
+        }
+        SubmitReply::Error(error) => {
+            let applied = ledger::apply(rows, id, Change::Discard);
+            discarded(applied, error, session)
+        }
+    }
+}
+
+// 2: no submission is in flight; 3; 2: no row has its id. Else the operation ends.
+pub fn submit_reply(session: Session, rows: &mut [u64], reply: SubmitReply) -> Reported
+    ensures { λ r. ⌜ reportedTo r (storeOf (now (rows .exit))) ≡ submitReplyOf session (rowsFit (session .«row_count») (session .«row_bytes») (length (now (rows .entry)))) reply (storeOf (now (rows .entry))) ⌝ }
+{
+    let flight = session.in_flight;
+    match flight {
+        InFlight::Nothing => refused_by(session, 2),
+        InFlight::Submission(id) => {
+            if !sizes::rows_fit(session.row_count, session.row_bytes, rows.len()) {
+                return refused_by(session, 3);
+            }
+            reply_to(session, rows, id, reply)
+        }
+        InFlight::Poll(_) => refused_by(session, 2),
+        InFlight::Recovery(_, _, _, _) => refused_by(session, 2),
+    }
+}

@@ -1,0 +1,313 @@
+// Submissions and their reply.
+use crate::PlanAnswer;
+use crate::PlanSubmission;
+use crate::PlanSubmitted;
+use crate::Submission;
+use crate::SubmitAnswer;
+use crate::Submitted;
+use crate::begin;
+use crate::begin::Start;
+use crate::begin::Started;
+use chain::Found;
+use checks::packets;
+use checks::plan;
+use checks::plan::Planned;
+use checks::plan::ValidatedControlPlan;
+use checks::prepare;
+use checks::prepare::Prepared;
+use models::ControlPlan;
+use models::PortReading;
+use models::Refusal;
+use models::RequestMetadata;
+use models::RequestSpec;
+use models::Verdict;
+use session::Session;
+use session::sizes;
+ghost use mathlib.Core.Path.{_≡_};
+ghost use mathlib.Core.Bool.{true};
+ghost use Prim.Native.Nat.{_*_, _+_, _<_, _≤_};
+ghost use lib.ListN.{length};
+ghost use Rattle.rows.specs.Table.{rowsOf};
+ghost use Rattle.rows.specs.Store.{storeOf};
+ghost use Rattle.bus.specs.Layout.{busWords};
+ghost use Rattle.bus.specs.Tables.{busOf};
+ghost use Rattle.checks.specs.Packets.{packetsChecked};
+ghost use Rattle.checks.specs.Prepare.{prepared};
+ghost use Rattle.checks.specs.Plan.{planned};
+ghost use Rattle.submissions.specs.Begin.{roomIn};
+ghost use Rattle.submissions.specs.Submit.{storeFits, readyOf, submitRefused, submittedBy, submitTo, preparedBy, roomBy, packetsBy, submitOf, planRefused, planStarted, planTo, plannedBy, planRoomBy, submitPlanOf};
+
+// 1; 3: rows, area or bus are of another size than the session records.
+fn ready(session: Session, words: usize, bytes: usize, bus_words: usize) -> Verdict
+    ensures { λ r. ⌜ r ≡ readyOf session (storeFits session words bytes «bus_words») ⌝ }
+{
+    let flight = session.in_flight;
+    if session::is_busy(flight) {
+        return Verdict::Refused(models::refuse_validation(1));
+    }
+    let rows_fit = sizes::rows_fit(session.row_count, session.row_bytes, words);
+    let area_fits = sizes::area_fits(session.row_count, session.row_bytes, bytes);
+    let bus_fits = sizes::bus_fits(bus_words);
+    if !(rows_fit & area_fits & bus_fits) {
+        return Verdict::Refused(models::refuse_validation(3));
+    }
+    Verdict::Pass
+}
+
+fn submit_refused(session: Session, refusal: Refusal) -> Submitted
+    ensures { λ r. ⌜ r ≡ submitRefused session refusal ⌝ }
+{
+    Submitted {
+        answer: SubmitAnswer::Refused(refusal),
+        session,
+    }
+}
+
+fn submitted(started: Started, metadata: RequestMetadata, given: bool) -> Submitted
+    ensures { λ r. ⌜ r ≡ submittedBy (started .answer) (started .session) metadata given ⌝ }
+{
+    let answer = started.answer;
+    let session = started.session;
+    match answer {
+        Start::Refused(refusal) => submit_refused(session, refusal),
+        Start::At(id, row) => Submitted {
+            answer: SubmitAnswer::Begun(Submission {
+                id,
+                row,
+                metadata,
+                has_packets: given,
+            }),
+            session,
+        },
+    }
+}
+
+// 6 to 17, then 26 to 39; row i is free, and its bytes start at `at`.
+fn submit_prepared(
+    session: Session,
+    bus: &mut [u64],
+    rows: &mut [u64],
+    area: &mut [u8],
+    i: usize,
+    at: usize,
+    q: RequestSpec,
+    bytes: &[u8],
+    given: bool,
+    first: PortReading,
+    second: PortReading,
+) -> Submitted
+    requires { ⌜ (length (now bus) ≡ busWords) × (i < length (rowsOf (now rows))) × (at ≡ i * session .«row_bytes») × (at + session .«row_bytes» ≤ length (now area)) ⌝ }
+    ensures { λ r. ⌜ submitTo r (busOf (now (bus .exit))) (storeOf (now (rows .exit))) (now (area .exit)) ≡ preparedBy (prepared q (length (now (bytes .entry))) (session .«row_bytes»)) session i (now (bytes .entry)) given first second (busOf (now (bus .entry))) (storeOf (now (rows .entry))) (now (area .entry)) ⌝ }
+{
+    let answer = prepare::prepare(q, bytes.len() as u64, session.row_bytes);
+    match answer {
+        Prepared::Refused(refusal) => submit_refused(session, refusal),
+        Prepared::Ready(metadata) => {
+            let started = begin::begin_target(
+                session,
+                bus,
+                rows,
+                area,
+                i,
+                at,
+                metadata,
+                bytes,
+                first,
+                second,
+            );
+            submitted(started, metadata, given)
+        }
+    }
+}
+
+// 5, then the rest.
+fn submit_room(
+    session: Session,
+    bus: &mut [u64],
+    rows: &mut [u64],
+    area: &mut [u8],
+    q: RequestSpec,
+    bytes: &[u8],
+    given: bool,
+    first: PortReading,
+    second: PortReading,
+) -> Submitted
+    requires { ⌜ storeFits session (length (now rows)) (length (now area)) (length (now bus)) ≡ true ⌝ }
+    ensures { λ r. ⌜ submitTo r (busOf (now (bus .exit))) (storeOf (now (rows .exit))) (now (area .exit)) ≡ roomBy (roomIn (rowsOf (now (rows .entry)))) session q (now (bytes .entry)) given first second (busOf (now (bus .entry))) (storeOf (now (rows .entry))) (now (area .entry)) ⌝ }
+{
+    let found = begin::find_room(rows);
+    let Found::At(i) = found else {
+        return submit_refused(session, models::refuse_validation(5));
+    };
+    let at = i * session.row_bytes as usize;
+    submit_prepared(
+        session,
+        bus,
+        rows,
+        area,
+        i,
+        at,
+        q,
+        bytes,
+        given,
+        first,
+        second,
+    )
+}
+
+// 4, then the rest.
+fn submit_checked(
+    session: Session,
+    bus: &mut [u64],
+    rows: &mut [u64],
+    area: &mut [u8],
+    q: RequestSpec,
+    bytes: &[u8],
+    given: bool,
+    packets: &[u64],
+    first: PortReading,
+    second: PortReading,
+) -> Submitted
+    requires { ⌜ storeFits session (length (now rows)) (length (now area)) (length (now bus)) ≡ true ⌝ }
+    ensures { λ r. ⌜ submitTo r (busOf (now (bus .exit))) (storeOf (now (rows .exit))) (now (area .exit)) ≡ packetsBy (packetsChecked given (now (packets .entry)) (q .«transfer_type») (q .length)) session q (now (bytes .entry)) given first second (busOf (now (bus .entry))) (storeOf (now (rows .entry))) (now (area .entry)) ⌝ }
+{
+    let transfer_type = q.transfer_type;
+    let verdict = packets::check_packets(given, packets, transfer_type, q.length);
+    match verdict {
+        Verdict::Refused(refusal) => submit_refused(session, refusal),
+        Verdict::Pass => submit_room(session, bus, rows, area, q, bytes, given, first, second),
+    }
+}
+
+// A request: 1, 3, 4, 5, 6 to 17, 26 to 38, 39. Passing, it is in flight, and the answer is what the backend is to do.
+pub fn submit_request_packets(
+    session: Session,
+    bus: &mut [u64],
+    rows: &mut [u64],
+    area: &mut [u8],
+    q: RequestSpec,
+    bytes: &[u8],
+    given: bool,
+    packets: &[u64],
+    first: PortReading,
+    second: PortReading,
+) -> Submitted
+    ensures { λ r. ⌜ submitTo r (busOf (now (bus .exit))) (storeOf (now (rows .exit))) (now (area .exit)) ≡ submitOf session (storeFits session (length (now (rows .entry))) (length (now (area .entry))) (length (now (bus .entry)))) q (now (bytes .entry)) given (now (packets .entry)) first second (busOf (now (bus .entry))) (storeOf (now (rows .entry))) (now (area .entry)) ⌝ }
+{
+    let verdict = ready(session, rows.len(), area.len(), bus.len());
+    match verdict {
+        Verdict::Refused(refusal) => submit_refused(session, refusal),
+        Verdict::Pass => submit_checked(
+            session,
+            bus,
+            rows,
+            area,
+            q,
+            bytes,
+            given,
+            packets,
+            first,
+            second,
+        ),
+    }
+}
+
+fn plan_refused(session: Session, refusal: Refusal) -> PlanSubmitted
+    ensures { λ r. ⌜ r ≡ planRefused session refusal ⌝ }
+{
+    PlanSubmitted {
+        answer: PlanAnswer::Refused(refusal),
+        session,
+    }
+}
+
+fn plan_started(started: Started, p: ValidatedControlPlan) -> PlanSubmitted
+    ensures { λ r. ⌜ r ≡ planStarted (started .answer) (started .session) p ⌝ }
+{
+    let answer = started.answer;
+    let session = started.session;
+    match answer {
+        Start::Refused(refusal) => plan_refused(session, refusal),
+        Start::At(id, row) => PlanSubmitted {
+            answer: PlanAnswer::Begun(PlanSubmission { id, row, plan: p }),
+            session,
+        },
+    }
+}
+
+// 18 to 25 with 6 and 7, then 26 to 35 and 39.
+fn plan_prepared(
+    session: Session,
+    bus: &mut [u64],
+    rows: &mut [u64],
+    area: &mut [u8],
+    i: usize,
+    at: usize,
+    q: ControlPlan,
+    bytes: &[u8],
+    first: PortReading,
+) -> PlanSubmitted
+    requires { ⌜ (length (now bus) ≡ busWords) × (i < length (rowsOf (now rows))) × (at ≡ i * session .«row_bytes») × (at + session .«row_bytes» ≤ length (now area)) ⌝ }
+    ensures { λ r. ⌜ planTo r (busOf (now (bus .exit))) (storeOf (now (rows .exit))) (now (area .exit)) ≡ plannedBy (planned q (length (now (bytes .entry))) (session .«row_bytes»)) session i (now (bytes .entry)) first (busOf (now (bus .entry))) (storeOf (now (rows .entry))) (now (area .entry)) ⌝ }
+{
+    let answer = plan::validate_plan(q, bytes.len() as u64, session.row_bytes);
+    match answer {
+        Planned::Refused(refusal) => plan_refused(session, refusal),
+        Planned::Ready(p) => {
+            let metadata = p.metadata;
+            let started = begin::begin_target(
+                session,
+                bus,
+                rows,
+                area,
+                i,
+                at,
+                metadata,
+                bytes,
+                first,
+                first,
+            );
+            plan_started(started, p)
+        }
+    }
+}
+
+// 5, then the rest.
+fn plan_room(
+    session: Session,
+    bus: &mut [u64],
+    rows: &mut [u64],
+    area: &mut [u8],
+    q: ControlPlan,
+    bytes: &[u8],
+    first: PortReading,
+) -> PlanSubmitted
+    requires { ⌜ storeFits session (length (now rows)) (length (now area)) (length (now bus)) ≡ true ⌝ }
+    ensures { λ r. ⌜ planTo r (busOf (now (bus .exit))) (storeOf (now (rows .exit))) (now (area .exit)) ≡ planRoomBy (roomIn (rowsOf (now (rows .entry)))) session q (now (bytes .entry)) first (busOf (now (bus .entry))) (storeOf (now (rows .entry))) (now (area .entry)) ⌝ }
+{
+    let found = begin::find_room(rows);
+    let Found::At(i) = found else {
+        return plan_refused(session, models::refuse_validation(5));
+    };
+    let at = i * session.row_bytes as usize;
+    plan_prepared(session, bus, rows, area, i, at, q, bytes, first)
+}
+
+// A control plan: 1, 3, 5, 18 to 25 with 6 and 7, 26 to 35, 39.
+pub fn submit_control_plan(
+    session: Session,
+    bus: &mut [u64],
+    rows: &mut [u64],
+    area: &mut [u8],
+    q: ControlPlan,
+    bytes: &[u8],
+    first: PortReading,
+) -> PlanSubmitted
+    ensures { λ r. ⌜ planTo r (busOf (now (bus .exit))) (storeOf (now (rows .exit))) (now (area .exit)) ≡ submitPlanOf session (storeFits session (length (now (rows .entry))) (length (now (area .entry))) (length (now (bus .entry)))) q (now (bytes .entry)) first (busOf (now (bus .entry))) (storeOf (now (rows .entry))) (now (area .entry)) ⌝ }
+{
+    let verdict = ready(session, rows.len(), area.len(), bus.len());
+    match verdict {
+        Verdict::Refused(refusal) => plan_refused(session, refusal),
+        Verdict::Pass => plan_room(session, bus, rows, area, q, bytes, first),
+    }
+}
