@@ -12,7 +12,7 @@ use Rattle.chain.proofs.Chain.{takes, passes}
 use Rattle.chain.proofs.Lists.{find-on, find-here}
 use Rattle.words.specs.Records.{splice, part}
 use Rattle.words.proofs.Records.{part-getD, part-first, part-length, chunks-at}
-use Rattle.models.specs.Refusals.{validation}
+use Rattle.models.specs.Refusals.{refusalOf}
 use Rattle.models.specs.declared.Refusal.{Refusal}
 use Rattle.models.specs.declared.TransferType.{TransferType}
 use Rattle.models.specs.declared.Verdict.the-variants as verdict
@@ -22,7 +22,7 @@ use Rattle.bus.specs.Ports.{VerdictTo, verdictTo}
 use Rattle.bus.specs.Endpoints.{isEndpoint, setEndpoints}
 use Rattle.bus.proofs.Tabled.{put-endpoints}
 
-pub endpoints-over : (slot : ℕ) (e : List ℕ) (b : Bus) (r : Refusal) → 30 < length e → r ≡ validation 53
+pub endpoints-over : (slot : ℕ) (e : List ℕ) (b : Bus) (r : Refusal) → 30 < length e → r ≡ refusalOf 53
     → verdictTo (verdict.Refused r) b ≡ setEndpoints slot e b
 unfolding setEndpoints
 endpoints-over slot e b r h f = takes VerdictTo _ _ _ _ (lt-ltb _ _ h) (rw f)

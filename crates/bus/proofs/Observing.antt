@@ -7,7 +7,7 @@ use borrow.Author.Tests.{eq-eqb, ne-eqb}
 use Rattle.chain.proofs.Chain.{takes, passes, eq-not, ne-not}
 use Rattle.words.specs.declared.OptionU32.{OptionU32}
 use Rattle.words.specs.declared.OptionU32.the-variants as u32
-use Rattle.models.specs.Refusals.{validation, fromBackend}
+use Rattle.models.specs.Refusals.{refusalOf, fromBackend}
 use Rattle.models.specs.declared.OperationError.{OperationError}
 use Rattle.models.specs.declared.OptionPorts.{OptionPorts}
 use Rattle.models.specs.declared.OptionPorts.the-variants as ports
@@ -29,12 +29,12 @@ use Rattle.bus.specs.declared.ports.Observed.the-variants as observed
 
 -- a port number against the ports
 module _ (o : OptionPorts) (number : ℕ) where
-  pub number-none : (r : Refusal) → o ≡ ports.None → r ≡ validation 29 → verdict.Refused r ≡ numberChecked o number
+  pub number-none : (r : Refusal) → o ≡ ports.None → r ≡ refusalOf 29 → verdict.Refused r ≡ numberChecked o number
   unfolding numberChecked
   number-none r e f = rw (e, f)
 
   module _ (p : Ports) (e : o ≡ ports.Some p) where
-    pub number-out : (r : Refusal) → (eqb number 0 || ltb (p .count) number) ≡ true → r ≡ validation 30 → verdict.Refused r ≡ numberChecked o number
+    pub number-out : (r : Refusal) → (eqb number 0 || ltb (p .count) number) ≡ true → r ≡ refusalOf 30 → verdict.Refused r ≡ numberChecked o number
     unfolding numberChecked
     number-out r t f = rw (e, f) (takes Verdict _ _ _ _ t refl)
 
@@ -46,7 +46,7 @@ module _ (o : OptionPorts) (number : ℕ) where
 pub session-is : (o : OptionPorts) (p : Ports) (session : ℕ) → o ≡ ports.Some p → eqb session (p .session) ≡ isSession o session
 session-is o p session e = rw e
 
-pub reading-none : (o : OptionU32) (r : Refusal) → o ≡ u32.None → r ≡ validation 32 → checked.Refused r ≡ readingOf o
+pub reading-none : (o : OptionU32) (r : Refusal) → o ≡ u32.None → r ≡ refusalOf 32 → checked.Refused r ≡ readingOf o
 unfolding readingOf
 reading-none o r e f = rw (e, f)
 
@@ -57,7 +57,7 @@ reading-some o raw e = rw e
 -- an id against its row
 module _ (o : OptionPorts) (id : PortId) where
   module _ (row : PortRow) (same : Bool) (s : same ≡ isSession o (id .session)) where
-    pub row-stale : (r : Refusal) → (not same || not (eqb (id .generation) (row .generation))) ≡ true → r ≡ validation 31
+    pub row-stale : (r : Refusal) → (not same || not (eqb (id .generation) (row .generation))) ≡ true → r ≡ refusalOf 31
         → checked.Refused r ≡ validatedRow o id row
     unfolding validatedRow
     row-stale r t f = takes PortChecked _ _ _ _ (rw s at t) (ap checked.Refused f)
@@ -88,7 +88,7 @@ module _ (o : OptionPorts) (number : ℕ) (row : PortRow) (b : Bus) (x : Verdict
 
 -- a row after a reading
 module _ (row : PortRow) (raw : ℕ) where
-  pub raise-full : (r : Refusal) → row .generation ≡ 18446744073709551615 → r ≡ validation 34 → observed.Refused r ≡ raised row raw
+  pub raise-full : (r : Refusal) → row .generation ≡ 18446744073709551615 → r ≡ refusalOf 34 → observed.Refused r ≡ raised row raw
   unfolding raised
   raise-full r e f = takes Observed _ _ _ _ (eq-eqb _ _ e) (ap observed.Refused f)
 
@@ -126,7 +126,7 @@ module _ (id : PortId) (raw : ℕ) (b after : Bus) (v : Observed) (f : observedT
   fresh-full r g = rw (← f, g)
 
   module _ (w : PortRow) (g : v ≡ observed.To w) where
-    pub fresh-stale : (r : Refusal) → (id .generation ≡ w .generation → ⊥) → r ≡ validation 31 → freshTo (checked.Refused r) after ≡ freshWord raw id b
+    pub fresh-stale : (r : Refusal) → (id .generation ≡ w .generation → ⊥) → r ≡ refusalOf 31 → freshTo (checked.Refused r) after ≡ freshWord raw id b
     unfolding freshWord freshObserved
     fresh-stale r ne h = rw (← f, g) (ap (λ (c : PortChecked). freshTo c after) (takes PortChecked _ _ _ _ (ne-not _ _ ne) (ap checked.Refused h)))
 

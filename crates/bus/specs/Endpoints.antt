@@ -5,7 +5,7 @@ use mathlib.Core.List.{List}
 use lib.ListN.{length}
 use lib.Dec.{eqb, ltb}
 use Rattle.chain.specs.Chain.{_if_else_}
-use Rattle.models.specs.Refusals.{validation}
+use Rattle.models.specs.Refusals.{refusalOf}
 use Rattle.models.specs.Kinds.{sameTransfer}
 use Rattle.models.specs.declared.EndpointSnapshot.{EndpointSnapshot}
 use Rattle.models.specs.declared.TransferType.{TransferType}
@@ -19,5 +19,5 @@ isEndpoint address type e = eqb (e .address) address && sameTransfer (e .«trans
 -- 53: more than 30
 unfoldable pub setEndpoints : ℕ → List ℕ → Bus → VerdictTo
 setEndpoints slot l b =
-    verdictTo (verdict.Refused (validation 53)) b if ltb 30 (length l) else
+    verdictTo (verdict.Refused (refusalOf 53)) b if ltb 30 (length l) else
     verdictTo verdict.Pass (putEndpoints b slot l)

@@ -5,7 +5,7 @@ use lib.Dec.{eqb, ltb}
 use Rattle.chain.specs.Chain.{_if_else_}
 use Rattle.words.specs.declared.OptionU32.{OptionU32}
 use Rattle.words.specs.declared.OptionU32.the-variants as u32
-use Rattle.models.specs.Refusals.{validation, fromBackend}
+use Rattle.models.specs.Refusals.{refusalOf, fromBackend}
 use Rattle.models.specs.declared.OptionPorts.{OptionPorts}
 use Rattle.models.specs.declared.OptionPorts.the-variants as ports
 use Rattle.models.specs.declared.PortId.{PortId}
@@ -23,8 +23,8 @@ use Rattle.bus.specs.declared.ports.Observed.the-variants as observed
 
 -- 29: no ports; 30: the number is 0 or above the count
 unfoldable pub numberChecked : OptionPorts → ℕ → Verdict
-numberChecked ports.None number = verdict.Refused (validation 29)
-numberChecked (ports.Some p) number = verdict.Refused (validation 30) if eqb number 0 || ltb (p .count) number else verdict.Pass
+numberChecked ports.None number = verdict.Refused (refusalOf 29)
+numberChecked (ports.Some p) number = verdict.Refused (refusalOf 30) if eqb number 0 || ltb (p .count) number else verdict.Pass
 
 -- a verdict and the bus after it
 pub record VerdictTo : Type 0 where
@@ -43,7 +43,7 @@ setPort ports number row b = setPortBy (numberChecked ports number) number row b
 
 -- 32: no reading
 unfoldable pub readingOf : OptionU32 → PortChecked
-readingOf u32.None = checked.Refused (validation 32)
+readingOf u32.None = checked.Refused (refusalOf 32)
 readingOf (u32.Some raw) = checked.Read raw
 
 -- the session number that port ids carry is the opening's
@@ -54,7 +54,7 @@ isSession (ports.Some p) session = eqb session (p .session)
 -- 31: another session than the opening's, or another generation than the row's
 unfoldable pub validatedRow : OptionPorts → PortId → PortRow → PortChecked
 validatedRow ports id row =
-    checked.Refused (validation 31) if not (isSession ports (id .session)) || not (eqb (id .generation) (row .generation)) else
+    checked.Refused (refusalOf 31) if not (isSession ports (id .session)) || not (eqb (id .generation) (row .generation)) else
     readingOf (row .reading)
 
 unfoldable pub validatedBy : Verdict → OptionPorts → PortId → Bus → PortChecked
@@ -68,7 +68,7 @@ validated ports id b = validatedBy (numberChecked ports (id .number)) ports id b
 -- if the reading's connected bit differs from the row's, the generation rises by one; 34: it is at its maximum
 unfoldable pub raised : PortRow → ℕ → Observed
 raised row raw =
-    observed.Refused (validation 34) if eqb (row .generation) (2 ^ 64 - 1) else
+    observed.Refused (refusalOf 34) if eqb (row .generation) (2 ^ 64 - 1) else
     observed.To (record { generation = row .generation + 1; reading = u32.Some raw })
 
 unfoldable pub observedBy : OptionU32 → PortRow → ℕ → Observed
@@ -106,7 +106,7 @@ freshTo c b = record { answer = c; bus = b }
 -- 31 again, with the row written
 unfoldable pub freshObserved : Observed → PortId → ℕ → PortChecked
 freshObserved (observed.Refused r) id raw = checked.Refused r
-freshObserved (observed.To row) id raw = checked.Refused (validation 31) if not (eqb (id .generation) (row .generation)) else checked.Read raw
+freshObserved (observed.To row) id raw = checked.Refused (refusalOf 31) if not (eqb (id .generation) (row .generation)) else checked.Read raw
 
 -- 34 with nothing written, or the row written
 unfoldable pub freshWord : ℕ → PortId → Bus → FreshTo

@@ -20,7 +20,7 @@ pub fn set_endpoints(bus: &mut [u64], slot: u8, list: &[u64]) -> Verdict
     ensures { λ r. ⌜ verdictTo r (busOf (now (bus .exit))) ≡ setEndpoints slot (now (list .entry)) (busOf (now (bus .entry))) ⌝ }
 {
     if list.len() > 30 {
-        return Verdict::Refused(models::refuse_validation(53));
+        return Verdict::Refused(models::refuse(53));
     }
     let at = ENDPOINTS + slot as usize * 31;
     let n = list.len();

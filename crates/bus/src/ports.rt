@@ -65,10 +65,10 @@ fn check_number(ports: OptionPorts, number: u8) -> Verdict
     ensures { λ r. ⌜ r ≡ numberChecked ports number ⌝ }
 {
     let OptionPorts::Some(p) = ports else {
-        return Verdict::Refused(models::refuse_validation(29));
+        return Verdict::Refused(models::refuse(29));
     };
     if (number == 0) | (number > p.count) {
-        return Verdict::Refused(models::refuse_validation(30));
+        return Verdict::Refused(models::refuse(30));
     }
     Verdict::Pass
 }
@@ -101,7 +101,7 @@ fn reading_of(reading: OptionU32) -> PortChecked
     ensures { λ r. ⌜ r ≡ readingOf reading ⌝ }
 {
     let OptionU32::Some(raw) = reading else {
-        return PortChecked::Refused(models::refuse_validation(32));
+        return PortChecked::Refused(models::refuse(32));
     };
     PortChecked::Read(raw)
 }
@@ -112,7 +112,7 @@ fn validate_row(ports: OptionPorts, id: PortId, row: PortRow) -> PortChecked
 {
     let same = is_session(ports, id.session);
     if !same | (id.generation != row.generation) {
-        return PortChecked::Refused(models::refuse_validation(31));
+        return PortChecked::Refused(models::refuse(31));
     }
     let reading = row.reading;
     reading_of(reading)
@@ -138,7 +138,7 @@ fn raise(row: PortRow, raw: u32) -> Observed
     ensures { λ r. ⌜ r ≡ raised row raw ⌝ }
 {
     if row.generation == 18446744073709551615 {
-        return Observed::Refused(models::refuse_validation(34));
+        return Observed::Refused(models::refuse(34));
     }
     Observed::To(PortRow {
         generation: row.generation + 1,
@@ -190,7 +190,7 @@ fn observe_word(bus: &mut [u64], id: PortId, raw: u32) -> PortChecked
         Observed::Refused(refusal) => PortChecked::Refused(refusal),
         Observed::To(row) => {
             if id.generation != row.generation {
-                return PortChecked::Refused(models::refuse_validation(31));
+                return PortChecked::Refused(models::refuse(31));
             }
             PortChecked::Read(raw)
         }

@@ -25,7 +25,7 @@ use Rattle.bus.specs.Endpoints.{isEndpoint}
 use Rattle.bus.specs.declared.ports.PortChecked.{PortChecked}
 use Rattle.bus.specs.declared.ports.PortChecked.the-variants as checked
 use Rattle.checks.specs.Target.{refusedDevice, knownBy, knownDevice, preparedDevice, deviceTo, freshDevice, checkDeviceBy, checkDevice, speedChecked, endpointBy, checkEndpoint, targetBy, checkTarget}
-use Rattle.checks.specs.Verdicts.{rejected, unsupportedBy}
+use Rattle.checks.specs.Verdicts.{rejected}
 use Rattle.checks.specs.declared.target.DeviceChecked.{DeviceChecked}
 use Rattle.checks.specs.declared.target.DeviceChecked.the-variants as answer
 
@@ -95,7 +95,7 @@ module _ (i : Bool) (o : OptionPorts) (id : DeviceId) (reading : PortReading) (b
 
 -- 37 and 38
 module _ (raw slot endpoint : ℕ) (type : TransferType) (b : Bus) (speed : ℕ) (bulk : Bool) (es : speed ≡ portSpeed raw) (eb : bulk ≡ isBulk type) where
-  pub speed-two : (r : Verdict) → (eqb speed 2 && bulk) ≡ true → r ≡ unsupportedBy 37 → r ≡ speedChecked raw slot endpoint type b
+  pub speed-two : (r : Verdict) → (eqb speed 2 && bulk) ≡ true → r ≡ rejected 37 → r ≡ speedChecked raw slot endpoint type b
   unfolding speedChecked
   speed-two r e er = takes Verdict _ _ _ _ (rw (es, eb) at e) er
 

@@ -19,7 +19,7 @@ use Rattle.models.specs.declared.TransferType.the-variants.{Control}
 use Rattle.models.specs.declared.Verdict.{Verdict}
 use Rattle.models.specs.declared.Verdict.the-variants as verdict
 use Rattle.standards.specs.Setup.{requestDirection, requestKind, recipientOf}
-use Rattle.checks.specs.Verdicts.{rejected, unsupportedBy}
+use Rattle.checks.specs.Verdicts.{rejected}
 use Rattle.checks.specs.declared.plan.PlanFacts.{PlanFacts}
 use Rattle.checks.specs.declared.plan.ValidatedControlPlan.{ValidatedControlPlan}
 use Rattle.checks.specs.declared.plan.Planned.{Planned}
@@ -76,7 +76,7 @@ payloadChecked v =
 -- Compliant: 21U as 13; 22 stages; 23 status, which is OUT after a non-empty IN stage, else IN
 unfoldable pub stagesChecked : PlanFacts → Verdict
 stagesChecked v =
-    unsupportedBy 21 if ltb 3 (v .recipient) || eqb (v .kind) 3 else
+    rejected 21 if ltb 3 (v .recipient) || eqb (v .kind) 3 else
     rejected 22
     if not (eqb (v .length) (v .«setup_length»)) || not (Bool·beq (v .«has_stage») (not (eqb (v .«setup_length») 0))) || not (Bool·beq (v .inward) (v .«setup_in»))
     else
@@ -86,7 +86,7 @@ stagesChecked v =
 -- 6; 7
 unfoldable pub sizeChecked : PlanFacts → Verdict
 sizeChecked v =
-    unsupportedBy 6 if ltb 65536 (v .length) else
+    rejected 6 if ltb 65536 (v .length) else
     rejected 7 if ltb (v .«row_bytes») (v .length) else
     stagesChecked v if v .compliant else
     payloadChecked v
@@ -94,9 +94,9 @@ sizeChecked v =
 -- 18U no status; 19U type 0 request 5; 20U type 0 request 9 or type 1 request 11
 unfoldable pub planChecked : PlanFacts → Verdict
 planChecked v =
-    unsupportedBy 18 if not (v .«has_status») else
-    unsupportedBy 19 if eqb (v .«request_type») 0 && eqb (v .request) 5 else
-    unsupportedBy 20 if eqb (v .«request_type») 0 && eqb (v .request) 9 || eqb (v .«request_type») 1 && eqb (v .request) 11 else
+    rejected 18 if not (v .«has_status») else
+    rejected 19 if eqb (v .«request_type») 0 && eqb (v .request) 5 else
+    rejected 20 if eqb (v .«request_type») 0 && eqb (v .request) 9 || eqb (v .«request_type») 1 && eqb (v .request) 11 else
     sizeChecked v
 
 -- document 01's validated plan

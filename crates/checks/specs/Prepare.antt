@@ -12,7 +12,7 @@ use Rattle.models.specs.declared.SetupPacket.{SetupPacket}
 use Rattle.models.specs.declared.Verdict.{Verdict}
 use Rattle.models.specs.declared.Verdict.the-variants as verdict
 use Rattle.standards.specs.Setup.{requestDirection, requestKind, recipientOf, endpointNumber, endpointReserved, endpointDirection}
-use Rattle.checks.specs.Verdicts.{rejected, unsupportedBy}
+use Rattle.checks.specs.Verdicts.{rejected}
 use Rattle.checks.specs.declared.prepare.SpecFacts.{SpecFacts}
 use Rattle.checks.specs.declared.prepare.Prepared.{Prepared}
 use Rattle.checks.specs.declared.prepare.Prepared.the-variants as answer
@@ -58,10 +58,10 @@ unfoldable pub controlChecked : SpecFacts → Verdict
 controlChecked v =
     rejected 9 if not (eqb (v .endpoint) 0) || ltb 65535 (v .length) else
     rejected 10 if not (v .«has_setup») else
-    unsupportedBy 11 if not (eqb (v .«setup_length») (v .length)) else
+    rejected 11 if not (eqb (v .«setup_length») (v .length)) else
     rejected 12 if not (Bool·beq (v .«setup_in») (v .inward)) else
-    unsupportedBy 13 if ltb 3 (v .recipient) || eqb (v .kind) 3 else
-    unsupportedBy 14 if eqb (v .kind) 0 && (eqb (v .request) 5 || eqb (v .request) 9 || eqb (v .request) 11) else
+    rejected 13 if ltb 3 (v .recipient) || eqb (v .kind) 3 else
+    rejected 14 if eqb (v .kind) 0 && (eqb (v .request) 5 || eqb (v .request) 9 || eqb (v .request) 11) else
     dataChecked v
 
 -- else: 15 endpoint number 0 or SETUP given; 16 direction
@@ -74,7 +74,7 @@ otherChecked v =
 -- 6U over 65,536; 7 over the store's row; 8 endpoint bits 4 to 6
 unfoldable pub specChecked : SpecFacts → Verdict
 specChecked v =
-    unsupportedBy 6 if ltb 65536 (v .length) else
+    rejected 6 if ltb 65536 (v .length) else
     rejected 7 if ltb (v .«row_bytes») (v .length) else
     rejected 8 if not (eqb (v .reserved) 0) else
     controlChecked v if v .control else

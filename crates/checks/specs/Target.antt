@@ -5,7 +5,7 @@ use lib.Dec.{eqb}
 use Rattle.chain.specs.Chain.{_if_else_}
 use Rattle.chain.specs.Lists.{anyIn}
 use Rattle.models.specs.Kinds.{isControl, isBulk, isPrepared, isConfigured}
-use Rattle.models.specs.Refusals.{validation}
+use Rattle.models.specs.Refusals.{refusalOf}
 use Rattle.models.specs.Requests.{sameDevice}
 use Rattle.models.specs.declared.DeviceId.{DeviceId}
 use Rattle.models.specs.declared.DeviceSnapshot.{DeviceSnapshot}
@@ -23,12 +23,12 @@ use Rattle.bus.specs.Ports.{VerdictTo, verdictTo, freshPort}
 use Rattle.bus.specs.Endpoints.{isEndpoint}
 use Rattle.bus.specs.declared.ports.PortChecked.{PortChecked}
 use Rattle.bus.specs.declared.ports.PortChecked.the-variants as checked
-use Rattle.checks.specs.Verdicts.{rejected, unsupportedBy}
+use Rattle.checks.specs.Verdicts.{rejected}
 use Rattle.checks.specs.declared.target.DeviceChecked.{DeviceChecked}
 use Rattle.checks.specs.declared.target.DeviceChecked.the-variants as answer
 
 abbrev pub refusedDevice : ℕ → DeviceChecked
-refusedDevice n = answer.Refused (validation n)
+refusedDevice n = answer.Refused (refusalOf n)
 
 -- 27 unknown or stale; 28 not Initialized
 unfoldable pub knownBy : OptionDevice → Bool → DeviceId → DeviceChecked
@@ -70,7 +70,7 @@ checkDevice initialized ports id reading b = checkDeviceBy (knownDevice initiali
 -- 37U speed 2 and bulk; 38 endpoint and type not placed
 unfoldable pub speedChecked : ℕ → ℕ → ℕ → TransferType → Bus → Verdict
 speedChecked raw slot endpoint type b =
-    unsupportedBy 37 if eqb (portSpeed raw) 2 && isBulk type else
+    rejected 37 if eqb (portSpeed raw) 2 && isBulk type else
     rejected 38 if not (anyIn (isEndpoint endpoint type) (endpointsAt b slot)) else
     verdict.Pass
 

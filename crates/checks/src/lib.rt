@@ -1,7 +1,7 @@
 // The checks before a submission, and of a completion, in the order of document 01's table.
 use models::Verdict;
 ghost use mathlib.Core.Path.{_≡_};
-ghost use Rattle.checks.specs.Verdicts.{rejected, unsupportedBy};
+ghost use Rattle.checks.specs.Verdicts.{rejected};
 
 pub mod completion;
 pub mod packets;
@@ -9,16 +9,9 @@ pub mod plan;
 pub mod prepare;
 pub mod target;
 
-// A refusal by a number without a U.
+// A refusal by its number.
 fn reject(number: u16) -> Verdict
     ensures { λ r. ⌜ r ≡ rejected number ⌝ }
 {
-    Verdict::Refused(models::refuse_validation(number))
-}
-
-// A refusal by a number with a U.
-fn reject_unsupported(number: u16) -> Verdict
-    ensures { λ r. ⌜ r ≡ unsupportedBy number ⌝ }
-{
-    Verdict::Refused(models::refuse_unsupported(number))
+    Verdict::Refused(models::refuse(number))
 }

@@ -1,6 +1,5 @@
 // The place plan of the table: the Rust's `ControlPlan::validate`.
 use crate::reject;
-use crate::reject_unsupported;
 use models::ControlPlan;
 use models::ControlProfile;
 use models::DataStage;
@@ -146,7 +145,7 @@ fn check_stages(v: PlanFacts) -> Verdict
     ensures { λ r. ⌜ r ≡ stagesChecked v ⌝ }
 {
     if (v.recipient > 3) | (v.kind == 3) {
-        return reject_unsupported(21);
+        return reject(21);
     }
     if (v.length != v.setup_length)
         | (v.has_stage != (v.setup_length != 0))
@@ -165,7 +164,7 @@ fn check_size(v: PlanFacts) -> Verdict
     ensures { λ r. ⌜ r ≡ sizeChecked v ⌝ }
 {
     if v.length > 65536 {
-        return reject_unsupported(6);
+        return reject(6);
     }
     if v.length > v.row_bytes {
         return reject(7);
@@ -181,13 +180,13 @@ fn check_plan(v: PlanFacts) -> Verdict
     ensures { λ r. ⌜ r ≡ planChecked v ⌝ }
 {
     if !v.has_status {
-        return reject_unsupported(18);
+        return reject(18);
     }
     if (v.request_type == 0) & (v.request == 5) {
-        return reject_unsupported(19);
+        return reject(19);
     }
     if ((v.request_type == 0) & (v.request == 9)) | ((v.request_type == 1) & (v.request == 11)) {
-        return reject_unsupported(20);
+        return reject(20);
     }
     check_size(v)
 }

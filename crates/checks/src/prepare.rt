@@ -1,6 +1,5 @@
 // The place prepare of the table: the Rust's `RequestSpec::prepare`.
 use crate::reject;
-use crate::reject_unsupported;
 use models::OptionSetup;
 use models::Refusal;
 use models::RequestMetadata;
@@ -114,16 +113,16 @@ fn check_control(v: SpecFacts) -> Verdict
         return reject(10);
     }
     if v.setup_length != length {
-        return reject_unsupported(11);
+        return reject(11);
     }
     if v.setup_in != v.inward {
         return reject(12);
     }
     if (v.recipient > 3) | (kind == 3) {
-        return reject_unsupported(13);
+        return reject(13);
     }
     if (kind == 0) & ((request == 5) | (request == 9) | (request == 11)) {
-        return reject_unsupported(14);
+        return reject(14);
     }
     check_data(v)
 }
@@ -146,7 +145,7 @@ fn check_spec(v: SpecFacts) -> Verdict
     ensures { λ r. ⌜ r ≡ specChecked v ⌝ }
 {
     if v.length > 65536 {
-        return reject_unsupported(6);
+        return reject(6);
     }
     if v.length > v.row_bytes {
         return reject(7);

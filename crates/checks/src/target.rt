@@ -1,6 +1,5 @@
 // The places device and not control of the table: the Rust's `prepared_device`, and what follows it for an endpoint other than 0.
 use crate::reject;
-use crate::reject_unsupported;
 use bus::devices;
 use bus::endpoints;
 use bus::ports::PortChecked;
@@ -32,7 +31,7 @@ pub enum DeviceChecked {
 fn refuse_device(number: u16) -> DeviceChecked
     ensures { λ r. ⌜ r ≡ refusedDevice number ⌝ }
 {
-    DeviceChecked::Refused(models::refuse_validation(number))
+    DeviceChecked::Refused(models::refuse(number))
 }
 
 // 26, 27, 28.
@@ -123,7 +122,7 @@ fn check_speed(
     let speed = port_speed(raw);
     let bulk = kinds::is_bulk(transfer_type);
     if (speed == 2) & bulk {
-        return reject_unsupported(37);
+        return reject(37);
     }
     let placed = endpoints::has_endpoint(bus, slot, endpoint, transfer_type);
     if !placed {

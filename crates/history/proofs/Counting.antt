@@ -7,7 +7,7 @@ use native.Mathlib.Omega.{arith}
 use lib.ListN.{length, take, drop}
 use Rattle.chain.specs.Lists.{only, count}
 use Rattle.chain.proofs.Chain.{caseB}
-use Rattle.models.specs.Refusals.{validation}
+use Rattle.models.specs.Refusals.{refusalOf}
 use Rattle.models.specs.Requests.{sameRequest}
 use Rattle.models.specs.declared.BackendCompletion.{BackendCompletion}
 use Rattle.models.specs.declared.DeviceId.{DeviceId}
@@ -65,7 +65,7 @@ use Rattle.history.proofs.Handings.{by-handed}
 use Rattle.history.proofs.Changes.{closed-ids}
 
 -- a refusal by 3 adds nothing to the journal
-pub refused-3 : (c : Call) (j : Journal) → journalStep c (answer.Refused (validation 3)) j ≡ j
+pub refused-3 : (c : Call) (j : Journal) → journalStep c (answer.Refused (refusalOf 3)) j ≡ j
 unfolding journalStep
 refused-3 (Open o) j = refl
 refused-3 (SetDevice d) j = refl
@@ -259,7 +259,7 @@ module _ (x : RequestId) where
       → number (journalStep c (answerTo w (record { call = c; handed = h })) j .entries)
       ≡ number (j .entries) + cond (isBegun x (begunId (answerTo w (record { call = c; handed = h })))) 1 0
   event-ids h c w j f =
-      let z : number (journalStep c (answer.Refused (validation 3)) j .entries) ≡ number (j .entries) = ap (λ (y : Journal). number (y .entries)) (refused-3 c j) in
+      let z : number (journalStep c (answer.Refused (refusalOf 3)) j .entries) ≡ number (j .entries) = ap (λ (y : Journal). number (y .entries)) (refused-3 c j) in
       by-handed h c w (λ a v. number (journalStep c a j .entries) ≡ number (j .entries) + cond (isBegun x (begunId a)) 1 0) f
       (λ first bus area. step-ids c (world (w .session) bus (w .store) area) j first) (omega (arith, z))
 

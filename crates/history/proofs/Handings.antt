@@ -4,7 +4,7 @@ use mathlib.Core.Path.{_≡_, sym, subst}
 use mathlib.Core.Bool.{false}
 use mathlib.Core.List.{List, [], _∷_, _++_}
 use Rattle.bus.specs.Tables.{Bus}
-use Rattle.models.specs.Refusals.{validation}
+use Rattle.models.specs.Refusals.{refusalOf}
 use Rattle.calls.specs.Calls.{Call}
 use Rattle.calls.specs.Step.{World, world, stepOf}
 use Rattle.calls.specs.declared.Answer.{Answer}
@@ -14,7 +14,7 @@ use Rattle.history.specs.Run.{Handed, own, lent, other, Event, next, lef
 -- the session and the rows with some bus and area; or others, and then it is refused by 3 and leaves ours
 pub by-handed : (h : Handed) (c : Call) (w : World) (P : Answer → World → Type 0) → Handing h c
     → (isOpening c ≡ false → (bus : Bus) (area : List ℕ) → P (stepOf c (world (w .session) bus (w .store) area) .result .answer) (next (stepOf c (world (w .session) bus (w .store) area))))
-    → P (answer.Refused (validation 3)) w → P (answerTo w (record { call = c; handed = h })) (leftBy h c w)
+    → P (answer.Refused (refusalOf 3)) w → P (answerTo w (record { call = c; handed = h })) (leftBy h c w)
 by-handed own c w P k ours others = ours k (w .bus) (w .area)
 by-handed (lent bus area) c w P k ours others = ours k bus area
 by-handed (other v) c w P k ours others = subst (λ (a : Answer). P a w) (sym k) others

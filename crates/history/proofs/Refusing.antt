@@ -13,7 +13,7 @@ use Rattle.words.specs.declared.OptionU32.{OptionU32}
 use Rattle.words.specs.declared.OptionU32.the-variants as u32
 use Rattle.words.specs.declared.OptionU64.{OptionU64}
 use Rattle.words.specs.declared.OptionU64.the-variants as u64
-use Rattle.models.specs.Refusals.{validation}
+use Rattle.models.specs.Refusals.{refusalOf}
 use Rattle.models.specs.declared.BackendCompletion.{BackendCompletion}
 use Rattle.models.specs.declared.ControlPlan.{ControlPlan}
 use Rattle.models.specs.declared.DeviceId.{DeviceId}
@@ -115,7 +115,7 @@ use Rattle.calls.specs.declared.Answer.the-variants as answer
 use Rattle.history.specs.Run.{next}
 use Rattle.history.specs.Journal.{refusalNumber}
 
-no : (a : Answer) → eqb (refusalNumber a) 3 ≡ false → a ≡ answer.Refused (validation 3) → ⊥
+no : (a : Answer) → eqb (refusalNumber a) 3 ≡ false → a ≡ answer.Refused (refusalOf 3) → ⊥
 no a n e = false≢true (sym n ∙ ap (λ (y : Answer). eqb (refusalNumber y) 3) e)
 
 -- ---- what is refused by another number
@@ -345,7 +345,7 @@ other-all place room es aborted bytes store area =
 -- ---- each call
 module _ (w : World) where
   abbrev Stays : After → Type 0
-  Stays a = a .result .answer ≡ answer.Refused (validation 3) → next a ≡ w
+  Stays a = a .result .answer ≡ answer.Refused (refusalOf 3) → next a ≡ w
 
   -- the session with nothing in flight
   abbrev quiet : Session
@@ -354,7 +354,7 @@ module _ (w : World) where
   abbrev Places : bus.VerdictTo → Type 0
   Places o = Stays (places o w)
 
-  passed : {v : World} → answer.Pass ≡ answer.Refused (validation 3) → v ≡ w
+  passed : {v : World} → answer.Pass ≡ answer.Refused (refusalOf 3) → v ≡ w
   passed e = absurd (no answer.Pass refl e)
 
   placed-stays : (fits : Bool) (done : bus.VerdictTo) → Places done → Places (placed (w .session) fits (w .bus) done)
@@ -427,7 +427,7 @@ module _ (w : World) where
   submit-stays fits q bytes given packets one two = by-ready (readyOf (w .session) fits)
     where
       by-start : (o : Start) → OtherStart o → (s : Session) (m : RequestMetadata) (v : World)
-          → ofSubmit (submittedBy o s m given .answer) ≡ answer.Refused (validation 3) → v ≡ w
+          → ofSubmit (submittedBy o s m given .answer) ≡ answer.Refused (refusalOf 3) → v ≡ w
       by-start (start.Refused r) h s m v e = absurd (no (answer.Refused r) h e)
       by-start (start.At id i) h s m v e = absurd (no _ refl e)
 
@@ -464,7 +464,7 @@ module _ (w : World) where
           (other-start (w .session) i (i * w .session .«row_bytes») (p .metadata) bytes one one (w .bus) (w .store) (w .area)) _
         where
           by-start : (o : Start) → OtherStart o → (v : World)
-              → ofPlan (planStarted o (begin.targetOf (w .session) i (i * w .session .«row_bytes») (p .metadata) bytes one one (w .bus) (w .store) (w .area) .result .session) p .answer) ≡ answer.Refused (validation 3) → v ≡ w
+              → ofPlan (planStarted o (begin.targetOf (w .session) i (i * w .session .«row_bytes») (p .metadata) bytes one one (w .bus) (w .store) (w .area) .result .session) p .answer) ≡ answer.Refused (refusalOf 3) → v ≡ w
           by-start (start.Refused r) h v e = absurd (no (answer.Refused r) h e)
           by-start (start.At id j) h v e = absurd (no _ refl e)
 
@@ -575,7 +575,7 @@ module _ (w : World) where
   Recovers o = Stays (recovers o w)
 
   concluded : (v : Verdict) → OtherVerdict v → (y : Recovery) (o : Outcome) (report : AbortReport) (ids : Ids) (rows : List Row) (left : World)
-      → ofRecovery (concludedBy v quiet y o report ids rows .answer) ≡ answer.Refused (validation 3) → left ≡ w
+      → ofRecovery (concludedBy v quiet y o report ids rows .answer) ≡ answer.Refused (refusalOf 3) → left ≡ w
   unfolding concludedBy
   concluded (verdict.Refused x) h y o report ids rows left e = absurd (no (answer.Refused x) h e)
   concluded verdict.Pass h y o report ids rows left e = absurd (no _ refl e)
@@ -603,7 +603,7 @@ module _ (w : World) where
           if-all Recovers _ _ _ (λ e. refl)
           (if-all Recovers _ _ _ (λ e. refl) (by-reply tokens words aborted bytes (record { target = a; device = b; endpoint = c; kind = d }) r))
 
-pub refused-untouched : (c : Call) (w : World) → stepOf c w .result .answer ≡ answer.Refused (validation 3) → next (stepOf c w) ≡ w
+pub refused-untouched : (c : Call) (w : World) → stepOf c w .result .answer ≡ answer.Refused (refusalOf 3) → next (stepOf c w) ≡ w
 unfolding stepOf
 refused-untouched (Open o) w = open-stays w _ o
 refused-untouched (SetDevice d) w = device-stays w _ d

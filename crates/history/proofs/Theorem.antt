@@ -13,7 +13,7 @@ use Rattle.chain.specs.declared.Found.{Found}
 use Rattle.chain.specs.declared.Found.the-variants as found
 use Rattle.chain.proofs.Chain.{caseB, if-by}
 use Rattle.chain.proofs.Lists.{sum-eq, sum-le, sum-one, sum-none, count-pos, find-hit, find-some}
-use Rattle.models.specs.Refusals.{validation}
+use Rattle.models.specs.Refusals.{refusalOf}
 use Rattle.models.specs.Requests.{deviceMayAccess, sameRequest}
 use Rattle.models.specs.declared.Refusal.{Refusal}
 use Rattle.models.specs.declared.RequestId.{RequestId}
@@ -276,7 +276,7 @@ module _ (o : Opening) (w : World) (es : List Event) (pass : stepOf (Open o) w .
 
     by-reply : (P : Answer → World → Type 0)
         → ((bus : Bus) (area : List ℕ) → P (stepOf (ending .call) (world (mid .session) bus (mid .store) area) .result .answer) (next (stepOf (ending .call) (world (mid .session) bus (mid .store) area))))
-        → P (answer.Refused (validation 3)) mid → P (answerTo mid ending) (leftBy h (ending .call) mid)
+        → P (answer.Refused (refusalOf 3)) mid → P (answerTo mid ending) (leftBy h (ending .call) mid)
     by-reply P ours = by-handed h (ending .call) mid P (handing before after ending is) (λ first. ours)
 
     recovered-at : (x : AbortReport) → answerTo mid ending ≡ answer.Recovered x → Settles (mid .store .rows) tokens words aborted (rowsBy mid ending) x
@@ -284,14 +284,14 @@ module _ (o : Opening) (w : World) (es : List Event) (pass : stepOf (Open o) w .
     recovered-at x =
         by-reply (λ a v. a ≡ answer.Recovered x → Settles (mid .store .rows) tokens words aborted (v .store .rows) x)
         (λ bus area. recovered-told (mid .session) (mid .store) (holds before after ending is .1 .led .few) tokens words aborted bytes area x _ reply)
-        (no-report (validation 3) x _)
+        (no-report (refusalOf 3) x _)
 
     reported-at : (x : AbortReport) → answerTo mid ending ≡ answer.Recovered x
         → (q : RecoveryKind) × (journalOf (historyOf start before) blank .waiting ≡ flight.Recovery (x .target) (x .device) (x .endpoint) q)
     unfolding stepOf
     reported-at x e =
         let q = by-reply (λ a v. a ≡ answer.Recovered x → (q : RecoveryKind) × (mid .session .«in_flight» ≡ flight.Recovery (x .target) (x .device) (x .endpoint) q))
-        (λ bus area. waited-told (mid .session) (mid .store) tokens words aborted bytes area x _ reply) (no-report (validation 3) x _) e in
+        (λ bus area. waited-told (mid .session) (mid .store) tokens words aborted bytes area x _ reply) (no-report (refusalOf 3) x _) e in
         (q .0, holds before after ending is .1 .agree ∙ q .1)
 
     spared-at : Spared (journalOf (historyOf start before) blank .waiting) (mid .store .rows) (rowsBy mid ending)

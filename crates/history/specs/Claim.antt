@@ -10,7 +10,7 @@ use Rattle.words.specs.declared.OptionU32.{OptionU32}
 use Rattle.words.specs.declared.OptionU32.the-variants as u32
 use Rattle.words.specs.declared.OptionU64.{OptionU64}
 use Rattle.words.specs.declared.OptionU64.the-variants as u64
-use Rattle.models.specs.Refusals.{validation}
+use Rattle.models.specs.Refusals.{refusalOf}
 use Rattle.models.specs.Requests.{isUncertainFailure, sameRequest}
 use Rattle.models.specs.declared.DeviceId.{DeviceId}
 use Rattle.models.specs.declared.RequestId.{RequestId}
@@ -206,4 +206,4 @@ pub record Claim (w : World) (es : List Event) : Type 0 where
       → answerTo (endOf w before) (recovers reply tokens words aborted bytes h) ≡ answer.Recovered x
       → (q : RecoveryKind) × (journalOf (historyOf w before) blank .waiting ≡ flight.Recovery (x .target) (x .device) (x .endpoint) q)
   -- a refusal by 3 leaves whatever the call was handed as it was
-  pub untouched : (c : Call) (v : World) → stepOf c v .result .answer ≡ answer.Refused (validation 3) → next (stepOf c v) ≡ v
+  pub untouched : (c : Call) (v : World) → stepOf c v .result .answer ≡ answer.Refused (refusalOf 3) → next (stepOf c v) ≡ v

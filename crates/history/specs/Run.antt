@@ -6,7 +6,7 @@ use mathlib.Core.List.{List, [], _∷_}
 use lib.Dec.{eqb}
 use Rattle.words.specs.declared.OptionU64.{OptionU64}
 use Rattle.words.specs.declared.OptionU64.the-variants as u64
-use Rattle.models.specs.Refusals.{validation}
+use Rattle.models.specs.Refusals.{refusalOf}
 use Rattle.bus.specs.Tables.{Bus}
 use Rattle.calls.specs.Calls.{Call, Open, SetDevice, SetPort, SetEndpoints, SetReconcile, Acquire, Initialize, Close, Submit, SubmitPlan, ReplySubmit, Poll, ReplyPoll, AbortRequest, ResetEndpoint, ReplyRecovery, Cancel, Timeout, Reclaim, Status, Reports, CountReports, CompletedBytes, HeldCount, HeldBytes}
 use Rattle.calls.specs.Step.{World, After, world, stepOf}
@@ -87,7 +87,7 @@ isOpening HeldBytes = false
 abbrev pub Handing : Handed → Call → Type 0
 Handing own c = isOpening c ≡ false
 Handing (lent bus area) c = isOpening c ≡ false
-Handing (other v) c = stepOf c v .result .answer ≡ answer.Refused (validation 3)
+Handing (other v) c = stepOf c v .result .answer ≡ answer.Refused (refusalOf 3)
 
 abbrev pub Follows : List Event → Type 0
 Follows [] = Unit {0}

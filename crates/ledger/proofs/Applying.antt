@@ -5,7 +5,7 @@ use lib.ListN.{getD}
 use Rattle.chain.specs.Lists.{foundIn}
 use Rattle.chain.specs.declared.Found.{Found}
 use Rattle.chain.specs.declared.Found.the-variants.{At, Nothing}
-use Rattle.models.specs.Refusals.{validation}
+use Rattle.models.specs.Refusals.{refusalOf}
 use Rattle.models.specs.declared.Refusal.{Refusal}
 use Rattle.models.specs.declared.RequestId.{RequestId}
 use Rattle.models.specs.declared.RequestReport.{RequestReport}
@@ -21,7 +21,7 @@ use Rattle.ledger.specs.declared.rules.Step.the-variants as step
 use Rattle.ledger.specs.declared.rules.Change.{Change}
 
 module _ (id : RequestId) (c : Change) (s : Store) (f : Found) (ef : f ≡ foundIn (isAt id) (s .rows)) where
-  pub apply-none : (r : Refusal) → f ≡ Nothing → r ≡ validation 40 → appliedTo (applied.Refused r) s ≡ applyOf id c s
+  pub apply-none : (r : Refusal) → f ≡ Nothing → r ≡ refusalOf 40 → appliedTo (applied.Refused r) s ≡ applyOf id c s
   unfolding applyOf applyAt
   apply-none r e er = rw (sym ef ∙ e, er)
 

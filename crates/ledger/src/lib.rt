@@ -25,7 +25,7 @@ pub fn apply(rows: &mut [u64], id: RequestId, change: Change) -> Applied
 {
     let found = search::find(rows, id);
     let Found::At(i) = found else {
-        return Applied::Refused(models::refuse_validation(40));
+        return Applied::Refused(models::refuse(40));
     };
     let row = rows::read_row(rows, i);
     let step = rules::change_row(row, change);

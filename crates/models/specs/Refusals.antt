@@ -1,5 +1,8 @@
 -- Refusals: a number of document 01's table and its error. Assumes nothing.
 use Prim.Native.Nat.{ℕ}
+use mathlib.Core.Bool.{Bool, _||_}
+use lib.Dec.{eqb}
+use Rattle.chain.specs.Chain.{_if_else_}
 use Rattle.words.specs.declared.OptionI32.the-variants as i32
 use Rattle.words.specs.declared.OptionU32.{OptionU32}
 use Rattle.words.specs.declared.OptionU32.the-variants as u32
@@ -16,14 +19,21 @@ ownError c n code = record { category = c; message = n; «os_code» = i32.None; 
 abbrev pub fromBackend : ℕ → OperationError → Refusal
 fromBackend n e = record { number = n; error = e }
 
--- every number without a U, but 33, 45 and 48
-abbrev pub validation : ℕ → Refusal
-validation n = fromBackend n (ownError Validation n u32.None)
+-- the numbers with a U in the table
+abbrev pub isUnsupported : ℕ → Bool
+isUnsupported n = eqb n 6 || eqb n 11 || eqb n 13 || eqb n 14 || eqb n 18 || eqb n 19 || eqb n 20 || eqb n 21 || eqb n 37
 
--- the numbers with a U
-abbrev pub unsupported : ℕ → Refusal
-unsupported n = fromBackend n (ownError Unsupported n u32.None)
+-- the category that the table gives a number; 33 and 45 have the backend's instead
+unfoldable pub tableCategory : ℕ → ErrorCategory
+tableCategory n =
+    Unsupported if isUnsupported n else
+    RecoveryRequired if eqb n 48 else
+    Validation
 
--- 48 is RecoveryRequired with the completion's code
+-- a refusal of our own, by its number
+abbrev pub refusalOf : ℕ → Refusal
+refusalOf n = fromBackend n (ownError (tableCategory n) n u32.None)
+
+-- 48 has the completion's code
 abbrev pub invalidCompletion : OptionU32 → Refusal
-invalidCompletion code = fromBackend 48 (ownError RecoveryRequired 48 code)
+invalidCompletion code = fromBackend 48 (ownError (tableCategory 48) 48 code)

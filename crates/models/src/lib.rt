@@ -5,7 +5,7 @@ use words::OptionU32;
 use words::OptionU64;
 ghost use mathlib.Core.Path.{_≡_};
 ghost use Rattle.models.specs.Requests.{deviceMayAccess, isPending, isUncertainFailure, sameRequest, sameDevice, samePort, requestBefore};
-ghost use Rattle.models.specs.Refusals.{ownError, validation, unsupported, fromBackend, invalidCompletion};
+ghost use Rattle.models.specs.Refusals.{ownError, tableCategory, refusalOf, fromBackend, invalidCompletion};
 
 pub mod codes;
 pub mod kinds;
@@ -333,19 +333,32 @@ fn own_error(category: ErrorCategory, number: u16, code: OptionU32) -> Operation
     }
 }
 
-// A refusal by a number of the table that has no U.
-pub fn refuse_validation(number: u16) -> Refusal
-    ensures { λ r. ⌜ r ≡ validation number ⌝ }
+// The category that the table gives a number.
+fn table_category(number: u16) -> ErrorCategory
+    ensures { λ r. ⌜ r ≡ tableCategory number ⌝ }
 {
-    let error = own_error(ErrorCategory::Validation, number, OptionU32::None);
-    Refusal { number, error }
+    let prepare = (number == 6) | (number == 11) | (number == 13) | (number == 14);
+    if prepare
+        | (number == 18)
+        | (number == 19)
+        | (number == 20)
+        | (number == 21)
+        | (number == 37)
+    {
+        return ErrorCategory::Unsupported;
+    }
+    if number == 48 {
+        return ErrorCategory::RecoveryRequired;
+    }
+    ErrorCategory::Validation
 }
 
-// A refusal by a number with a U.
-pub fn refuse_unsupported(number: u16) -> Refusal
-    ensures { λ r. ⌜ r ≡ unsupported number ⌝ }
+// A refusal of our own, by its number.
+pub fn refuse(number: u16) -> Refusal
+    ensures { λ r. ⌜ r ≡ refusalOf number ⌝ }
 {
-    let error = own_error(ErrorCategory::Unsupported, number, OptionU32::None);
+    let category = table_category(number);
+    let error = own_error(category, number, OptionU32::None);
     Refusal { number, error }
 }
 
@@ -360,6 +373,7 @@ pub fn refuse_backend(number: u16, error: OperationError) -> Refusal
 pub fn refuse_completion(code: OptionU32) -> Refusal
     ensures { λ r. ⌜ r ≡ invalidCompletion code ⌝ }
 {
-    let error = own_error(ErrorCategory::RecoveryRequired, 48, code);
+    let category = table_category(48);
+    let error = own_error(category, 48, code);
     Refusal { number: 48, error }
 }

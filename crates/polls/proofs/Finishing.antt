@@ -14,7 +14,7 @@ use Rattle.words.specs.declared.OptionU32.{OptionU32}
 use Rattle.words.specs.declared.OptionU32.the-variants as u32
 use Rattle.words.specs.declared.OptionU64.{OptionU64}
 use Rattle.words.specs.declared.OptionU64.the-variants as u64
-use Rattle.models.specs.Refusals.{validation, fromBackend, invalidCompletion}
+use Rattle.models.specs.Refusals.{refusalOf, fromBackend, invalidCompletion}
 use Rattle.models.specs.declared.BackendCompletion.{BackendCompletion}
 use Rattle.models.specs.declared.OperationError.{OperationError}
 use Rattle.models.specs.declared.OptionError.{OptionError}
@@ -164,12 +164,12 @@ module _ (p : PollReply) (idle : Session) (i at room : ℕ) (bytes : List ℕ) (
 
 -- by the sizes and the search
 module _ (s : Session) (p q : Bool) (id : RequestId) (r : PollReply) (bytes : List ℕ) (store : Store) (area : List ℕ) (a b : Bool) (ea : a ≡ p) (eb : b ≡ q) where
-  pub finish-unfit : (x : Reported) → not (a && b) ≡ true → x ≡ reportRefused s (validation 3) → finishTo x store area ≡ finishFound s (p && q) id r bytes store area
+  pub finish-unfit : (x : Reported) → not (a && b) ≡ true → x ≡ reportRefused s (refusalOf 3) → finishTo x store area ≡ finishFound s (p && q) id r bytes store area
   unfolding finishFound
   finish-unfit x t ex = takes FinishTo _ _ _ _ (rw (ea, eb) at t) (rw ex)
 
   module _ (t : not (a && b) ≡ false) (g : Found) (eg : g ≡ foundIn (isAt id) (store .rows)) where
-    pub finish-none : (x : Reported) → g ≡ found.Nothing → x ≡ reportRefused s (validation 2)
+    pub finish-none : (x : Reported) → g ≡ found.Nothing → x ≡ reportRefused s (refusalOf 2)
         → finishTo x store area ≡ finishFound s (p && q) id r bytes store area
     unfolding finishFound finishBy
     finish-none x e ex = passes FinishTo _ _ _ _ (rw (ea, eb) at t) (rw (sym eg ∙ e, ex))
@@ -181,8 +181,8 @@ module _ (s : Session) (p q : Bool) (id : RequestId) (r : PollReply) (bytes : Li
 
 -- by what is in flight
 module _ (s : Session) (fits : Bool) (r : PollReply) (bytes : List ℕ) (store : Store) (area : List ℕ) where
-  module _ (x : Reported) (ex : x ≡ reportRefused s (validation 2)) where
-    refused-in : finishIn (s .«in_flight») s fits r bytes store area ≡ finishTo (reportRefused s (validation 2)) store area
+  module _ (x : Reported) (ex : x ≡ reportRefused s (refusalOf 2)) where
+    refused-in : finishIn (s .«in_flight») s fits r bytes store area ≡ finishTo (reportRefused s (refusalOf 2)) store area
         → finishTo x store area ≡ finishOf s fits r bytes store area
     unfolding finishOf
     refused-in e = rw ex (sym e)

@@ -8,7 +8,7 @@ use Rattle.chain.specs.Lists.{foundIn}
 use Rattle.chain.specs.declared.Found.{Found}
 use Rattle.chain.specs.declared.Found.the-variants as found
 use Rattle.chain.proofs.Chain.{takes, passes, through, not-through}
-use Rattle.models.specs.Refusals.{validation}
+use Rattle.models.specs.Refusals.{refusalOf}
 use Rattle.models.specs.Requests.{isPending}
 use Rattle.models.specs.declared.Refusal.{Refusal}
 use Rattle.models.specs.declared.RequestId.{RequestId}
@@ -29,8 +29,8 @@ abbrev pub polledAs : PollAnswer → Session → Polled
 polledAs a s = record { answer = a; session = s }
 
 -- a refusal by its number
-module _ (s : Session) (n : ℕ) (r : Refusal) (e : r ≡ validation n) where
-  pub poll-number : pollRefused s r ≡ pollRefused s (validation n)
+module _ (s : Session) (n : ℕ) (r : Refusal) (e : r ≡ refusalOf n) where
+  pub poll-number : pollRefused s r ≡ pollRefused s (refusalOf n)
   poll-number = rw e
 
 -- the row of a poll
@@ -40,7 +40,7 @@ module _ (s : Session) (row : Row) (id : RequestId) (p : Bool) (ep : p ≡ isPen
   row-told x t e = takes Polled _ _ _ _ (not-through p _ true ep t) (rw e)
 
   module _ (np : not p ≡ false) (b : Bool) (eb : b ≡ isInitialized (s .state)) where
-    pub row-early : (x : Polled) → not b ≡ true → x ≡ pollRefused s (validation 28) → x ≡ pollRow s row id
+    pub row-early : (x : Polled) → not b ≡ true → x ≡ pollRefused s (refusalOf 28) → x ≡ pollRow s row id
     unfolding pollRow
     row-early x t e = passes Polled _ _ _ _ (not-through p _ false ep np) (takes Polled _ _ _ _ (not-through b _ true eb t) e)
 
@@ -50,17 +50,17 @@ module _ (s : Session) (row : Row) (id : RequestId) (p : Bool) (ep : p ≡ isPen
 
 -- a poll
 module _ (s : Session) (fits : Bool) (id : RequestId) (rows : List Row) (x : Polled) (b : Bool) (eb : b ≡ isBusy (s .«in_flight»)) where
-  pub poll-busy : b ≡ true → x ≡ pollRefused s (validation 1) → x ≡ pollOf s fits id rows
+  pub poll-busy : b ≡ true → x ≡ pollRefused s (refusalOf 1) → x ≡ pollOf s fits id rows
   unfolding pollOf
   poll-busy t e = takes Polled _ _ _ _ (through b _ true eb t) e
 
   module _ (nb : b ≡ false) (f : Bool) (ef : f ≡ fits) where
-    pub poll-unfit : not f ≡ true → x ≡ pollRefused s (validation 3) → x ≡ pollOf s fits id rows
+    pub poll-unfit : not f ≡ true → x ≡ pollRefused s (refusalOf 3) → x ≡ pollOf s fits id rows
     unfolding pollOf
     poll-unfit t e = passes Polled _ _ _ _ (through b _ false eb nb) (takes Polled _ _ _ _ (not-through f _ true ef t) e)
 
     module _ (nf : not f ≡ false) (g : Found) (eg : g ≡ foundIn (isAt id) rows) where
-      pub poll-none : g ≡ found.Nothing → x ≡ pollRefused s (validation 40) → x ≡ pollOf s fits id rows
+      pub poll-none : g ≡ found.Nothing → x ≡ pollRefused s (refusalOf 40) → x ≡ pollOf s fits id rows
       unfolding pollOf pollBy
       poll-none t e = passes Polled _ _ _ _ (through b _ false eb nb) (passes Polled _ _ _ _ (not-through f _ false ef nf) (e ∙ rw (sym eg ∙ t)))
 

@@ -12,7 +12,7 @@ use Rattle.words.specs.declared.OptionU32.{OptionU32}
 use Rattle.words.specs.declared.OptionU32.the-variants as u32
 use Rattle.words.specs.declared.OptionU64.{OptionU64}
 use Rattle.words.specs.declared.OptionU64.the-variants as u64
-use Rattle.models.specs.Refusals.{validation, fromBackend, invalidCompletion}
+use Rattle.models.specs.Refusals.{refusalOf, fromBackend, invalidCompletion}
 use Rattle.models.specs.declared.BackendCompletion.{BackendCompletion}
 use Rattle.models.specs.declared.ErrorCategory.{ErrorCategory}
 use Rattle.models.specs.declared.ErrorCategory.the-variants as category
@@ -132,20 +132,20 @@ finishAt (reply.Completion c) idle i at room bytes store area =
 
 -- 2: no row has the id
 unfoldable pub finishBy : Found → Session → PollReply → List ℕ → Store → List ℕ → FinishTo
-finishBy found.Nothing s x bytes store area = finishTo (reportRefused s (validation 2)) store area
+finishBy found.Nothing s x bytes store area = finishTo (reportRefused s (refusalOf 2)) store area
 finishBy (found.At i) s x bytes store area = finishAt x (withFlight s flight.Nothing) i (i * s .«row_bytes») (s .«row_bytes») bytes store area
 
 -- 3
 unfoldable pub finishFound : Session → Bool → RequestId → PollReply → List ℕ → Store → List ℕ → FinishTo
 finishFound s fits id x bytes store area =
-    finishTo (reportRefused s (validation 3)) store area if not fits else
+    finishTo (reportRefused s (refusalOf 3)) store area if not fits else
     finishBy (foundIn (isAt id) (store .rows)) s x bytes store area
 
 -- 2: its kind is not in flight
 unfoldable pub finishIn : InFlight → Session → Bool → PollReply → List ℕ → Store → List ℕ → FinishTo
-finishIn flight.Nothing s fits x bytes store area = finishTo (reportRefused s (validation 2)) store area
-finishIn (flight.Submission id) s fits x bytes store area = finishTo (reportRefused s (validation 2)) store area
-finishIn (flight.Recovery target device endpoint kind) s fits x bytes store area = finishTo (reportRefused s (validation 2)) store area
+finishIn flight.Nothing s fits x bytes store area = finishTo (reportRefused s (refusalOf 2)) store area
+finishIn (flight.Submission id) s fits x bytes store area = finishTo (reportRefused s (refusalOf 2)) store area
+finishIn (flight.Recovery target device endpoint kind) s fits x bytes store area = finishTo (reportRefused s (refusalOf 2)) store area
 finishIn (flight.Poll id) s fits x bytes store area = finishFound s fits id x bytes store area
 
 unfoldable pub finishOf : Session → Bool → PollReply → List ℕ → Store → List ℕ → FinishTo

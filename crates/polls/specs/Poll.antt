@@ -6,7 +6,7 @@ use Rattle.chain.specs.Chain.{_if_else_}
 use Rattle.chain.specs.Lists.{foundIn}
 use Rattle.chain.specs.declared.Found.{Found}
 use Rattle.chain.specs.declared.Found.the-variants as found
-use Rattle.models.specs.Refusals.{validation}
+use Rattle.models.specs.Refusals.{refusalOf}
 use Rattle.models.specs.Requests.{isPending}
 use Rattle.models.specs.declared.Refusal.{Refusal}
 use Rattle.models.specs.declared.RequestId.{RequestId}
@@ -27,17 +27,17 @@ pollRefused s r = record { answer = poll.Refused r; session = s }
 unfoldable pub pollRow : Session → Row → RequestId → Polled
 pollRow s r id =
     record { answer = poll.Report (reportOf r); session = s } if not (isPending (r .state)) else
-    pollRefused s (validation 28) if not (isInitialized (s .state)) else
+    pollRefused s (refusalOf 28) if not (isInitialized (s .state)) else
     record { answer = poll.Asked (r .token); session = withFlight s (flight.Poll id) }
 
 -- 40
 unfoldable pub pollBy : Found → Session → RequestId → List Row → Polled
-pollBy found.Nothing s id rows = pollRefused s (validation 40)
+pollBy found.Nothing s id rows = pollRefused s (refusalOf 40)
 pollBy (found.At i) s id rows = pollRow s (getD rows i emptyRow) id
 
 -- 1, 3
 unfoldable pub pollOf : Session → Bool → RequestId → List Row → Polled
 pollOf s fits id rows =
-    pollRefused s (validation 1) if isBusy (s .«in_flight») else
-    pollRefused s (validation 3) if not fits else
+    pollRefused s (refusalOf 1) if isBusy (s .«in_flight») else
+    pollRefused s (refusalOf 3) if not fits else
     pollBy (foundIn (isAt id) rows) s id rows

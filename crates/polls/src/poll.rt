@@ -11,16 +11,16 @@ use session::Session;
 use session::sizes;
 ghost use mathlib.Core.Path.{_≡_};
 ghost use lib.ListN.{length};
-ghost use Rattle.models.specs.Refusals.{validation};
+ghost use Rattle.models.specs.Refusals.{refusalOf};
 ghost use Rattle.rows.specs.Table.{rowsOf};
 ghost use Rattle.session.specs.Sizes.{rowsFit};
 ghost use Rattle.polls.specs.Poll.{pollRefused, pollRow, pollOf};
 
 fn poll_refused(session: Session, number: u16) -> Polled
-    ensures { λ r. ⌜ r ≡ pollRefused session (validation number) ⌝ }
+    ensures { λ r. ⌜ r ≡ pollRefused session (refusalOf number) ⌝ }
 {
     Polled {
-        answer: PollAnswer::Refused(models::refuse_validation(number)),
+        answer: PollAnswer::Refused(models::refuse(number)),
         session,
     }
 }

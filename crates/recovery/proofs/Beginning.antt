@@ -9,7 +9,7 @@ use Rattle.chain.specs.Lists.{foundIn, listed}
 use Rattle.chain.specs.declared.Found.{Found}
 use Rattle.chain.specs.declared.Found.the-variants as found
 use Rattle.chain.proofs.Chain.{takes, passes}
-use Rattle.models.specs.Refusals.{validation}
+use Rattle.models.specs.Refusals.{refusalOf}
 use Rattle.models.specs.Requests.{deviceMayAccess}
 use Rattle.models.specs.declared.RequestId.{RequestId}
 use Rattle.rows.specs.Table.{emptyRow, rowsOf}
@@ -41,12 +41,12 @@ begun-is s x w list tokens count next en ea h el et =
     }) e)
 
 module _ (s : Session) (r : Row) (id : RequestId) (k : RecoveryKind) (rows : List Row) (x : Begun) (b : Bool) (eb : b ≡ deviceMayAccess (r .state)) where
-  pub row-43 : not b ≡ true → x ≡ beginRefused s (validation 43) → x ≡ beginRow s r id k rows
+  pub row-43 : not b ≡ true → x ≡ beginRefused s (refusalOf 43) → x ≡ beginRow s r id k rows
   unfolding beginRow
   row-43 t e = takes Begun _ _ _ _ (rw eb at t) e
 
   module _ (t : not b ≡ false) (m : Bool) (em : m ≡ mayRecover (s .state)) where
-    pub row-44 : not m ≡ true → x ≡ beginRefused s (validation 44) → x ≡ beginRow s r id k rows
+    pub row-44 : not m ≡ true → x ≡ beginRefused s (refusalOf 44) → x ≡ beginRow s r id k rows
     unfolding beginRow
     row-44 n e = passes Begun _ _ _ _ (rw eb at t) (takes Begun _ _ _ _ (rw em at n) e)
 
@@ -55,17 +55,17 @@ module _ (s : Session) (r : Row) (id : RequestId) (k : RecoveryKind) (rows : Lis
     row-on q n eq e = passes Begun _ _ _ _ (rw eb at t) (passes Begun _ _ _ _ (rw em at n) (rw eq at e))
 
 module _ (s : Session) (fits : Bool) (id : RequestId) (k : RecoveryKind) (rows : List Row) (x : Begun) (b : Bool) (eb : b ≡ isBusy (s .«in_flight»)) where
-  pub begin-1 : b ≡ true → x ≡ beginRefused s (validation 1) → x ≡ beginOf s fits id k rows
+  pub begin-1 : b ≡ true → x ≡ beginRefused s (refusalOf 1) → x ≡ beginOf s fits id k rows
   unfolding beginOf
   begin-1 t e = takes Begun _ _ _ _ (rw eb at t) e
 
   module _ (t : b ≡ false) (f : Bool) (ef : f ≡ fits) where
-    pub begin-3 : not f ≡ true → x ≡ beginRefused s (validation 3) → x ≡ beginOf s fits id k rows
+    pub begin-3 : not f ≡ true → x ≡ beginRefused s (refusalOf 3) → x ≡ beginOf s fits id k rows
     unfolding beginOf
     begin-3 n e = passes Begun _ _ _ _ (rw eb at t) (takes Begun _ _ _ _ (rw ef at n) e)
 
     module _ (n : not f ≡ false) (g : Found) (eg : g ≡ foundIn (isAt id) rows) where
-      pub begin-40 : g ≡ found.Nothing → x ≡ beginRefused s (validation 40) → x ≡ beginOf s fits id k rows
+      pub begin-40 : g ≡ found.Nothing → x ≡ beginRefused s (refusalOf 40) → x ≡ beginOf s fits id k rows
       unfolding beginOf beginBy
       begin-40 h e = passes Begun _ _ _ _ (rw eb at t) (passes Begun _ _ _ _ (rw ef at n) (e ∙ rw (sym eg ∙ h)))
 

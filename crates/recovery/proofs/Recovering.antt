@@ -11,7 +11,7 @@ use Rattle.chain.specs.Lists.{anyIn, listed}
 use Rattle.chain.proofs.Chain.{takes, passes, both}
 use Rattle.words.specs.declared.OptionU64.{OptionU64}
 use Rattle.words.specs.declared.OptionU64.the-variants as u64
-use Rattle.models.specs.Refusals.{validation, fromBackend}
+use Rattle.models.specs.Refusals.{refusalOf, fromBackend}
 use Rattle.models.specs.Requests.{sameDevice}
 use Rattle.models.specs.declared.ControllerState.the-variants.{Initialized}
 use Rattle.models.specs.declared.DeviceId.{DeviceId}
@@ -59,7 +59,7 @@ pub refused-is : (s : Session) (r : Refusal) (n : RequestId) → n ≡ noId
     → _≡_ {A = Recovered} (record { answer = answer.Refused r; session = s; ids = record { completed = replicate 128 n; aborted = replicate 128 n } }) (recoveryRefused s r)
 refused-is s r n e = rw e
 
-pub refused-number : (s : Session) (n : ℕ) (r : Refusal) (x : Recovered) → r ≡ validation n → x ≡ recoveryRefused s r → x ≡ recoveryRefused s (validation n)
+pub refused-number : (s : Session) (n : ℕ) (r : Refusal) (x : Recovered) → r ≡ refusalOf n → x ≡ recoveryRefused s r → x ≡ recoveryRefused s (refusalOf n)
 refused-number s n r x e ex = ex ∙ rw e
 
 pub whole-is : (o : Outcome) (b : Bool) → b ≡ hasError (o .error) → (o .«restart_ready» && not b) ≡ isWhole o
@@ -184,7 +184,7 @@ module _ (idle : Session) (x : Recovery) (o : Outcome) (affected own tokens word
   scope-is : inScope (isWhole o) own (tokens ++ aborted) ≡ b
   scope-is = sym (eb ∙ ap (λ (z : Bool). inScope z own (tokens ++ aborted)) ew)
 
-  pub scope-46 : (next : Session) (y : Recovered) → not b ≡ true → next ≡ marked idle → y ≡ recoveryRefused next (validation 46)
+  pub scope-46 : (next : Session) (y : Recovered) → not b ≡ true → next ≡ marked idle → y ≡ recoveryRefused next (refusalOf 46)
       → recoveredTo y store area ≡ doneOf idle x o affected own tokens words aborted bytes store area
   unfolding doneOf
   scope-46 next y t en ey = takes RecoveredTo _ _ _ _ (ap not scope-is ∙ t) (rw (ey, en))
@@ -206,13 +206,13 @@ module _ (p : RecoveryReply) (idle : Session) (x : Recovery) (tokens words abort
   reply-done o y f ey = ey ∙ rw f
 
 module _ (s : Session) (p q : Bool) (x : Recovery) (r : RecoveryReply) (tokens words aborted bytes : List ℕ) (store : Store) (area : List ℕ) (a b : Bool) (ea : a ≡ p) (eb : b ≡ q) where
-  pub sized-3 : (y : Recovered) → not (a && b) ≡ true → y ≡ recoveryRefused s (validation 3)
+  pub sized-3 : (y : Recovered) → not (a && b) ≡ true → y ≡ recoveryRefused s (refusalOf 3)
       → recoveredTo y store area ≡ replySized s (p && q) x r tokens words aborted bytes store area
   unfolding replySized
   sized-3 y t ey = takes RecoveredTo _ _ _ _ (rw (ea, eb) at t) (rw ey)
 
   module _ (t : not (a && b) ≡ false) (g : Bool) (eg : g ≡ listsAgree tokens words (length bytes)) where
-    pub sized-49 : (y : Recovered) → not g ≡ true → y ≡ recoveryRefused s (validation 49)
+    pub sized-49 : (y : Recovered) → not g ≡ true → y ≡ recoveryRefused s (refusalOf 49)
         → recoveredTo y store area ≡ replySized s (p && q) x r tokens words aborted bytes store area
     unfolding replySized
     sized-49 y n ey = passes RecoveredTo _ _ _ _ (rw (ea, eb) at t) (takes RecoveredTo _ _ _ _ (rw eg at n) (rw ey))
@@ -237,8 +237,8 @@ pub agreed-is : (tokens words : List ℕ) (n : ℕ) (g : Bool) → g ≡ listsAg
 agreed-is tokens words n g e t = sym e ∙ not-false g t
 
 module _ (s : Session) (fits : Bool) (r : RecoveryReply) (tokens words aborted bytes : List ℕ) (store : Store) (area : List ℕ) where
-  module _ (y : Recovered) (ey : y ≡ recoveryRefused s (validation 2)) where
-    refused-in : replyIn (s .«in_flight») s fits r tokens words aborted bytes store area ≡ recoveredTo (recoveryRefused s (validation 2)) store area
+  module _ (y : Recovered) (ey : y ≡ recoveryRefused s (refusalOf 2)) where
+    refused-in : replyIn (s .«in_flight») s fits r tokens words aborted bytes store area ≡ recoveredTo (recoveryRefused s (refusalOf 2)) store area
         → recoveredTo y store area ≡ recoveryReplyOf s fits r tokens words aborted bytes store area
     unfolding recoveryReplyOf
     refused-in e = rw ey (sym e)

@@ -15,7 +15,7 @@ use Rattle.chain.specs.Lists.{sumBy}
 use Rattle.chain.proofs.Chain.{caseB, both}
 use Rattle.words.specs.Records.{spliceCut}
 use Rattle.words.proofs.Records.{record-in, length-tab, getD-tab}
-use Rattle.models.specs.Refusals.{validation, invalidCompletion}
+use Rattle.models.specs.Refusals.{refusalOf, invalidCompletion}
 use Rattle.models.specs.declared.BackendCompletion.{BackendCompletion}
 use Rattle.models.specs.declared.Refusal.{Refusal}
 use Rattle.models.specs.declared.RequestReport.{RequestReport}
@@ -51,7 +51,7 @@ module _ (m : Step) (i at room : ℕ) (bytes : List ℕ) (store : Store) (area :
 
 module _ (i at room : ℕ) (c : BackendCompletion) (bytes : List ℕ) (store : Store) (area : List ℕ) (row : Row) (t : CompletionTest)
     (er : row ≡ getD (store .rows) i emptyRow) (et : t ≡ testCompletion c (length bytes) (row .metadata .«requested_length»)) where
-  pub one-missing : (r : Refusal) → t ≡ test.MissingLength → r ≡ validation 47 → walkTo (verdict.Refused r) store area ≡ completeOne i at room c bytes store area
+  pub one-missing : (r : Refusal) → t ≡ test.MissingLength → r ≡ refusalOf 47 → walkTo (verdict.Refused r) store area ≡ completeOne i at room c bytes store area
   unfolding completeOne testedBy
   one-missing r e ex = rw (ex, ← er, ← et, e)
 

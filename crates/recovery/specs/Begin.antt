@@ -6,7 +6,7 @@ use Rattle.chain.specs.Chain.{_if_else_}
 use Rattle.chain.specs.Lists.{foundIn, listed}
 use Rattle.chain.specs.declared.Found.{Found}
 use Rattle.chain.specs.declared.Found.the-variants as found
-use Rattle.models.specs.Refusals.{validation}
+use Rattle.models.specs.Refusals.{refusalOf}
 use Rattle.models.specs.Requests.{deviceMayAccess}
 use Rattle.models.specs.declared.Refusal.{Refusal}
 use Rattle.models.specs.declared.RequestId.{RequestId}
@@ -40,18 +40,18 @@ begunAs s x rows = record {
 -- 43, 44
 unfoldable pub beginRow : Session → Row → RequestId → RecoveryKind → List Row → Begun
 beginRow s r id kind rows =
-    beginRefused s (validation 43) if not (deviceMayAccess (r .state)) else
-    beginRefused s (validation 44) if not (mayRecover (s .state)) else
+    beginRefused s (refusalOf 43) if not (deviceMayAccess (r .state)) else
+    beginRefused s (refusalOf 44) if not (mayRecover (s .state)) else
     begunAs s (recoveryOf id r kind) rows
 
 -- 40
 unfoldable pub beginBy : Found → Session → RequestId → RecoveryKind → List Row → Begun
-beginBy found.Nothing s id kind rows = beginRefused s (validation 40)
+beginBy found.Nothing s id kind rows = beginRefused s (refusalOf 40)
 beginBy (found.At i) s id kind rows = beginRow s (getD rows i emptyRow) id kind rows
 
 -- 1, 3
 unfoldable pub beginOf : Session → Bool → RequestId → RecoveryKind → List Row → Begun
 beginOf s fits id kind rows =
-    beginRefused s (validation 1) if isBusy (s .«in_flight») else
-    beginRefused s (validation 3) if not fits else
+    beginRefused s (refusalOf 1) if isBusy (s .«in_flight») else
+    beginRefused s (refusalOf 3) if not fits else
     beginBy (foundIn (isAt id) rows) s id kind rows

@@ -4,7 +4,7 @@ use mathlib.Core.List.{List, [], _∷_}
 use lib.ListN.{length, getD, take, drop}
 use Rattle.words.specs.Records.{spliceCut}
 use Rattle.words.specs.declared.OptionU32.{OptionU32}
-use Rattle.models.specs.Refusals.{validation, invalidCompletion}
+use Rattle.models.specs.Refusals.{refusalOf, invalidCompletion}
 use Rattle.models.specs.declared.BackendCompletion.{BackendCompletion}
 use Rattle.models.specs.declared.Verdict.{Verdict}
 use Rattle.models.specs.declared.Verdict.the-variants as verdict
@@ -39,7 +39,7 @@ rowCompletedBy (step.To next report) i at room bytes store area = walkTo verdict
 
 -- 47, 48 with the completion's code, 41
 unfoldable pub testedBy : CompletionTest → OptionU32 → ℕ → ℕ → ℕ → List ℕ → Store → List ℕ → WalkTo
-testedBy test.MissingLength code i at room bytes store area = walkTo (verdict.Refused (validation 47)) store area
+testedBy test.MissingLength code i at room bytes store area = walkTo (verdict.Refused (refusalOf 47)) store area
 testedBy test.Invalid code i at room bytes store area = walkTo (verdict.Refused (invalidCompletion code)) store area
 testedBy (test.Valid actual n) code i at room bytes store area =
     rowCompletedBy (changeRow (getD (store .rows) i emptyRow) (change.Complete actual n)) i at room bytes store area

@@ -8,7 +8,7 @@ use Rattle.chain.specs.Chain.{_if_else_}
 use Rattle.chain.specs.Lists.{anyIn}
 use Rattle.words.specs.declared.OptionU64.{OptionU64}
 use Rattle.words.specs.declared.OptionU64.the-variants as u64
-use Rattle.models.specs.Refusals.{validation, fromBackend}
+use Rattle.models.specs.Refusals.{refusalOf, fromBackend}
 use Rattle.models.specs.Requests.{sameDevice}
 use Rattle.models.specs.declared.ControllerState.the-variants.{Initialized}
 use Rattle.models.specs.declared.DeviceId.{DeviceId}
@@ -127,7 +127,7 @@ scopedOf idle x o affected own tokens words aborted bytes store area = settledOf
 -- 46: token scope, with a mark
 unfoldable pub doneOf : Session → Recovery → Outcome → List ℕ → List ℕ → List ℕ → List ℕ → List ℕ → List ℕ → Store → List ℕ → RecoveredTo
 doneOf idle x o affected own tokens words aborted bytes store area =
-    recoveredTo (recoveryRefused (marked idle) (validation 46)) store area if not (inScope (isWhole o) own (tokens ++ aborted)) else
+    recoveredTo (recoveryRefused (marked idle) (refusalOf 46)) store area if not (inScope (isWhole o) own (tokens ++ aborted)) else
     scopedOf idle x o affected own tokens words aborted bytes store area
 
 -- 45, always with a mark
@@ -140,15 +140,15 @@ replyBy (reply.Done o) idle x tokens words aborted bytes store area =
 -- 3, 49: the operation stays in flight
 unfoldable pub replySized : Session → Bool → Recovery → RecoveryReply → List ℕ → List ℕ → List ℕ → List ℕ → Store → List ℕ → RecoveredTo
 replySized s fits x r tokens words aborted bytes store area =
-    recoveredTo (recoveryRefused s (validation 3)) store area if not fits else
-    recoveredTo (recoveryRefused s (validation 49)) store area if not (listsAgree tokens words (length bytes)) else
+    recoveredTo (recoveryRefused s (refusalOf 3)) store area if not fits else
+    recoveredTo (recoveryRefused s (refusalOf 49)) store area if not (listsAgree tokens words (length bytes)) else
     replyBy r (withFlight s flight.Nothing) x tokens words aborted bytes store area
 
 -- 2: no recovery is in flight
 unfoldable pub replyIn : InFlight → Session → Bool → RecoveryReply → List ℕ → List ℕ → List ℕ → List ℕ → Store → List ℕ → RecoveredTo
-replyIn flight.Nothing s fits r tokens words aborted bytes store area = recoveredTo (recoveryRefused s (validation 2)) store area
-replyIn (flight.Submission id) s fits r tokens words aborted bytes store area = recoveredTo (recoveryRefused s (validation 2)) store area
-replyIn (flight.Poll id) s fits r tokens words aborted bytes store area = recoveredTo (recoveryRefused s (validation 2)) store area
+replyIn flight.Nothing s fits r tokens words aborted bytes store area = recoveredTo (recoveryRefused s (refusalOf 2)) store area
+replyIn (flight.Submission id) s fits r tokens words aborted bytes store area = recoveredTo (recoveryRefused s (refusalOf 2)) store area
+replyIn (flight.Poll id) s fits r tokens words aborted bytes store area = recoveredTo (recoveryRefused s (refusalOf 2)) store area
 replyIn (flight.Recovery target device endpoint kind) s fits r tokens words aborted bytes store area =
     replySized s fits (record { target = target; device = device; endpoint = endpoint; kind = kind }) r tokens words aborted bytes store area
 

@@ -13,17 +13,17 @@ use session::Session;
 use session::sizes;
 ghost use mathlib.Core.Path.{_≡_};
 ghost use lib.ListN.{length};
-ghost use Rattle.models.specs.Refusals.{validation};
+ghost use Rattle.models.specs.Refusals.{refusalOf};
 ghost use Rattle.rows.specs.Table.{rowsOf};
 ghost use Rattle.session.specs.Sizes.{rowsFit};
 ghost use Rattle.session.specs.declared.RecoveryKind.the-variants as RecoveryKind;
 ghost use Rattle.recovery.specs.Begin.{beginRefused, recoveryOf, begunAs, beginRow, beginOf};
 
 fn refused(session: Session, number: u16) -> Begun
-    ensures { λ r. ⌜ r ≡ beginRefused session (validation number) ⌝ }
+    ensures { λ r. ⌜ r ≡ beginRefused session (refusalOf number) ⌝ }
 {
     Begun {
-        answer: BeginAnswer::Refused(models::refuse_validation(number)),
+        answer: BeginAnswer::Refused(models::refuse(number)),
         session,
         tokens: [0; 128],
         count: 0,

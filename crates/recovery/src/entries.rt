@@ -66,7 +66,7 @@ fn complete_one(
         metadata.requested_length,
     );
     match test {
-        CompletionTest::MissingLength => Verdict::Refused(models::refuse_validation(47)),
+        CompletionTest::MissingLength => Verdict::Refused(models::refuse(47)),
         CompletionTest::Invalid => Verdict::Refused(models::refuse_completion(code)),
         CompletionTest::Valid(actual, n) => {
             let step = rules::change_row(row, Change::Complete(actual, n));

@@ -32,7 +32,7 @@ ghost use Prim.Native.Nat.{_+_, _≤_};
 ghost use lib.ListN.{length};
 ghost use lib.Dec.{eqb};
 ghost use Rattle.chain.specs.Lists.{listed};
-ghost use Rattle.models.specs.Refusals.{validation};
+ghost use Rattle.models.specs.Refusals.{refusalOf};
 ghost use Rattle.models.specs.Requests.{sameDevice};
 ghost use Rattle.rows.specs.Table.{rowsOf};
 ghost use Rattle.rows.specs.Store.{storeOf};
@@ -70,9 +70,9 @@ fn refused(session: Session, refusal: Refusal) -> Recovered
 }
 
 fn refused_by(session: Session, number: u16) -> Recovered
-    ensures { λ r. ⌜ r ≡ recoveryRefused session (validation number) ⌝ }
+    ensures { λ r. ⌜ r ≡ recoveryRefused session (refusalOf number) ⌝ }
 {
-    refused(session, models::refuse_validation(number))
+    refused(session, models::refuse(number))
 }
 
 // Ready, and without an error.

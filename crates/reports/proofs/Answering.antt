@@ -3,7 +3,7 @@ use Prim.Native.Nat.{ℕ}
 use mathlib.Core.Bool.{Bool, true, false}
 use mathlib.Core.Path.{_≡_, refl, _∙_}
 use Rattle.chain.proofs.Chain.{takes, passes, through}
-use Rattle.models.specs.Refusals.{validation}
+use Rattle.models.specs.Refusals.{refusalOf}
 use Rattle.models.specs.declared.OperationError.{OperationError}
 use Rattle.models.specs.declared.Refusal.{Refusal}
 use Rattle.session.specs.Session.{marked}
@@ -21,5 +21,5 @@ module _ (e : OperationError) (s : Session) (b : Bool) (eb : b ≡ isMild (e .ca
   unfolding effect
   effect-marks m t em = passes Session _ _ _ _ (through b _ false eb t) em
 
-pub refused-number : (s : Session) (n : ℕ) (r : Refusal) (x : Reported) → r ≡ validation n → x ≡ reportRefused s r → x ≡ reportRefused s (validation n)
+pub refused-number : (s : Session) (n : ℕ) (r : Refusal) (x : Reported) → r ≡ refusalOf n → x ≡ reportRefused s r → x ≡ reportRefused s (refusalOf n)
 refused-number s n r x e ex = ex ∙ rw e

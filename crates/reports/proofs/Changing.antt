@@ -2,7 +2,7 @@
 use mathlib.Core.Bool.{Bool, true, false, not}
 use mathlib.Core.Path.{_≡_, _∙_}
 use Rattle.chain.proofs.Chain.{takes, passes, through, not-through}
-use Rattle.models.specs.Refusals.{validation}
+use Rattle.models.specs.Refusals.{refusalOf}
 use Rattle.models.specs.declared.Refusal.{Refusal}
 use Rattle.models.specs.declared.RequestId.{RequestId}
 use Rattle.models.specs.declared.RequestReport.{RequestReport}
@@ -34,12 +34,12 @@ module _ (a : Applied) (s : Session) where
 
 -- a change
 module _ (s : Session) (fits : Bool) (id : RequestId) (c : Change) (store : Store) (x : Reported) (b : Bool) (eb : b ≡ isBusy (s .«in_flight»)) where
-  pub change-busy : b ≡ true → x ≡ reportRefused s (validation 1) → reportedTo x store ≡ changeOf s fits id c store
+  pub change-busy : b ≡ true → x ≡ reportRefused s (refusalOf 1) → reportedTo x store ≡ changeOf s fits id c store
   unfolding changeOf
   change-busy t e = takes ReportedTo _ _ _ _ (through b _ true eb t) (rw e)
 
   module _ (nb : b ≡ false) (f : Bool) (ef : f ≡ fits) where
-    pub change-unfit : not f ≡ true → x ≡ reportRefused s (validation 3) → reportedTo x store ≡ changeOf s fits id c store
+    pub change-unfit : not f ≡ true → x ≡ reportRefused s (refusalOf 3) → reportedTo x store ≡ changeOf s fits id c store
     unfolding changeOf
     change-unfit t e = passes ReportedTo _ _ _ _ (through b _ false eb nb) (takes ReportedTo _ _ _ _ (not-through f _ true ef t) (rw e))
 

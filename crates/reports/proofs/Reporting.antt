@@ -16,7 +16,7 @@ use Rattle.chain.specs.declared.Found.{Found}
 use Rattle.chain.specs.declared.Found.the-variants as found
 use Rattle.chain.proofs.Chain.{takes, passes, through, not-through}
 use Rattle.chain.proofs.Lists.{sum-suc}
-use Rattle.models.specs.Refusals.{validation}
+use Rattle.models.specs.Refusals.{refusalOf}
 use Rattle.models.specs.Requests.{sameRequest, requestBefore}
 use Rattle.models.specs.declared.Refusal.{Refusal}
 use Rattle.models.specs.declared.RequestId.{RequestId}
@@ -48,17 +48,17 @@ submitting-own f id own b e eb = eb ∙ rw e
 
 -- a request's status
 module _ (s : Session) (fits : Bool) (id : RequestId) (rows : List Row) (f : Bool) (ef : f ≡ fits) where
-  pub status-unfit : (r : Refusal) → not f ≡ true → r ≡ validation 3 → report.Refused r ≡ statusOf s fits id rows
+  pub status-unfit : (r : Refusal) → not f ≡ true → r ≡ refusalOf 3 → report.Refused r ≡ statusOf s fits id rows
   unfolding statusOf
   status-unfit r t e = takes ReportAnswer _ _ _ _ (not-through f _ true ef t) (rw e)
 
   module _ (nf : not f ≡ false) (b : Bool) (eb : b ≡ isSubmitting (s .«in_flight») id) where
-    pub status-open : (r : Refusal) → b ≡ true → r ≡ validation 40 → report.Refused r ≡ statusOf s fits id rows
+    pub status-open : (r : Refusal) → b ≡ true → r ≡ refusalOf 40 → report.Refused r ≡ statusOf s fits id rows
     unfolding statusOf
     status-open r t e = passes ReportAnswer _ _ _ _ (not-through f _ false ef nf) (takes ReportAnswer _ _ _ _ (through b _ true eb t) (rw e))
 
     module _ (nb : b ≡ false) (g : Found) (eg : g ≡ foundIn (isAt id) rows) where
-      pub status-none : (r : Refusal) → g ≡ found.Nothing → r ≡ validation 40 → report.Refused r ≡ statusOf s fits id rows
+      pub status-none : (r : Refusal) → g ≡ found.Nothing → r ≡ refusalOf 40 → report.Refused r ≡ statusOf s fits id rows
       unfolding statusOf statusBy
       status-none r t e =
           passes ReportAnswer _ _ _ _ (not-through f _ false ef nf) (passes ReportAnswer _ _ _ _ (through b _ false eb nb) (rw (sym eg ∙ t, e)))
@@ -145,7 +145,7 @@ shown-most total after i false h e = omega arith
 
 -- by the sizes
 module _ (fits : Bool) (rows : List Row) (f : Bool) (ef : f ≡ fits) where
-  module _ (r : Refusal) (t : not f ≡ true) (er : r ≡ validation 3) where
+  module _ (r : Refusal) (t : not f ≡ true) (er : r ≡ refusalOf 3) where
     pub next-unfit : (s : Session) (o : OptionId) → next.Refused r ≡ nextOf s fits o rows
     unfolding nextOf
     next-unfit s o = takes NextReport _ _ _ _ (not-through f _ true ef t) (rw er)

@@ -1,7 +1,7 @@
 -- Cancel, timeout and reclaim (document 01, the place ledger of its table). Assumes nothing.
 use mathlib.Core.Bool.{Bool, not}
 use Rattle.chain.specs.Chain.{_if_else_}
-use Rattle.models.specs.Refusals.{validation}
+use Rattle.models.specs.Refusals.{refusalOf}
 use Rattle.models.specs.declared.RequestId.{RequestId}
 use Rattle.rows.specs.Store.{Store}
 use Rattle.ledger.specs.Apply.{applyOf}
@@ -21,6 +21,6 @@ reportedBy (applied.Done x) s = record { answer = report.Report x; session = s }
 -- 1, 3, then the ledger's 40, and 41 or 42
 unfoldable pub changeOf : Session → Bool → RequestId → Change → Store → ReportedTo
 changeOf s fits id c store =
-    reportedTo (reportRefused s (validation 1)) store if isBusy (s .«in_flight») else
-    reportedTo (reportRefused s (validation 3)) store if not fits else
+    reportedTo (reportRefused s (refusalOf 1)) store if isBusy (s .«in_flight») else
+    reportedTo (reportRefused s (refusalOf 3)) store if not fits else
     reportedTo (reportedBy (applyOf id c store .answer) s) (applyOf id c store .store)

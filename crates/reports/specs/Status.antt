@@ -7,7 +7,7 @@ use Rattle.chain.specs.Chain.{_if_else_}
 use Rattle.chain.specs.Lists.{count, foundIn}
 use Rattle.chain.specs.declared.Found.{Found}
 use Rattle.chain.specs.declared.Found.the-variants as found
-use Rattle.models.specs.Refusals.{validation}
+use Rattle.models.specs.Refusals.{refusalOf}
 use Rattle.models.specs.Requests.{sameRequest, requestBefore}
 use Rattle.models.specs.declared.RequestId.{RequestId}
 use Rattle.models.specs.declared.RequestState.{RequestState}
@@ -39,14 +39,14 @@ isSubmitting (flight.Recovery target device endpoint kind) id = false
 
 -- 40
 unfoldable pub statusBy : Found → List Row → ReportAnswer
-statusBy found.Nothing rows = report.Refused (validation 40)
+statusBy found.Nothing rows = report.Refused (refusalOf 40)
 statusBy (found.At i) rows = report.Report (reportOf (getD rows i emptyRow))
 
 -- 3, 40
 unfoldable pub statusOf : Session → Bool → RequestId → List Row → ReportAnswer
 statusOf s fits id rows =
-    report.Refused (validation 3) if not fits else
-    report.Refused (validation 40) if isSubmitting (s .«in_flight») id else
+    report.Refused (refusalOf 3) if not fits else
+    report.Refused (refusalOf 40) if isSubmitting (s .«in_flight») id else
     statusBy (foundIn (isAt id) rows) rows
 
 -- a request that has a report
@@ -72,11 +72,11 @@ bestFrom f after best [] = best
 bestFrom f after best (r ∷ rows) = bestFrom f after (better f after best r) rows
 
 unfoldable pub nextOf : Session → Bool → OptionId → List Row → NextReport
-nextOf s fits after rows = next.Refused (validation 3) if not fits else bestFrom (s .«in_flight») after next.None rows
+nextOf s fits after rows = next.Refused (refusalOf 3) if not fits else bestFrom (s .«in_flight») after next.None rows
 
 -- how many requests have a report
 unfoldable pub shownCount : Session → Bool → List Row → Tally
-shownCount s fits rows = tally.Refused (validation 3) if not fits else tally.Number (count (isShown (s .«in_flight»)) rows)
+shownCount s fits rows = tally.Refused (refusalOf 3) if not fits else tally.Number (count (isShown (s .«in_flight»)) rows)
 
 -- the actual length of a Completed request, else 0
 abbrev pub completedLength : RequestState → ℕ
@@ -100,7 +100,7 @@ unfoldable pub completedBytes : Session → Bool → RequestId → List Row → 
 completedBytes s fits id rows area = take (completedPart s fits id rows .length) (drop (completedPart s fits id rows .start) area)
 
 unfoldable pub heldCountOf : Bool → List Row → Tally
-heldCountOf fits rows = tally.Refused (validation 3) if not fits else tally.Number (heldCount 16 rows)
+heldCountOf fits rows = tally.Refused (refusalOf 3) if not fits else tally.Number (heldCount 16 rows)
 
 unfoldable pub heldBytesOf : Bool → List Row → Tally
-heldBytesOf fits rows = tally.Refused (validation 3) if not fits else tally.Number (heldBytes 64 rows)
+heldBytesOf fits rows = tally.Refused (refusalOf 3) if not fits else tally.Number (heldBytes 64 rows)

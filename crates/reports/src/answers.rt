@@ -6,7 +6,7 @@ use models::OperationError;
 use models::Refusal;
 use session::Session;
 ghost use mathlib.Core.Path.{_≡_};
-ghost use Rattle.models.specs.Refusals.{validation};
+ghost use Rattle.models.specs.Refusals.{refusalOf};
 ghost use Rattle.reports.specs.Answers.{isMild, effect, reportRefused};
 
 fn is_mild(c: ErrorCategory) -> bool
@@ -44,7 +44,7 @@ pub fn refused(session: Session, refusal: Refusal) -> Reported
 }
 
 pub fn refused_by(session: Session, number: u16) -> Reported
-    ensures { λ r. ⌜ r ≡ reportRefused session (validation number) ⌝ }
+    ensures { λ r. ⌜ r ≡ reportRefused session (refusalOf number) ⌝ }
 {
-    refused(session, models::refuse_validation(number))
+    refused(session, models::refuse(number))
 }

@@ -42,14 +42,14 @@ pub fn request_status(session: Session, rows: &[u64], id: RequestId) -> ReportAn
 {
     let flight = session.in_flight;
     if !sizes::rows_fit(session.row_count, session.row_bytes, rows.len()) {
-        return ReportAnswer::Refused(models::refuse_validation(3));
+        return ReportAnswer::Refused(models::refuse(3));
     }
     if is_submitting(flight, id) {
-        return ReportAnswer::Refused(models::refuse_validation(40));
+        return ReportAnswer::Refused(models::refuse(40));
     }
     let found = search::find(rows, id);
     let Found::At(i) = found else {
-        return ReportAnswer::Refused(models::refuse_validation(40));
+        return ReportAnswer::Refused(models::refuse(40));
     };
     let row = rows::read_row(rows, i);
     ReportAnswer::Report(rules::report_of(row))
@@ -115,7 +115,7 @@ pub fn request_reports(session: Session, rows: &[u64], after: OptionId) -> NextR
 {
     let flight = session.in_flight;
     if !sizes::rows_fit(session.row_count, session.row_bytes, rows.len()) {
-        return NextReport::Refused(models::refuse_validation(3));
+        return NextReport::Refused(models::refuse(3));
     }
     best_of(rows, flight, after)
 }
@@ -165,7 +165,7 @@ pub fn count_reports(session: Session, rows: &[u64]) -> Tally
 {
     let flight = session.in_flight;
     if !sizes::rows_fit(session.row_count, session.row_bytes, rows.len()) {
-        return Tally::Refused(models::refuse_validation(3));
+        return Tally::Refused(models::refuse(3));
     }
     Tally::Number(count_shown(rows, flight))
 }
@@ -247,7 +247,7 @@ pub fn held_count(session: Session, rows: &[u64]) -> Tally
     ensures { λ r. ⌜ r ≡ heldCountOf (rowsFit (session .«row_count») (session .«row_bytes») (length (now (rows .entry)))) (rowsOf (now (rows .entry))) ⌝ }
 {
     if !sizes::rows_fit(session.row_count, session.row_bytes, rows.len()) {
-        return Tally::Refused(models::refuse_validation(3));
+        return Tally::Refused(models::refuse(3));
     }
     Tally::Number(tally::held_count(rows) as u64)
 }
@@ -257,7 +257,7 @@ pub fn held_bytes(session: Session, rows: &[u64]) -> Tally
     ensures { λ r. ⌜ r ≡ heldBytesOf (rowsFit (session .«row_count») (session .«row_bytes») (length (now (rows .entry)))) (rowsOf (now (rows .entry))) ⌝ }
 {
     if !sizes::rows_fit(session.row_count, session.row_bytes, rows.len()) {
-        return Tally::Refused(models::refuse_validation(3));
+        return Tally::Refused(models::refuse(3));
     }
     Tally::Number(tally::held_bytes(rows))
 }

@@ -6,7 +6,7 @@ use Rattle.chain.specs.Chain.{_if_else_}
 use Rattle.chain.proofs.Chain.{takes, passes, through, not-through}
 use Rattle.words.specs.declared.OptionU64.{OptionU64}
 use Rattle.words.specs.declared.OptionU64.the-variants as u64
-use Rattle.models.specs.Refusals.{validation, fromBackend}
+use Rattle.models.specs.Refusals.{refusalOf, fromBackend}
 use Rattle.models.specs.declared.ControllerState.the-variants.{AcquiredUnknown, Initialized, RecoveryRequired}
 use Rattle.models.specs.declared.OperationError.{OperationError}
 use Rattle.models.specs.declared.OptionError.{OptionError}
@@ -29,7 +29,7 @@ use Rattle.session.specs.declared.lifecycle.AcquireReply.the-variants as
 
 -- an opening
 module _ (f fits : Bool) (ef : f ≡ fits) (o : Opening) (s : Store) (b : Bus) where
-  pub open-unfit : (r : Refusal) → not f ≡ true → r ≡ validation 3 → openedTo (opened.Refused r) s b ≡ openOf fits o s b
+  pub open-unfit : (r : Refusal) → not f ≡ true → r ≡ refusalOf 3 → openedTo (opened.Refused r) s b ≡ openOf fits o s b
   unfolding openOf
   open-unfit r n e = takes OpenedTo _ _ _ _ (not-through f fits true ef n) (rw e)
 
@@ -77,12 +77,12 @@ module _ (s : Session) (x : Called) where
 
 -- a close
 module _ (s : Session) (fits : Bool) (fresh : OptionU64) (reply : OptionError) (store : Store) (x : Called) (b : Bool) (eb : b ≡ isBusy (s .«in_flight»)) where
-  pub close-busy : b ≡ true → x ≡ refusedBy s (validation 1) → calledTo x store ≡ closeOf s fits fresh reply store
+  pub close-busy : b ≡ true → x ≡ refusedBy s (refusalOf 1) → calledTo x store ≡ closeOf s fits fresh reply store
   unfolding closeOf
   close-busy t ex = takes CalledTo _ _ _ _ (through b _ true eb t) (rw ex)
 
   module _ (nb : b ≡ false) (f : Bool) (ef : f ≡ fits) where
-    pub close-unfit : not f ≡ true → x ≡ refusedBy s (validation 3) → calledTo x store ≡ closeOf s fits fresh reply store
+    pub close-unfit : not f ≡ true → x ≡ refusedBy s (refusalOf 3) → calledTo x store ≡ closeOf s fits fresh reply store
     unfolding closeOf
     close-unfit t ex = passes CalledTo _ _ _ _ (through b _ false eb nb) (takes CalledTo _ _ _ _ (not-through f _ true ef t) (rw ex))
 
@@ -96,7 +96,7 @@ module _ (s : Session) (fits : Bool) (fresh : OptionU64) (reply : OptionError) (
       close-closed t ex = passed-sizes _ (takes CalledTo _ _ _ _ (through k _ true ek t) (rw ex))
 
       module _ (nk : k ≡ false) where
-        pub close-none : fresh ≡ u64.None → x ≡ refusedBy s (validation 52) → calledTo x store ≡ closeOf s fits fresh reply store
+        pub close-none : fresh ≡ u64.None → x ≡ refusedBy s (refusalOf 52) → calledTo x store ≡ closeOf s fits fresh reply store
         unfolding freshBy
         close-none e ex = passed-sizes _ (passes CalledTo _ _ _ _ (through k _ false ek nk) (rw (e, ex)))
 
@@ -107,12 +107,12 @@ module _ (s : Session) (fits : Bool) (fresh : OptionU64) (reply : OptionError) (
 
 -- a placing call
 module _ (s : Session) (fits : Bool) (b : Bus) (done : VerdictTo) (t : Bool) (et : t ≡ isBusy (s .«in_flight»)) where
-  pub place-busy : (x : Verdict) → t ≡ true → x ≡ verdict.Refused (validation 1) → verdictTo x b ≡ placed s fits b done
+  pub place-busy : (x : Verdict) → t ≡ true → x ≡ verdict.Refused (refusalOf 1) → verdictTo x b ≡ placed s fits b done
   unfolding placed
   place-busy x e ex = takes VerdictTo _ _ _ _ (through t _ true et e) (rw ex)
 
   module _ (nt : t ≡ false) (f : Bool) (ef : f ≡ fits) where
-    pub place-unfit : (x : Verdict) → not f ≡ true → x ≡ verdict.Refused (validation 3) → verdictTo x b ≡ placed s fits b done
+    pub place-unfit : (x : Verdict) → not f ≡ true → x ≡ verdict.Refused (refusalOf 3) → verdictTo x b ≡ placed s fits b done
     unfolding placed
     place-unfit x n ex = passes VerdictTo _ _ _ _ (through t _ false et nt) (takes VerdictTo _ _ _ _ (not-through f _ true ef n) (rw ex))
 

@@ -4,7 +4,7 @@ use mathlib.Core.Bool.{Bool, not, cond}
 use Rattle.chain.specs.Chain.{_if_else_}
 use Rattle.words.specs.declared.OptionU64.{OptionU64}
 use Rattle.words.specs.declared.OptionU64.the-variants as u64
-use Rattle.models.specs.Refusals.{validation, fromBackend}
+use Rattle.models.specs.Refusals.{refusalOf, fromBackend}
 use Rattle.models.specs.declared.ControllerState.the-variants.{Closed, AcquiredUnknown, Initialized, RecoveryRequired}
 use Rattle.models.specs.declared.OperationError.{OperationError}
 use Rattle.models.specs.declared.OptionError.{OptionError}
@@ -61,7 +61,7 @@ openedTo a s b = record { answer = a; store = s; bus = b }
 
 -- 3: a size is wrong; else every row free and the bus as at opening, whatever they held
 unfoldable pub openOf : Bool → Opening → Store → Bus → OpenedTo
-openOf fits o s b = openedTo (opened.Refused (validation 3)) s b if not fits else openedTo (opened.Open (newSession o)) (emptied s) cleared
+openOf fits o s b = openedTo (opened.Refused (refusalOf 3)) s b if not fits else openedTo (opened.Open (newSession o)) (emptied s) cleared
 
 -- a failed acquire stays Closed unless the reply says retained: then RecoveryRequired, revision raised
 unfoldable pub acquiredBy : AcquireReply → Session → Called
@@ -72,8 +72,8 @@ acquiredBy (acquire.Failed e retained) s =
 
 unfoldable pub acquireOf : Session → AcquireReply → Called
 acquireOf s reply =
-    refusedBy s (validation 1) if isBusy (s .«in_flight») else
-    refusedBy s (validation 50) if not (isClosed (s .state)) else
+    refusedBy s (refusalOf 1) if isBusy (s .«in_flight») else
+    refusedBy s (refusalOf 50) if not (isClosed (s .state)) else
     acquiredBy reply s
 
 -- a failed initialise marks
@@ -83,8 +83,8 @@ initializedBy (error.Some e) s = refusedBy (marked s) (fromBackend 45 e)
 
 unfoldable pub initializeOf : Session → OptionError → Called
 initializeOf s reply =
-    refusedBy s (validation 1) if isBusy (s .«in_flight») else
-    refusedBy s (validation 51) if not (isAcquired (s .state)) else
+    refusedBy s (refusalOf 1) if isBusy (s .«in_flight») else
+    refusedBy s (refusalOf 51) if not (isAcquired (s .state)) else
     initializedBy reply s
 
 -- a new ledger at sequence 0; the revision and the stall stay
@@ -117,13 +117,13 @@ closedBy error.None s fresh store = calledTo (passed (closedSession s fresh)) (e
 
 -- no fresh number is 52
 unfoldable pub freshBy : OptionU64 → Session → OptionError → Store → CalledTo
-freshBy u64.None s reply store = calledTo (refusedBy s (validation 52)) store
+freshBy u64.None s reply store = calledTo (refusedBy s (refusalOf 52)) store
 freshBy (u64.Some fresh) s reply store = closedBy reply s fresh store
 
 -- Closed succeeds unchanged
 unfoldable pub closeOf : Session → Bool → OptionU64 → OptionError → Store → CalledTo
 closeOf s fits fresh reply store =
-    calledTo (refusedBy s (validation 1)) store if isBusy (s .«in_flight») else
-    calledTo (refusedBy s (validation 3)) store if not fits else
+    calledTo (refusedBy s (refusalOf 1)) store if isBusy (s .«in_flight») else
+    calledTo (refusedBy s (refusalOf 3)) store if not fits else
     calledTo (passed s) store if isClosed (s .state) else
     freshBy fresh s reply store

@@ -20,7 +20,7 @@ use models::Verdict;
 use words::OptionU64;
 ghost use mathlib.Core.Path.{_≡_};
 ghost use lib.ListN.{length};
-ghost use Rattle.models.specs.Refusals.{validation};
+ghost use Rattle.models.specs.Refusals.{refusalOf};
 ghost use Rattle.rows.specs.Store.{storeOf};
 ghost use Rattle.bus.specs.Tables.{busOf};
 ghost use Rattle.session.specs.Sizes.{rowsFit, openFits};
@@ -58,9 +58,9 @@ fn refused_by(session: Session, refusal: Refusal) -> Called
 }
 
 fn refused(session: Session, number: u16) -> Called
-    ensures { λ r. ⌜ r ≡ refusedBy session (validation number) ⌝ }
+    ensures { λ r. ⌜ r ≡ refusedBy session (refusalOf number) ⌝ }
 {
-    refused_by(session, models::refuse_validation(number))
+    refused_by(session, models::refuse(number))
 }
 
 fn pass(session: Session) -> Called
@@ -117,7 +117,7 @@ pub fn open(o: Opening, rows: &mut [u64], area: &[u8], bus: &mut [u64]) -> Opene
     ensures { λ r. ⌜ openedTo r (storeOf (now (rows .exit))) (busOf (now (bus .exit))) ≡ openOf (openFits o (length (now (rows .entry))) (length (now (area .entry))) (length (now (bus .entry)))) o (storeOf (now (rows .entry))) (busOf (now (bus .entry))) ⌝ }
 {
     if !open_fits(o, rows.len(), area.len(), bus.len()) {
-        return Opened::Refused(models::refuse_validation(3));
+        return Opened::Refused(models::refuse(3));
     }
     rows::clear_rows(rows);
     bus::clear(bus);

@@ -6,7 +6,7 @@ use mathlib.Core.Path.{_≡_, ap, _∙_}
 use lib.ListN.{length}
 use Rattle.chain.specs.declared.Found.{Found}
 use Rattle.chain.specs.declared.Found.the-variants as found
-use Rattle.models.specs.Refusals.{validation}
+use Rattle.models.specs.Refusals.{refusalOf}
 use Rattle.models.specs.declared.ControlPlan.{ControlPlan}
 use Rattle.models.specs.declared.PortReading.{PortReading}
 use Rattle.models.specs.declared.Refusal.{Refusal}
@@ -58,7 +58,7 @@ module _ (s : Session) (q : ControlPlan) (bytes : List ℕ) (first : PortReading
 
   -- 5
   module _ (store : Store) (rows : List Row) (f : Found) (ef : f ≡ roomIn rows) where
-    pub plan-none : (x : PlanSubmitted) (r : Refusal) → f ≡ found.Nothing → r ≡ validation 5 → x ≡ planRefused s r
+    pub plan-none : (x : PlanSubmitted) (r : Refusal) → f ≡ found.Nothing → r ≡ refusalOf 5 → x ≡ planRefused s r
         → planTo x b store area ≡ planRoomBy (roomIn rows) s q bytes first b store area
     unfolding planRoomBy
     plan-none x r e er ex = ap (λ (z : PlanSubmitted). planTo z b store area) ex ∙ rw (← ef, e, er)

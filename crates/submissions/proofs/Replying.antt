@@ -3,7 +3,7 @@ use Prim.Native.Nat.{ℕ}
 use mathlib.Core.Bool.{Bool, true, false, not}
 use mathlib.Core.Path.{_≡_, sym, ap, _∙_}
 use Rattle.chain.proofs.Chain.{takes, passes, not-through}
-use Rattle.models.specs.Refusals.{validation, fromBackend}
+use Rattle.models.specs.Refusals.{refusalOf, fromBackend}
 use Rattle.models.specs.declared.DeviceId.{DeviceId}
 use Rattle.models.specs.declared.OperationError.{OperationError}
 use Rattle.models.specs.declared.Refusal.{Refusal}
@@ -28,7 +28,7 @@ use Rattle.reports.specs.declared.ReportAnswer.the-variants as report
 
 -- the answers to both replies
 module _ (a : Applied) (s : Session) where
-  pub accepted-none : (r : Refusal) (x : Reported) → a ≡ applied.Refused r → x ≡ reportRefused s (validation 2) → x ≡ acceptedBy a s
+  pub accepted-none : (r : Refusal) (x : Reported) → a ≡ applied.Refused r → x ≡ reportRefused s (refusalOf 2) → x ≡ acceptedBy a s
   unfolding acceptedBy
   accepted-none r x e ex = ex ∙ rw e
 
@@ -38,7 +38,7 @@ module _ (a : Applied) (s : Session) where
   accepted-done row n e en = rw (e, en)
 
   module _ (e : OperationError) (x : Reported) where
-    pub discarded-none : (r : Refusal) → a ≡ applied.Refused r → x ≡ reportRefused s (validation 2) → x ≡ discardedBy a e s
+    pub discarded-none : (r : Refusal) → a ≡ applied.Refused r → x ≡ reportRefused s (refusalOf 2) → x ≡ discardedBy a e s
     unfolding discardedBy
     discarded-none r ea ex = ex ∙ rw ea
 
@@ -65,7 +65,7 @@ module _ (s : Session) (fits : Bool) (y : SubmitReply) (store : Store) where
   unfolding submitReplyOf
   flown f o e h = h ∙ ap (λ (g : InFlight). submitReplyIn g fits y s store) (sym e)
 
-  module _ (x : Reported) (ex : x ≡ reportRefused s (validation 2)) where
+  module _ (x : Reported) (ex : x ≡ reportRefused s (refusalOf 2)) where
     pub reply-idle : s .«in_flight» ≡ flight.Nothing → reportedTo x store ≡ submitReplyOf s fits y store
     unfolding submitReplyIn
     reply-idle e = flown flight.Nothing _ e (rw ex)
@@ -80,7 +80,7 @@ module _ (s : Session) (fits : Bool) (y : SubmitReply) (store : Store) where
     reply-recovery id device endpoint kind e = flown (flight.Recovery id device endpoint kind) _ e (rw ex)
 
   module _ (id : RequestId) (e : s .«in_flight» ≡ flight.Submission id) (f : Bool) (ef : f ≡ fits) where
-    pub reply-unfit : (x : Reported) → not f ≡ true → x ≡ reportRefused s (validation 3) → reportedTo x store ≡ submitReplyOf s fits y store
+    pub reply-unfit : (x : Reported) → not f ≡ true → x ≡ reportRefused s (refusalOf 3) → reportedTo x store ≡ submitReplyOf s fits y store
     unfolding submitReplyIn
     reply-unfit x t ex = flown (flight.Submission id) _ e (takes ReportedTo _ _ _ _ (not-through f fits true ef t) (rw ex))
 

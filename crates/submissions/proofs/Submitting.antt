@@ -7,7 +7,7 @@ use lib.ListN.{length}
 use Rattle.chain.specs.declared.Found.{Found}
 use Rattle.chain.specs.declared.Found.the-variants as found
 use Rattle.chain.proofs.Chain.{takes, passes, through}
-use Rattle.models.specs.Refusals.{validation}
+use Rattle.models.specs.Refusals.{refusalOf}
 use Rattle.models.specs.declared.PortReading.{PortReading}
 use Rattle.models.specs.declared.Refusal.{Refusal}
 use Rattle.models.specs.declared.RequestId.{RequestId}
@@ -36,7 +36,7 @@ use Rattle.submissions.specs.declared.begin.Started.{Started}
 
 -- 1, 3
 module _ (s : Session) (words area bus : ℕ) (b : Bool) (eb : b ≡ isBusy (s .«in_flight»)) where
-  pub ready-busy : (r : Refusal) → b ≡ true → r ≡ validation 1 → verdict.Refused r ≡ readyOf s (storeFits s words area bus)
+  pub ready-busy : (r : Refusal) → b ≡ true → r ≡ refusalOf 1 → verdict.Refused r ≡ readyOf s (storeFits s words area bus)
   unfolding readyOf
   ready-busy r t er = takes Verdict _ _ _ _ (through b _ true eb t) (ap verdict.Refused er)
 
@@ -44,7 +44,7 @@ module _ (s : Session) (words area bus : ℕ) (b : Bool) (eb : b ≡ isBusy (s .
     fits-is : (rows && parts && tables) ≡ storeFits s words area bus
     fits-is = rw (er, ea, et)
 
-    pub ready-unfit : (r : Refusal) → not (rows && parts && tables) ≡ true → r ≡ validation 3 → verdict.Refused r ≡ readyOf s (storeFits s words area bus)
+    pub ready-unfit : (r : Refusal) → not (rows && parts && tables) ≡ true → r ≡ refusalOf 3 → verdict.Refused r ≡ readyOf s (storeFits s words area bus)
     unfolding readyOf
     ready-unfit r t e =
         passes Verdict _ _ _ _ (through b _ false eb nb) (takes Verdict _ _ _ _ (ap not (sym fits-is) ∙ t) (ap verdict.Refused e))
@@ -81,7 +81,7 @@ module _ (s : Session) (q : RequestSpec) (bytes : List ℕ) (given : Bool) (firs
 
   -- 5
   module _ (store : Store) (rows : List Row) (f : Found) (ef : f ≡ roomIn rows) where
-    pub room-none : (x : Submitted) (r : Refusal) → f ≡ found.Nothing → r ≡ validation 5 → x ≡ submitRefused s r
+    pub room-none : (x : Submitted) (r : Refusal) → f ≡ found.Nothing → r ≡ refusalOf 5 → x ≡ submitRefused s r
         → submitTo x b store area ≡ roomBy (roomIn rows) s q bytes given first second b store area
     unfolding roomBy
     room-none x r e er ex = ap (λ (z : Submitted). submitTo z b store area) ex ∙ rw (← ef, e, er)

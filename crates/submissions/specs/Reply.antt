@@ -1,7 +1,7 @@
 -- The backend's reply to a submission (document 01, "Added by design" and "Request row"). Assumes nothing.
 use mathlib.Core.Bool.{Bool, not}
 use Rattle.chain.specs.Chain.{_if_else_}
-use Rattle.models.specs.Refusals.{validation, fromBackend}
+use Rattle.models.specs.Refusals.{refusalOf, fromBackend}
 use Rattle.models.specs.declared.OperationError.{OperationError}
 use Rattle.models.specs.declared.RequestId.{RequestId}
 use Rattle.rows.specs.Store.{Store}
@@ -21,12 +21,12 @@ use Rattle.reports.specs.declared.ReportAnswer.the-variants as report
 
 -- 2: no row has the id, and the operation stays in flight; else it ends with the row's report
 unfoldable pub acceptedBy : Applied → Session → Reported
-acceptedBy (applied.Refused r) s = reportRefused s (validation 2)
+acceptedBy (applied.Refused r) s = reportRefused s (refusalOf 2)
 acceptedBy (applied.Done row) s = record { answer = report.Report row; session = withFlight s flight.Nothing }
 
 -- 45 with the row empty again
 unfoldable pub discardedBy : Applied → OperationError → Session → Reported
-discardedBy (applied.Refused r) e s = reportRefused s (validation 2)
+discardedBy (applied.Refused r) e s = reportRefused s (refusalOf 2)
 discardedBy (applied.Done row) e s = reportRefused (withFlight (effect e s) flight.Nothing) (fromBackend 45 e)
 
 unfoldable pub submitReplyBy : SubmitReply → RequestId → Session → Store → ReportedTo
@@ -37,11 +37,11 @@ submitReplyBy (reply.Error e) id s store =
 
 -- 2 by its kind, then 3, then 2 where no row has the id
 unfoldable pub submitReplyIn : InFlight → Bool → SubmitReply → Session → Store → ReportedTo
-submitReplyIn flight.Nothing fits x s store = reportedTo (reportRefused s (validation 2)) store
-submitReplyIn (flight.Poll id) fits x s store = reportedTo (reportRefused s (validation 2)) store
-submitReplyIn (flight.Recovery target device endpoint kind) fits x s store = reportedTo (reportRefused s (validation 2)) store
+submitReplyIn flight.Nothing fits x s store = reportedTo (reportRefused s (refusalOf 2)) store
+submitReplyIn (flight.Poll id) fits x s store = reportedTo (reportRefused s (refusalOf 2)) store
+submitReplyIn (flight.Recovery target device endpoint kind) fits x s store = reportedTo (reportRefused s (refusalOf 2)) store
 submitReplyIn (flight.Submission id) fits x s store =
-    reportedTo (reportRefused s (validation 3)) store if not fits else
+    reportedTo (reportRefused s (refusalOf 3)) store if not fits else
     submitReplyBy x id s store
 
 unfoldable pub submitReplyOf : Session → Bool → SubmitReply → Store → ReportedTo

@@ -6,7 +6,7 @@ use lib.ListN.{length}
 use Rattle.chain.specs.Chain.{_if_else_}
 use Rattle.chain.specs.declared.Found.{Found}
 use Rattle.chain.specs.declared.Found.the-variants as found
-use Rattle.models.specs.Refusals.{validation}
+use Rattle.models.specs.Refusals.{refusalOf}
 use Rattle.models.specs.declared.ControlPlan.{ControlPlan}
 use Rattle.models.specs.declared.PortReading.{PortReading}
 use Rattle.models.specs.declared.Refusal.{Refusal}
@@ -43,8 +43,8 @@ storeFits s words area bus = rowsFit (s .«row_count») (s .«row_bytes») words
 -- 1, 3
 unfoldable pub readyOf : Session → Bool → Verdict
 readyOf s fits =
-    verdict.Refused (validation 1) if isBusy (s .«in_flight») else
-    verdict.Refused (validation 3) if not fits else
+    verdict.Refused (refusalOf 1) if isBusy (s .«in_flight») else
+    verdict.Refused (refusalOf 3) if not fits else
     verdict.Pass
 
 -- an answer with its session, and the bus, the store and the area after it
@@ -76,7 +76,7 @@ preparedBy (prepare.Ready m) s i bytes given first second b store area =
 
 -- 5, then 6 to 17
 unfoldable pub roomBy : Found → Session → RequestSpec → List ℕ → Bool → PortReading → PortReading → Bus → Store → List ℕ → SubmitTo
-roomBy found.Nothing s q bytes given first second b store area = submitTo (submitRefused s (validation 5)) b store area
+roomBy found.Nothing s q bytes given first second b store area = submitTo (submitRefused s (refusalOf 5)) b store area
 roomBy (found.At i) s q bytes given first second b store area =
     preparedBy (prepared q (length bytes) (s .«row_bytes»)) s i bytes given first second b store area
 
@@ -121,7 +121,7 @@ plannedBy (plan.Ready p) s i bytes first b store area = plannedTo (targetOf s i 
 
 -- 5, then 18 to 25 with 6 and 7
 unfoldable pub planRoomBy : Found → Session → ControlPlan → List ℕ → PortReading → Bus → Store → List ℕ → PlanTo
-planRoomBy found.Nothing s q bytes first b store area = planTo (planRefused s (validation 5)) b store area
+planRoomBy found.Nothing s q bytes first b store area = planTo (planRefused s (refusalOf 5)) b store area
 planRoomBy (found.At i) s q bytes first b store area = plannedBy (planned q (length bytes) (s .«row_bytes»)) s i bytes first b store area
 
 -- 1, 3

@@ -43,13 +43,13 @@ fn ready(session: Session, words: usize, bytes: usize, bus_words: usize) -> Verd
 {
     let flight = session.in_flight;
     if session::is_busy(flight) {
-        return Verdict::Refused(models::refuse_validation(1));
+        return Verdict::Refused(models::refuse(1));
     }
     let rows_fit = sizes::rows_fit(session.row_count, session.row_bytes, words);
     let area_fits = sizes::area_fits(session.row_count, session.row_bytes, bytes);
     let bus_fits = sizes::bus_fits(bus_words);
     if !(rows_fit & area_fits & bus_fits) {
-        return Verdict::Refused(models::refuse_validation(3));
+        return Verdict::Refused(models::refuse(3));
     }
     Verdict::Pass
 }
@@ -137,7 +137,7 @@ fn submit_room(
 {
     let found = begin::find_room(rows);
     let Found::At(i) = found else {
-        return submit_refused(session, models::refuse_validation(5));
+        return submit_refused(session, models::refuse(5));
     };
     let at = i * session.row_bytes as usize;
     submit_prepared(
@@ -287,7 +287,7 @@ fn plan_room(
 {
     let found = begin::find_room(rows);
     let Found::At(i) = found else {
-        return plan_refused(session, models::refuse_validation(5));
+        return plan_refused(session, models::refuse(5));
     };
     let at = i * session.row_bytes as usize;
     plan_prepared(session, bus, rows, area, i, at, q, bytes, first)

@@ -3,7 +3,7 @@ use Rattle.models.proofs.refuse_completion.Statement.{statement}
 use Rattle.models.proofs.refuse_completion.Tie as tie
 
 returns : tie.Need-returns
-returns c = rw (c .own-error .ensures)
+returns c = rw (c .own-error .ensures, c .before .table-category .ensures)
 
 pub refuse-completion-spec : {M : Type 1} → statement M
-refuse-completion-spec = tie.close (tie.spec (λ c κs. search needs) returns)
+refuse-completion-spec = tie.close (tie.spec (λ c κs. search needs) (λ c κs. search needs) returns)
