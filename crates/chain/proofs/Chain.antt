@@ -2,12 +2,11 @@
 -- `return` the code's tests say which law serves at each check. Assumes nothing.
 use Prim.Native.Nat.{ℕ}
 use mathlib.Core.Bool.{Bool, true, false, not, _&&_}
-use mathlib.Core.List.{List, [], _∷_}
 use mathlib.Core.Path.{_≡_, refl, ap, sym, _∙_}
 use native.Mathlib.Omega.{arith}
 use borrow.Author.Tests.{not-false, eq-eqb, ne-eqb, lt-ltb, le-ltb, le-leb, lt-leb}
 use lib.Dec.{eqb}
-use Rattle.chain.specs.Chain.{_if_else_, Check, when, pass, first, Unmet}
+use Rattle.chain.specs.Chain.{_if_else_}
 
 -- by the value of a test, with its equation: the goal is not written, `rw e` puts the value in
 pub caseB {ℓ} : {P : Type ℓ} (t : Bool) → (t ≡ true → P) → (t ≡ false → P) → P
@@ -70,9 +69,3 @@ pub if-by : {A : Type 0} (P : A → Type 0) (a : A) (t : Bool) (p : A) → (t �
 unfolding _if_else_
 if-by P a true p x y = x refl
 if-by P a false p x y = y refl
-
--- a check list that passes has no test that is met
-pub unmet : {A : Type 0} (cs : List (Check A)) → first cs ≡ pass → Unmet cs
-unmet [] = λ e. tt
-unmet (when b n ∷ cs) =
-    caseB b (λ y. rw y λ e. let z : _≡_ {A = ℕ} 0 1 = cc in absurd (omega arith)) (λ y. rw y λ e. (refl, unmet cs e))
