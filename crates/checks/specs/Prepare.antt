@@ -8,10 +8,9 @@ use Rattle.models.specs.declared.OptionSetup.{OptionSetup}
 use Rattle.models.specs.declared.OptionSetup.the-variants as setup
 use Rattle.models.specs.declared.RequestMetadata.{RequestMetadata}
 use Rattle.models.specs.declared.RequestSpec.{RequestSpec}
-use Rattle.models.specs.declared.SetupPacket.{SetupPacket}
 use Rattle.models.specs.declared.Verdict.{Verdict}
 use Rattle.models.specs.declared.Verdict.the-variants as verdict
-use Rattle.standards.specs.Setup.{requestDirection, requestKind, recipientOf, endpointNumber, endpointReserved, endpointDirection}
+use Rattle.standards.specs.Setup.{packetOf, requestDirection, requestKind, recipientOf, endpointNumber, endpointReserved, endpointDirection}
 use Rattle.checks.specs.Verdicts.{rejected}
 use Rattle.checks.specs.declared.prepare.SpecFacts.{SpecFacts}
 use Rattle.checks.specs.declared.prepare.Prepared.{Prepared}
@@ -21,12 +20,7 @@ abbrev pub hasSetup : OptionSetup → Bool
 hasSetup setup.None = false
 hasSetup (setup.Some p) = true
 
--- the packet, or one of zeros, which no check looks at
-abbrev pub packetOf : OptionSetup → SetupPacket
-packetOf setup.None = record { «request_type» = 0; request = 0; value = 0; index = 0; length = 0 }
-packetOf (setup.Some p) = p
-
--- what the checks look at, of the request q with m bytes of data, where a row of the store has `row` bytes
+-- what the checks look at, of the request q with m bytes of data, where a row of the store has `row` bytes; past 10 the packet is there
 abbrev pub specFacts : RequestSpec → ℕ → ℕ → SpecFacts
 specFacts q m row = record {
   length = q .length;
