@@ -2,7 +2,7 @@
 use Prim.Native.Nat.{ℕ, suc, _+_, _*_, _%_, _<_, _≤_}
 use mathlib.Core.Path.{_≡_, refl, sym, ap, _∙_}
 use mathlib.Core.Bool.{Bool, false}
-use mathlib.Core.List.{List, [], _∷_, _++_, map, append-assoc}
+use mathlib.Core.List.{List, [], _∷_, _++_, append-assoc}
 use mathlib.Core.Logic.{_⊎_, inl, inr}
 use native.Mathlib.Omega.{arith}
 use native.Mathlib.Numerals.{add-one}
@@ -17,7 +17,7 @@ use Rattle.models.specs.Codes.{deviceStateOf}
 use Rattle.models.specs.declared.DeviceSnapshot.{DeviceSnapshot}
 use Rattle.models.specs.declared.DeviceState.{DeviceState}
 use Rattle.models.specs.declared.OptionDevice.the-variants as device
-use Rattle.bus.specs.Layout.{devicesAt, listsAt, marksAt, busWords, portOf, portRecord, deviceOf, deviceRecord, endpointOf, endpointsOf, markOf}
+use Rattle.bus.specs.Layout.{devicesAt, listsAt, marksAt, busWords, portOf, portRecord, deviceOf, deviceRecord, endpointsOf, markOf}
 use Rattle.bus.specs.Tables.{Bus, busOf, newPort, rowOf, portAt, deviceAt, markAt, putPort, putDevice, putEndpoints, putMark}
 use Rattle.bus.specs.declared.PortRow.{PortRow}
 
@@ -179,7 +179,7 @@ module _ (at w : ℕ) (p l : List ℕ) (less : length p ≤ w) (fits : at + w �
       rw (fronted-length, ← drop-drop (length p) at l, a, drop-drop w at l) (ap (λ (r : List ℕ). take at l ++ r) (sym (append-assoc p (drop (length p) q) (drop (at + w) l))))
 
 -- a list of endpoints
-listed : (e r : List ℕ) → length e ≤ 30 → endpointsOf ((length e ∷ e) ++ r) ≡ map endpointOf e
+listed : (e r : List ℕ) → length e ≤ 30 → endpointsOf ((length e ∷ e) ++ r) ≡ e
 unfolding endpointsOf
 listed e r h = rw (take-take (length e) 30 (e ++ r) h, take-at e r (length e) refl)
 
@@ -193,7 +193,7 @@ put-endpoints l x slot e sized h few ex =
     let n : length q ≡ 31 = fronted-length at 31 p l (omega arith) (omega arith) in
     let y : x ≡ splice at p l = ex ∙ rw (take-all (length e) e (omega arith)) (store-copy at (length e) e l (omega arith)) in
     let z : splice at p l ≡ splice at q l = splice-front at 31 p l (omega arith) (omega arith) in
-    let row : endpointsOf q ≡ map endpointOf e = listed e (drop (length p) (part at 31 l)) few in
+    let row : endpointsOf q ≡ e = listed e (drop (length p) (part at 31 l)) few in
     let rows = ap (chunks listsAt 31 endpointsOf 256) z ∙ chunks-put listsAt 31 endpointsOf 256 l slot q h (omega arith) n in
     rw (
       y,

@@ -1,7 +1,7 @@
 -- The bus: its words and the tables that they say, and one row of a table put. Assumes nothing.
 use Prim.Native.Nat.{ℕ, zero, suc, _+_, _-_, _*_}
 use mathlib.Core.Bool.{Bool, false}
-use mathlib.Core.List.{List, [], _∷_, _++_, map}
+use mathlib.Core.List.{List, [], _∷_, _++_}
 use lib.ListN.{length, getD, set, replicate}
 use Rattle.words.specs.Words.{flagWord}
 use Rattle.words.specs.Records.{splice, chunks}
@@ -9,15 +9,14 @@ use Rattle.words.specs.declared.OptionU32.the-variants as u32
 use Rattle.models.specs.declared.DeviceSnapshot.{DeviceSnapshot}
 use Rattle.models.specs.declared.OptionDevice.{OptionDevice}
 use Rattle.models.specs.declared.OptionDevice.the-variants as device
-use Rattle.models.specs.declared.EndpointSnapshot.{EndpointSnapshot}
-use Rattle.bus.specs.Layout.{portWords, deviceWords, listWords, devicesAt, listsAt, marksAt, busWords, portOf, portRecord, deviceOf, deviceRecord, endpointOf, endpointsOf, markOf}
+use Rattle.bus.specs.Layout.{portWords, deviceWords, listWords, devicesAt, listsAt, marksAt, busWords, portOf, portRecord, deviceOf, deviceRecord, endpointsOf, markOf}
 use Rattle.bus.specs.declared.PortRow.{PortRow}
 
 pub record Bus : Type 0 where
   pub words : List ℕ
   pub ports : List PortRow
   pub devices : List OptionDevice
-  pub lists : List (List EndpointSnapshot)
+  pub lists : List (List ℕ)
   pub marks : List Bool
 
 unfoldable pub busOf : List ℕ → Bus
@@ -44,7 +43,7 @@ portAt b number = getD (b .ports) (rowOf number) newPort
 abbrev pub deviceAt : Bus → ℕ → OptionDevice
 deviceAt b slot = getD (b .devices) slot device.None
 
-abbrev pub endpointsAt : Bus → ℕ → List EndpointSnapshot
+abbrev pub endpointsAt : Bus → ℕ → List ℕ
 endpointsAt b slot = getD (b .lists) slot []
 
 abbrev pub markAt : Bus → ℕ → Bool
@@ -75,7 +74,7 @@ putEndpoints b slot l = record {
   words = splice (listsAt + slot * listWords) (length l ∷ l) (b .words);
   ports = b .ports;
   devices = b .devices;
-  lists = set (b .lists) slot (map endpointOf l);
+  lists = set (b .lists) slot l;
   marks = b .marks;
 }
 

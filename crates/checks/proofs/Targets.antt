@@ -3,7 +3,6 @@ use Prim.Native.Nat.{ℕ}
 use mathlib.Core.Bool.{Bool, true, false, not, _&&_}
 use mathlib.Core.Path.{_≡_, refl, ap, sym, _∙_}
 use lib.Dec.{eqb}
-use Rattle.chain.specs.Lists.{anyIn}
 use Rattle.chain.proofs.Chain.{takes, passes, not-through}
 use Rattle.models.specs.Kinds.{isControl, isBulk, isPrepared, isConfigured}
 use Rattle.models.specs.Requests.{sameDevice}
@@ -19,9 +18,9 @@ use Rattle.models.specs.declared.TransferType.{TransferType}
 use Rattle.models.specs.declared.Verdict.{Verdict}
 use Rattle.models.specs.declared.Verdict.the-variants as verdict
 use Rattle.standards.specs.Ports.{portSpeed}
-use Rattle.bus.specs.Tables.{Bus, deviceAt, markAt, endpointsAt}
+use Rattle.bus.specs.Tables.{Bus, deviceAt, markAt}
 use Rattle.bus.specs.Ports.{VerdictTo, verdictTo, freshTo, freshPort}
-use Rattle.bus.specs.Endpoints.{isEndpoint}
+use Rattle.bus.specs.Endpoints.{hasEndpoint}
 use Rattle.bus.specs.declared.ports.PortChecked.{PortChecked}
 use Rattle.bus.specs.declared.ports.PortChecked.the-variants as checked
 use Rattle.checks.specs.Target.{refusedDevice, knownBy, knownDevice, preparedDevice, deviceTo, freshDevice, checkDeviceBy, checkDevice, speedChecked, endpointBy, checkEndpoint, targetBy, checkTarget}
@@ -99,7 +98,7 @@ module _ (raw slot endpoint : ℕ) (type : TransferType) (b : Bus) (speed : ℕ)
   unfolding speedChecked
   speed-two r e er = takes Verdict _ _ _ _ (rw (es, eb) at e) er
 
-  module _ (other : (eqb speed 2 && bulk) ≡ false) (t : Bool) (et : t ≡ anyIn (isEndpoint endpoint type) (endpointsAt b slot)) where
+  module _ (other : (eqb speed 2 && bulk) ≡ false) (t : Bool) (et : t ≡ hasEndpoint slot endpoint type b) where
     pub speed-absent : (r : Verdict) → not t ≡ true → r ≡ rejected 38 → r ≡ speedChecked raw slot endpoint type b
     unfolding speedChecked
     speed-absent r e er = passes Verdict _ _ _ _ (rw (es, eb) at other) (takes Verdict _ _ _ _ (not-through t _ true et e) er)

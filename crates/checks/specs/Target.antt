@@ -3,7 +3,6 @@ use Prim.Native.Nat.{ℕ}
 use mathlib.Core.Bool.{Bool, not, _&&_}
 use lib.Dec.{eqb}
 use Rattle.chain.specs.Chain.{_if_else_}
-use Rattle.chain.specs.Lists.{anyIn}
 use Rattle.models.specs.Kinds.{isControl, isBulk, isPrepared, isConfigured}
 use Rattle.models.specs.Refusals.{refusalOf}
 use Rattle.models.specs.Requests.{sameDevice}
@@ -18,9 +17,9 @@ use Rattle.models.specs.declared.TransferType.{TransferType}
 use Rattle.models.specs.declared.Verdict.{Verdict}
 use Rattle.models.specs.declared.Verdict.the-variants as verdict
 use Rattle.standards.specs.Ports.{portSpeed}
-use Rattle.bus.specs.Tables.{Bus, deviceAt, markAt, endpointsAt}
+use Rattle.bus.specs.Tables.{Bus, deviceAt, markAt}
 use Rattle.bus.specs.Ports.{VerdictTo, verdictTo, freshPort}
-use Rattle.bus.specs.Endpoints.{isEndpoint}
+use Rattle.bus.specs.Endpoints.{hasEndpoint}
 use Rattle.bus.specs.declared.ports.PortChecked.{PortChecked}
 use Rattle.bus.specs.declared.ports.PortChecked.the-variants as checked
 use Rattle.checks.specs.Verdicts.{rejected}
@@ -71,7 +70,7 @@ checkDevice initialized ports id reading b = checkDeviceBy (knownDevice initiali
 unfoldable pub speedChecked : ℕ → ℕ → ℕ → TransferType → Bus → Verdict
 speedChecked raw slot endpoint type b =
     rejected 37 if eqb (portSpeed raw) 2 && isBulk type else
-    rejected 38 if not (anyIn (isEndpoint endpoint type) (endpointsAt b slot)) else
+    rejected 38 if not (hasEndpoint slot endpoint type b) else
     verdict.Pass
 
 unfoldable pub endpointBy : PortChecked → RequestMetadata → Bus → Verdict
