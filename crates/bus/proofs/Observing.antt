@@ -4,7 +4,7 @@ use mathlib.Core.Path.{_≡_, refl, sym, ap, _∙_}
 use mathlib.Core.Bool.{Bool, true, false, not, _||_, Bool·beq}
 use lib.Dec.{eqb, ltb}
 use borrow.Author.Tests.{eq-eqb, ne-eqb}
-use Rattle.chain.proofs.Chain.{takes, passes, eq-not, ne-not}
+use Rattle.chain.proofs.Chain.{takes, passes}
 use Rattle.words.specs.declared.OptionU32.{OptionU32}
 use Rattle.words.specs.declared.OptionU32.the-variants as u32
 use Rattle.models.specs.Refusals.{refusalOf, fromBackend}
@@ -120,36 +120,31 @@ module _ (number raw : ℕ) (b : Bus) (row : PortRow) (v : Observed) (e : row �
   observe-on w after g h = rw (← e, ← f, g, h)
 
 -- a fresh reading
-module _ (id : PortId) (raw : ℕ) (b after : Bus) (v : Observed) (f : observedTo v after ≡ observePort (id .number) raw b) where
-  pub fresh-full : (r : Refusal) → v ≡ observed.Refused r → freshTo (checked.Refused r) after ≡ freshWord raw id b
+module _ (o : OptionPorts) (id : PortId) (raw : ℕ) (b after : Bus) (v : Observed) (f : observedTo v after ≡ observePort (id .number) raw b) where
+  pub fresh-full : (r : Refusal) → v ≡ observed.Refused r → freshTo (checked.Refused r) after ≡ freshWord raw o id b
   unfolding freshWord freshObserved
   fresh-full r g = rw (← f, g)
 
-  module _ (w : PortRow) (g : v ≡ observed.To w) where
-    pub fresh-stale : (r : Refusal) → (id .generation ≡ w .generation → ⊥) → r ≡ refusalOf 31 → freshTo (checked.Refused r) after ≡ freshWord raw id b
-    unfolding freshWord freshObserved
-    fresh-stale r ne h = rw (← f, g) (ap (λ (c : PortChecked). freshTo c after) (takes PortChecked _ _ _ _ (ne-not _ _ ne) (ap checked.Refused h)))
+  pub fresh-on : (w : PortRow) (r : PortChecked) → v ≡ observed.To w → r ≡ validatedRow o id w → freshTo r after ≡ freshWord raw o id b
+  unfolding freshWord freshObserved
+  fresh-on w r g h = rw (← f, g, h)
 
-    pub fresh-on : id .generation ≡ w .generation → freshTo (checked.Read raw) after ≡ freshWord raw id b
-    unfolding freshWord freshObserved
-    fresh-on h = rw (← f, g) (ap (λ (c : PortChecked). freshTo c after) (passes PortChecked _ _ _ _ (eq-not _ _ h) refl))
-
-module _ (id : PortId) (b : Bus) (reading : PortReading) where
-  pub reading-failed : (x : OperationError) (r : Refusal) → reading ≡ Error x → r ≡ fromBackend 33 x → freshTo (checked.Refused r) b ≡ freshReading reading id b
+module _ (o : OptionPorts) (id : PortId) (b : Bus) (reading : PortReading) where
+  pub reading-failed : (x : OperationError) (r : Refusal) → reading ≡ Error x → r ≡ fromBackend 33 x → freshTo (checked.Refused r) b ≡ freshReading reading o id b
   unfolding freshReading
   reading-failed x r e f = rw (e, f)
 
-  pub reading-word : (raw : ℕ) (v : PortChecked) (after : Bus) → reading ≡ Word raw → freshTo v after ≡ freshWord raw id b
-      → freshTo v after ≡ freshReading reading id b
+  pub reading-word : (raw : ℕ) (v : PortChecked) (after : Bus) → reading ≡ Word raw → freshTo v after ≡ freshWord raw o id b
+      → freshTo v after ≡ freshReading reading o id b
   unfolding freshReading
   reading-word raw v after e f = f ∙ rw e
 
-  module _ (o : OptionPorts) (v : PortChecked) (e : v ≡ validated o id b) where
+  module _ (v : PortChecked) (e : v ≡ validated o id b) where
     pub fresh-out : (r : Refusal) → v ≡ checked.Refused r → freshTo v b ≡ freshPort o id reading b
     unfolding freshPort freshBy
     fresh-out r f = rw (← e, f)
 
-    pub fresh-in : (raw : ℕ) (w : PortChecked) (after : Bus) → v ≡ checked.Read raw → freshTo w after ≡ freshReading reading id b
+    pub fresh-in : (raw : ℕ) (w : PortChecked) (after : Bus) → v ≡ checked.Read raw → freshTo w after ≡ freshReading reading o id b
         → freshTo w after ≡ freshPort o id reading b
     unfolding freshPort freshBy
     fresh-in raw w after f g = g ∙ rw (← e, f)

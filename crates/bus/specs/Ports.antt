@@ -103,25 +103,25 @@ pub record FreshTo : Type 0 where
 abbrev pub freshTo : PortChecked → Bus → FreshTo
 freshTo c b = record { answer = c; bus = b }
 
--- 31 again, with the row written
-unfoldable pub freshObserved : Observed → PortId → ℕ → PortChecked
-freshObserved (observed.Refused r) id raw = checked.Refused r
-freshObserved (observed.To row) id raw = checked.Refused (refusalOf 31) if not (eqb (id .generation) (row .generation)) else checked.Read raw
+-- 31 again: the id is validated against the row that was written
+unfoldable pub freshObserved : Observed → OptionPorts → PortId → PortChecked
+freshObserved (observed.Refused r) ports id = checked.Refused r
+freshObserved (observed.To row) ports id = validatedRow ports id row
 
 -- 34 with nothing written, or the row written
-unfoldable pub freshWord : ℕ → PortId → Bus → FreshTo
-freshWord raw id b =
-    freshTo (freshObserved (observePort (id .number) raw b .answer) id raw) (observePort (id .number) raw b .bus)
+unfoldable pub freshWord : ℕ → OptionPorts → PortId → Bus → FreshTo
+freshWord raw ports id b =
+    freshTo (freshObserved (observePort (id .number) raw b .answer) ports id) (observePort (id .number) raw b .bus)
 
 -- 33: the reading failed, with the backend's error
-unfoldable pub freshReading : PortReading → PortId → Bus → FreshTo
-freshReading (Error e) id b = freshTo (checked.Refused (fromBackend 33 e)) b
-freshReading (Word raw) id b = freshWord raw id b
+unfoldable pub freshReading : PortReading → OptionPorts → PortId → Bus → FreshTo
+freshReading (Error e) ports id b = freshTo (checked.Refused (fromBackend 33 e)) b
+freshReading (Word raw) ports id b = freshWord raw ports id b
 
-unfoldable pub freshBy : PortChecked → PortReading → PortId → Bus → FreshTo
-freshBy (checked.Refused r) reading id b = freshTo (checked.Refused r) b
-freshBy (checked.Read raw) reading id b = freshReading reading id b
+unfoldable pub freshBy : PortChecked → PortReading → OptionPorts → PortId → Bus → FreshTo
+freshBy (checked.Refused r) reading ports id b = freshTo (checked.Refused r) b
+freshBy (checked.Read raw) reading ports id b = freshReading reading ports id b
 
 -- 29, 30, 31, 32, then 33, 34, and 31 again
 unfoldable pub freshPort : OptionPorts → PortId → PortReading → Bus → FreshTo
-freshPort ports id reading b = freshBy (validated ports id b) reading id b
+freshPort ports id reading b = freshBy (validated ports id b) reading ports id b

@@ -181,30 +181,30 @@ pub fn observe(bus: &mut [u64], number: u8, raw: u32) -> Observed
 }
 
 // 34 with nothing written, or 31 again with the row written.
-fn observe_word(bus: &mut [u64], id: PortId, raw: u32) -> PortChecked
+fn observe_word(bus: &mut [u64], ports: OptionPorts, id: PortId, raw: u32) -> PortChecked
     requires { ⌜ length (now bus) ≡ busWords ⌝ }
-    ensures { λ r. ⌜ freshTo r (busOf (now (bus .exit))) ≡ freshWord raw id (busOf (now (bus .entry))) ⌝ }
+    ensures { λ r. ⌜ freshTo r (busOf (now (bus .exit))) ≡ freshWord raw ports id (busOf (now (bus .entry))) ⌝ }
 {
     let next = observe(bus, id.number, raw);
     match next {
         Observed::Refused(refusal) => PortChecked::Refused(refusal),
-        Observed::To(row) => {
-            if id.generation != row.generation {
-                return PortChecked::Refused(models::refuse(31));
-            }
-            PortChecked::Read(raw)
-        }
+        Observed::To(row) => validate_row(ports, id, row),
     }
 }
 
 // 33, 34, and 31 again.
-fn observe_reading(bus: &mut [u64], id: PortId, reading: PortReading) -> PortChecked
+fn observe_reading(
+    bus: &mut [u64],
+    ports: OptionPorts,
+    id: PortId,
+    reading: PortReading,
+) -> PortChecked
     requires { ⌜ length (now bus) ≡ busWords ⌝ }
-    ensures { λ r. ⌜ freshTo r (busOf (now (bus .exit))) ≡ freshReading reading id (busOf (now (bus .entry))) ⌝ }
+    ensures { λ r. ⌜ freshTo r (busOf (now (bus .exit))) ≡ freshReading reading ports id (busOf (now (bus .entry))) ⌝ }
 {
     match reading {
         PortReading::Error(error) => PortChecked::Refused(models::refuse_backend(33, error)),
-        PortReading::Word(raw) => observe_word(bus, id, raw),
+        PortReading::Word(raw) => observe_word(bus, ports, id, raw),
     }
 }
 
@@ -222,5 +222,5 @@ pub fn fresh_port(
     let PortChecked::Read(_) = checked else {
         return checked;
     };
-    observe_reading(bus, id, reading)
+    observe_reading(bus, ports, id, reading)
 }
