@@ -9,15 +9,15 @@ use Rattle.models.specs.declared.DeviceSnapshot.{DeviceSnapshot}
 use Rattle.models.specs.declared.OptionDevice.the-variants as device
 use Rattle.models.specs.declared.TransferType.{TransferType}
 use Rattle.models.specs.declared.TransferType.the-variants.{Control, Bulk, Interrupt, Isochronous}
-use Rattle.bus.specs.Layout.{deviceOf, deviceRecord}
+use Rattle.bus.specs.Layout.{readDevice, deviceRecord}
 
 -- a device's record, with w for its state
 abbrev recordWith : DeviceSnapshot → ℕ → List ℕ
 recordWith d w = 1 ∷ d .id .session ∷ d .id .generation ∷ d .id .slot ∷ d .port .session ∷ d .port .generation ∷ d .port .number ∷ w ∷ []
 
 pub device-encoded : (d : DeviceSnapshot) (w : ℕ) → d .id .slot < 256 → d .port .number < 256 → deviceStateOf w ≡ d .state → w ≡ deviceStateWord (d .state)
-    → (deviceOf (recordWith d w) ≡ device.Some d) × (recordWith d w ≡ deviceRecord d)
-unfolding deviceOf deviceRecord
+    → (readDevice (recordWith d w) ≡ device.Some d) × (recordWith d w ≡ deviceRecord d)
+unfolding readDevice deviceRecord
 device-encoded d w h g e f = (rw (low 8 h, low 8 g, e), rw f)
 
 type-small : (t : TransferType) → transferWord t < 4

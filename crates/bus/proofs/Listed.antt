@@ -17,7 +17,7 @@ use Rattle.models.specs.Refusals.{refusalOf}
 use Rattle.models.specs.declared.Refusal.{Refusal}
 use Rattle.models.specs.declared.TransferType.{TransferType}
 use Rattle.models.specs.declared.Verdict.the-variants as verdict
-use Rattle.bus.specs.Layout.{listsAt, busWords, endpointWord, endpointsOf}
+use Rattle.bus.specs.Layout.{listsAt, busWords, endpointWord, readEndpoints}
 use Rattle.bus.specs.Tables.{Bus, busOf, endpointsAt}
 use Rattle.bus.specs.Ports.{VerdictTo, verdictTo}
 use Rattle.bus.specs.Endpoints.{hasEndpoint, setEndpoints}
@@ -35,14 +35,14 @@ unfolding setEndpoints
 endpoints-set slot e l x sized h few f = passes VerdictTo _ _ _ _ (le-ltb _ _ few) (rw (put-endpoints l x slot e sized h few f))
 
 -- what the words of a list say: as many as the count, 30 at the most
-listed-length : (q : List ℕ) → length q ≡ 31 → length (endpointsOf q) ≡ min (getD q 0 0) 30
-unfolding endpointsOf
+listed-length : (q : List ℕ) → length q ≡ 31 → length (readEndpoints q) ≡ min (getD q 0 0) 30
+unfolding readEndpoints
 listed-length q n =
     let m : length (take 30 (drop 1 q)) ≡ 30 = length-take 30 (drop 1 q) ∙ rw (length-drop 1 q, n) in
     length-take (getD q 0 0) (take 30 (drop 1 q)) ∙ rw m
 
-listed-at : (q : List ℕ) (i : ℕ) → i < getD q 0 0 → i < 30 → getD (endpointsOf q) i 0 ≡ getD q (1 + i) 0
-unfolding endpointsOf
+listed-at : (q : List ℕ) (i : ℕ) → i < getD q 0 0 → i < 30 → getD (readEndpoints q) i 0 ≡ getD q (1 + i) 0
+unfolding readEndpoints
 listed-at q i h k = rw (getD-take (getD q 0 0) (take 30 (drop 1 q)) i 0 h, getD-take 30 (drop 1 q) i 0 k, getD-drop 1 q i 0)
 
 -- the list of a slot
@@ -50,9 +50,9 @@ module _ (l : List ℕ) (slot : ℕ) (sized : length l ≡ busWords) (h : slot <
   abbrev at : ℕ
   at = listsAt + slot * 31
 
-  endpoints-are : endpointsAt (busOf l) slot ≡ endpointsOf (part at 31 l)
+  endpoints-are : endpointsAt (busOf l) slot ≡ readEndpoints (part at 31 l)
   unfolding busOf
-  endpoints-are = chunks-at listsAt 31 endpointsOf 256 l slot [] h
+  endpoints-are = chunks-at listsAt 31 readEndpoints 256 l slot [] h
 
   count-is : getD (part at 31 l) 0 0 ≡ getD l at 0
   count-is = part-first 0 at 31 l (omega arith)

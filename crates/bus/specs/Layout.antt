@@ -37,15 +37,15 @@ abbrev pub busWords : ℕ
 busWords = 10750
 
 -- a port row: its generation, and its last reading or none
-abbrev pub portOf : List ℕ → PortRow
-portOf w = record { generation = getD w 0 0; reading = optionU32Of (getD w 1 0) }
+abbrev pub readPort : List ℕ → PortRow
+readPort w = record { generation = getD w 0 0; reading = optionU32Of (getD w 1 0) }
 
 abbrev pub portRecord : PortRow → List ℕ
 portRecord r = r .generation ∷ optionU32Word (r .reading) ∷ []
 
 -- a device row: absent, or the device
-unfoldable pub deviceOf : List ℕ → OptionDevice
-deviceOf w =
+unfoldable pub readDevice : List ℕ → OptionDevice
+readDevice w =
     cond (eqb (getD w 0 0) 0) device.None
     (device.Some (record {
       id = record { session = getD w 1 0; generation = getD w 2 0; slot = getD w 3 0 % 2 ^ 8 };
@@ -62,8 +62,8 @@ abbrev pub endpointWord : ℕ → TransferType → ℕ
 endpointWord address type = address + 2 ^ 8 * transferWord type
 
 -- a list: a count, of which 30 at the most count, and a word for each endpoint
-unfoldable pub endpointsOf : List ℕ → List ℕ
-endpointsOf w = take (getD w 0 0) (take 30 (drop 1 w))
+unfoldable pub readEndpoints : List ℕ → List ℕ
+readEndpoints w = take (getD w 0 0) (take 30 (drop 1 w))
 
-abbrev pub markOf : List ℕ → Bool
-markOf w = flagOf (getD w 0 0)
+abbrev pub readMark : List ℕ → Bool
+readMark w = flagOf (getD w 0 0)

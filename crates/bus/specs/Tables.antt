@@ -9,7 +9,7 @@ use Rattle.words.specs.declared.OptionU32.the-variants as u32
 use Rattle.models.specs.declared.DeviceSnapshot.{DeviceSnapshot}
 use Rattle.models.specs.declared.OptionDevice.{OptionDevice}
 use Rattle.models.specs.declared.OptionDevice.the-variants as device
-use Rattle.bus.specs.Layout.{portWords, deviceWords, listWords, devicesAt, listsAt, marksAt, busWords, portOf, portRecord, deviceOf, deviceRecord, endpointsOf, markOf}
+use Rattle.bus.specs.Layout.{portWords, deviceWords, listWords, devicesAt, listsAt, marksAt, busWords, readPort, portRecord, readDevice, deviceRecord, readEndpoints, readMark}
 use Rattle.bus.specs.declared.PortRow.{PortRow}
 
 pub record Bus : Type 0 where
@@ -22,10 +22,10 @@ pub record Bus : Type 0 where
 unfoldable pub busOf : List ℕ → Bus
 busOf l = record {
   words = l;
-  ports = chunks 0 portWords portOf 255 l;
-  devices = chunks devicesAt deviceWords deviceOf 256 l;
-  lists = chunks listsAt listWords endpointsOf 256 l;
-  marks = chunks marksAt 1 markOf 256 l;
+  ports = chunks 0 portWords readPort 255 l;
+  devices = chunks devicesAt deviceWords readDevice 256 l;
+  lists = chunks listsAt listWords readEndpoints 256 l;
+  marks = chunks marksAt 1 readMark 256 l;
 }
 
 -- a port at opening
@@ -33,12 +33,12 @@ abbrev pub newPort : PortRow
 newPort = record { generation = 1; reading = u32.None }
 
 -- ports are numbered from 1
-abbrev pub rowOf : ℕ → ℕ
-rowOf number = number - 1
+abbrev pub portIndex : ℕ → ℕ
+portIndex number = number - 1
 
 -- a port by its number, and what stands at a slot
 abbrev pub portAt : Bus → ℕ → PortRow
-portAt b number = getD (b .ports) (rowOf number) newPort
+portAt b number = getD (b .ports) (portIndex number) newPort
 
 abbrev pub deviceAt : Bus → ℕ → OptionDevice
 deviceAt b slot = getD (b .devices) slot device.None
@@ -51,8 +51,8 @@ markAt b slot = getD (b .marks) slot false
 
 unfoldable pub putPort : Bus → ℕ → PortRow → Bus
 putPort b number r = record {
-  words = splice (rowOf number * portWords) (portRecord r) (b .words);
-  ports = set (b .ports) (rowOf number) r;
+  words = splice (portIndex number * portWords) (portRecord r) (b .words);
+  ports = set (b .ports) (portIndex number) r;
   devices = b .devices;
   lists = b .lists;
   marks = b .marks;
