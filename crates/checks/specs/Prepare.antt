@@ -4,6 +4,7 @@ use mathlib.Core.Bool.{Bool, true, false, not, _&&_, _||_, Bool·beq}
 use lib.Dec.{eqb, ltb}
 use Rattle.chain.specs.Chain.{_if_else_}
 use Rattle.models.specs.Kinds.{isIn, isControl}
+use Rattle.models.specs.Refusals.{rejected}
 use Rattle.models.specs.declared.OptionSetup.{OptionSetup}
 use Rattle.models.specs.declared.OptionSetup.the-variants as setup
 use Rattle.models.specs.declared.RequestMetadata.{RequestMetadata}
@@ -11,7 +12,6 @@ use Rattle.models.specs.declared.RequestSpec.{RequestSpec}
 use Rattle.models.specs.declared.Verdict.{Verdict}
 use Rattle.models.specs.declared.Verdict.the-variants as verdict
 use Rattle.standards.specs.Setup.{packetOf, requestDirection, requestKind, recipientOf, endpointNumber, endpointReserved, endpointDirection}
-use Rattle.checks.specs.Verdicts.{rejected}
 use Rattle.checks.specs.declared.prepare.SpecFacts.{SpecFacts}
 use Rattle.checks.specs.declared.prepare.Prepared.{Prepared}
 use Rattle.checks.specs.declared.prepare.Prepared.the-variants as answer
@@ -85,9 +85,9 @@ metadataOf q = record {
   setup = q .setup;
 }
 
-unfoldable pub preparedBy : Verdict → RequestSpec → Prepared
-preparedBy (verdict.Refused r) q = answer.Refused r
-preparedBy verdict.Pass q = answer.Ready (metadataOf q)
+unfoldable pub preparedIf : Verdict → RequestSpec → Prepared
+preparedIf (verdict.Refused r) q = answer.Refused r
+preparedIf verdict.Pass q = answer.Ready (metadataOf q)
 
 unfoldable pub prepared : RequestSpec → ℕ → ℕ → Prepared
-prepared q m row = preparedBy (specChecked (specFacts q m row)) q
+prepared q m row = preparedIf (specChecked (specFacts q m row)) q

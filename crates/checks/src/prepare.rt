@@ -1,11 +1,11 @@
 // The place prepare of the table: the Rust's `RequestSpec::prepare`.
-use crate::reject;
 use models::OptionSetup;
 use models::Refusal;
 use models::RequestMetadata;
 use models::RequestSpec;
 use models::Verdict;
 use models::kinds;
+use models::reject;
 use standards::setup;
 ghost use mathlib.Core.Path.{_≡_};
 ghost use Rattle.checks.specs.Prepare.{hasSetup, specFacts, dataChecked, controlChecked, otherChecked, specChecked, metadataOf, prepared};

@@ -1,8 +1,8 @@
--- `checks::target::check_after` meets its contract: one law for each way out. Assumes nothing.
+-- `targets::target::check_after` meets its contract: one law for each way out. Assumes nothing.
 use borrow.Author.Needs.{needs}
-use Rattle.checks.proofs.Targets.{after-refused, after-control, after-other}
-use Rattle.checks.proofs.target.check_after.Statement.{statement}
-use Rattle.checks.proofs.target.check_after.Tie as tie
+use Rattle.targets.proofs.Targets.{after-refused, after-control, after-other}
+use Rattle.targets.proofs.target.check_after.Statement.{statement}
+use Rattle.targets.proofs.target.check_after.Tie as tie
 
 pub check-after-spec : {M : Type 1} → statement M
 check-after-spec =

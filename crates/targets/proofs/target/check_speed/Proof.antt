@@ -1,8 +1,8 @@
--- `checks::target::check_speed` meets its contract: one law for each way out. Assumes nothing.
+-- `targets::target::check_speed` meets its contract: one law for each way out. Assumes nothing.
 use borrow.Author.Needs.{needs}
-use Rattle.checks.proofs.Targets.{speed-two, speed-absent, speed-pass}
-use Rattle.checks.proofs.target.check_speed.Statement.{statement}
-use Rattle.checks.proofs.target.check_speed.Tie as tie
+use Rattle.targets.proofs.Targets.{speed-two, speed-absent, speed-pass}
+use Rattle.targets.proofs.target.check_speed.Statement.{statement}
+use Rattle.targets.proofs.target.check_speed.Tie as tie
 
 pub check-speed-spec : {M : Type 1} → statement M
 check-speed-spec =

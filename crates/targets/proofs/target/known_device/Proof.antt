@@ -1,8 +1,8 @@
--- `checks::target::known_device` meets its contract: one law for each way out. Assumes nothing.
+-- `targets::target::known_device` meets its contract: one law for each way out. Assumes nothing.
 use borrow.Author.Needs.{needs}
-use Rattle.checks.proofs.Targets.{known-marked, known-absent, known-other, known-early, known-ready}
-use Rattle.checks.proofs.target.known_device.Statement.{statement}
-use Rattle.checks.proofs.target.known_device.Tie as tie
+use Rattle.targets.proofs.Targets.{known-marked, known-absent, known-other, known-early, known-ready}
+use Rattle.targets.proofs.target.known_device.Statement.{statement}
+use Rattle.targets.proofs.target.known_device.Tie as tie
 
 pub known-device-spec : {M : Type 1} → statement M
 known-device-spec =

@@ -1,8 +1,8 @@
--- `checks::target::check_endpoint` meets its contract: one law for each way out. Assumes nothing.
+-- `targets::target::check_endpoint` meets its contract: one law for each way out. Assumes nothing.
 use borrow.Author.Needs.{needs}
-use Rattle.checks.proofs.Targets.{endpoint-early, endpoint-read}
-use Rattle.checks.proofs.target.check_endpoint.Statement.{statement}
-use Rattle.checks.proofs.target.check_endpoint.Tie as tie
+use Rattle.targets.proofs.Targets.{endpoint-early, endpoint-read}
+use Rattle.targets.proofs.target.check_endpoint.Statement.{statement}
+use Rattle.targets.proofs.target.check_endpoint.Tie as tie
 
 pub check-endpoint-spec : {M : Type 1} → statement M
 check-endpoint-spec =

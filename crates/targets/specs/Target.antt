@@ -4,7 +4,7 @@ use mathlib.Core.Bool.{Bool, not, _&&_}
 use lib.Dec.{eqb}
 use Rattle.chain.specs.Chain.{_if_else_}
 use Rattle.models.specs.Kinds.{isControl, isBulk, isPrepared, isConfigured}
-use Rattle.models.specs.Refusals.{refusalOf}
+use Rattle.models.specs.Refusals.{refusalOf, rejected}
 use Rattle.models.specs.Requests.{sameDevice}
 use Rattle.models.specs.declared.DeviceId.{DeviceId}
 use Rattle.models.specs.declared.DeviceSnapshot.{DeviceSnapshot}
@@ -22,9 +22,8 @@ use Rattle.bus.specs.Ports.{VerdictTo, verdictTo, freshPort}
 use Rattle.bus.specs.Endpoints.{hasEndpoint}
 use Rattle.bus.specs.declared.ports.PortChecked.{PortChecked}
 use Rattle.bus.specs.declared.ports.PortChecked.the-variants as checked
-use Rattle.checks.specs.Verdicts.{rejected}
-use Rattle.checks.specs.declared.target.DeviceChecked.{DeviceChecked}
-use Rattle.checks.specs.declared.target.DeviceChecked.the-variants as answer
+use Rattle.targets.specs.declared.target.DeviceChecked.{DeviceChecked}
+use Rattle.targets.specs.declared.target.DeviceChecked.the-variants as answer
 
 abbrev pub refusedDevice : ℕ → DeviceChecked
 refusedDevice n = answer.Refused (refusalOf n)
@@ -83,11 +82,11 @@ checkEndpoint ports d m reading b =
     verdictTo (rejected 36) b if not (isConfigured (d .state)) else
     verdictTo (endpointBy (freshPort ports (d .port) reading b .answer) m (freshPort ports (d .port) reading b .bus)) (freshPort ports (d .port) reading b .bus)
 
-unfoldable pub targetBy : DeviceChecked → OptionPorts → RequestMetadata → PortReading → Bus → VerdictTo
-targetBy (answer.Refused r) ports m second b = verdictTo (verdict.Refused r) b
-targetBy (answer.Ready d) ports m second b = verdictTo verdict.Pass b if isControl (m .«transfer_type») else checkEndpoint ports d m second b
+unfoldable pub checkTargetBy : DeviceChecked → OptionPorts → RequestMetadata → PortReading → Bus → VerdictTo
+checkTargetBy (answer.Refused r) ports m second b = verdictTo (verdict.Refused r) b
+checkTargetBy (answer.Ready d) ports m second b = verdictTo verdict.Pass b if isControl (m .«transfer_type») else checkEndpoint ports d m second b
 
 -- one reading for control, two otherwise
 unfoldable pub checkTarget : Bool → OptionPorts → RequestMetadata → PortReading → PortReading → Bus → VerdictTo
 checkTarget initialized ports m first second b =
-    targetBy (checkDevice initialized ports (m .device) first b .answer) ports m second (checkDevice initialized ports (m .device) first b .bus)
+    checkTargetBy (checkDevice initialized ports (m .device) first b .answer) ports m second (checkDevice initialized ports (m .device) first b .bus)

@@ -1,8 +1,8 @@
--- `checks::target::check_device` meets its contract: one law for each way out. Assumes nothing.
+-- `targets::target::check_device` meets its contract: one law for each way out. Assumes nothing.
 use borrow.Author.Needs.{needs}
-use Rattle.checks.proofs.Targets.{device-refused, device-fresh}
-use Rattle.checks.proofs.target.check_device.Statement.{statement}
-use Rattle.checks.proofs.target.check_device.Tie as tie
+use Rattle.targets.proofs.Targets.{device-refused, device-fresh}
+use Rattle.targets.proofs.target.check_device.Statement.{statement}
+use Rattle.targets.proofs.target.check_device.Tie as tie
 
 pub check-device-spec : {M : Type 1} → statement M
 check-device-spec =

@@ -5,6 +5,7 @@ use mathlib.Core.Path.{_≡_, refl, ap, sym, _∙_}
 use lib.Dec.{eqb}
 use Rattle.chain.proofs.Chain.{takes, passes, not-through}
 use Rattle.models.specs.Kinds.{isControl, isBulk, isPrepared, isConfigured}
+use Rattle.models.specs.Refusals.{rejected}
 use Rattle.models.specs.Requests.{sameDevice}
 use Rattle.models.specs.declared.DeviceId.{DeviceId}
 use Rattle.models.specs.declared.DeviceSnapshot.{DeviceSnapshot}
@@ -23,10 +24,9 @@ use Rattle.bus.specs.Ports.{VerdictTo, verdictTo, freshTo, freshPort}
 use Rattle.bus.specs.Endpoints.{hasEndpoint}
 use Rattle.bus.specs.declared.ports.PortChecked.{PortChecked}
 use Rattle.bus.specs.declared.ports.PortChecked.the-variants as checked
-use Rattle.checks.specs.Target.{refusedDevice, knownBy, knownDevice, preparedDevice, deviceTo, freshDevice, checkDeviceBy, checkDevice, speedChecked, endpointBy, checkEndpoint, targetBy, checkTarget}
-use Rattle.checks.specs.Verdicts.{rejected}
-use Rattle.checks.specs.declared.target.DeviceChecked.{DeviceChecked}
-use Rattle.checks.specs.declared.target.DeviceChecked.the-variants as answer
+use Rattle.targets.specs.Target.{refusedDevice, knownBy, knownDevice, preparedDevice, deviceTo, freshDevice, checkDeviceBy, checkDevice, speedChecked, endpointBy, checkEndpoint, checkTargetBy, checkTarget}
+use Rattle.targets.specs.declared.target.DeviceChecked.{DeviceChecked}
+use Rattle.targets.specs.declared.target.DeviceChecked.the-variants as answer
 
 -- 26, 27, 28: m is the slot's mark
 module _ (i : Bool) (id : DeviceId) (b : Bus) (m : Bool) (em : m ≡ markAt b (id .slot)) where
@@ -131,22 +131,22 @@ module _ (o : OptionPorts) (d : DeviceSnapshot) (m : RequestMetadata) (reading :
 
 -- what follows the device's check
 module _ (k : DeviceChecked) (o : OptionPorts) (m : RequestMetadata) (second : PortReading) (b : Bus) where
-  pub after-refused : (r : Refusal) → k ≡ answer.Refused r → verdictTo (verdict.Refused r) b ≡ targetBy k o m second b
-  unfolding targetBy
+  pub after-refused : (r : Refusal) → k ≡ answer.Refused r → verdictTo (verdict.Refused r) b ≡ checkTargetBy k o m second b
+  unfolding checkTargetBy
   after-refused r e = rw e
 
   module _ (d : DeviceSnapshot) (ek : k ≡ answer.Ready d) (t : Bool) (et : t ≡ isControl (m .«transfer_type»)) where
-    pub after-control : t ≡ true → verdictTo verdict.Pass b ≡ targetBy k o m second b
-    unfolding targetBy
+    pub after-control : t ≡ true → verdictTo verdict.Pass b ≡ checkTargetBy k o m second b
+    unfolding checkTargetBy
     after-control e = rw ek (takes VerdictTo _ _ _ _ (sym et ∙ e) refl)
 
     pub after-other : (r : Verdict) (after : Bus) → t ≡ false → verdictTo r after ≡ checkEndpoint o d m second b
-        → verdictTo r after ≡ targetBy k o m second b
-    unfolding targetBy
+        → verdictTo r after ≡ checkTargetBy k o m second b
+    unfolding checkTargetBy
     after-other r after e er = rw ek (passes VerdictTo _ _ _ _ (sym et ∙ e) er)
 
 pub target-is : (i : Bool) (o : OptionPorts) (m : RequestMetadata) (first second : PortReading) (b middle after : Bus) (k : DeviceChecked) (r : Verdict)
-    → deviceTo k middle ≡ checkDevice i o (m .device) first b → verdictTo r after ≡ targetBy k o m second middle
+    → deviceTo k middle ≡ checkDevice i o (m .device) first b → verdictTo r after ≡ checkTargetBy k o m second middle
     → verdictTo r after ≡ checkTarget i o m first second b
 unfolding checkTarget
 target-is i o m first second b middle after k r e er = er ∙ rw (← e)

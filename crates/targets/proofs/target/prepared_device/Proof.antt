@@ -1,8 +1,8 @@
--- `checks::target::prepared_device` meets its contract: one law for each way out. Assumes nothing.
+-- `targets::target::prepared_device` meets its contract: one law for each way out. Assumes nothing.
 use borrow.Author.Needs.{needs}
-use Rattle.checks.proofs.Targets.{prepared-refused, prepared-early, prepared-ready}
-use Rattle.checks.proofs.target.prepared_device.Statement.{statement}
-use Rattle.checks.proofs.target.prepared_device.Tie as tie
+use Rattle.targets.proofs.Targets.{prepared-refused, prepared-early, prepared-ready}
+use Rattle.targets.proofs.target.prepared_device.Statement.{statement}
+use Rattle.targets.proofs.target.prepared_device.Tie as tie
 
 pub prepared-device-spec : {M : Type 1} → statement M
 prepared-device-spec =

@@ -1,5 +1,4 @@
 // The places device and not control of the table: the Rust's `prepared_device`, and what follows it for an endpoint other than 0.
-use crate::reject;
 use bus::devices;
 use bus::endpoints;
 use bus::ports::PortChecked;
@@ -14,13 +13,14 @@ use models::RequestMetadata;
 use models::TransferType;
 use models::Verdict;
 use models::kinds;
+use models::reject;
 use standards::ports::port_speed;
 ghost use mathlib.Core.Path.{_≡_};
 ghost use lib.ListN.{length};
 ghost use Rattle.bus.specs.Layout.{busWords};
 ghost use Rattle.bus.specs.Tables.{busOf};
 ghost use Rattle.bus.specs.Ports.{verdictTo};
-ghost use Rattle.checks.specs.Target.{refusedDevice, knownDevice, preparedDevice, deviceTo, freshDevice, checkDevice, speedChecked, endpointBy, checkEndpoint, targetBy, checkTarget};
+ghost use Rattle.targets.specs.Target.{refusedDevice, knownDevice, preparedDevice, deviceTo, freshDevice, checkDevice, speedChecked, endpointBy, checkEndpoint, checkTargetBy, checkTarget};
 
 // A device that may take a request, or the refusal.
 pub enum DeviceChecked {
@@ -176,7 +176,7 @@ fn check_after(
     second: PortReading,
 ) -> Verdict
     requires { ⌜ length (now bus) ≡ busWords ⌝ }
-    ensures { λ r. ⌜ verdictTo r (busOf (now (bus .exit))) ≡ targetBy checked ports metadata second (busOf (now (bus .entry))) ⌝ }
+    ensures { λ r. ⌜ verdictTo r (busOf (now (bus .exit))) ≡ checkTargetBy checked ports metadata second (busOf (now (bus .entry))) ⌝ }
 {
     match checked {
         DeviceChecked::Refused(refusal) => Verdict::Refused(refusal),
