@@ -13,7 +13,7 @@ use Rattle.models.specs.declared.Refusal.{Refusal}
 use Rattle.models.specs.declared.RequestMetadata.{RequestMetadata}
 use Rattle.models.specs.declared.RequestReport.{RequestReport}
 use Rattle.models.specs.declared.SetupPacket.{SetupPacket}
-use Rattle.standards.specs.Setup.{setupBytes}
+use Rattle.standards.specs.Setup.{packetOf, setupBytes}
 use Rattle.rows.specs.Codec.{setupTail, setupWords, stateWords}
 use Rattle.rows.specs.declared.codec.SetupWords.{SetupWords}
 use Rattle.rows.specs.declared.codec.StateWords.{StateWords}
@@ -26,7 +26,7 @@ use Rattle.recovery.specs.declared.AbortReport.{AbortReport}
 use Rattle.recovery.specs.declared.Recovery.{Recovery}
 use Rattle.session_words.specs.State.{kindWord}
 use Rattle.calls.specs.declared.Answer.{Answer}
-use Rattle.answer_words.specs.Encode.{refusalWords, idTail, begunWords, profileWord, packetOf, planWords, stateTail, reportWords, recoveringWords, optionErrorWords, recoveredWords, answerWords, written}
+use Rattle.answer_words.specs.Encode.{refusalWords, idTail, begunWords, profileWord, planWords, stateTail, reportWords, recoveringWords, optionErrorWords, recoveredWords, answerWords, written}
 
 pub refusal-exact : (r : Refusal) (c o k : ℕ) → c ≡ categoryWord (r .error .category) → o ≡ optionI32Word (r .error .«os_code»)
     → k ≡ optionU32Word (r .error .«completion_code») → 0 ∷ r .number ∷ c ∷ r .error .message ∷ o ∷ k ∷ [] ≡ refusalWords r

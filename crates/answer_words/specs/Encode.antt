@@ -9,14 +9,11 @@ use Rattle.words.specs.Records.{splice}
 use Rattle.models.specs.Codes.{categoryWord, transferWord, directionWord}
 use Rattle.models.specs.declared.ControlProfile.{ControlProfile}
 use Rattle.models.specs.declared.ControlProfile.the-variants as profile
-use Rattle.models.specs.declared.OptionSetup.{OptionSetup}
-use Rattle.models.specs.declared.OptionSetup.the-variants as setup
 use Rattle.models.specs.declared.Refusal.{Refusal}
 use Rattle.models.specs.declared.RequestId.{RequestId}
 use Rattle.models.specs.declared.RequestMetadata.{RequestMetadata}
 use Rattle.models.specs.declared.RequestReport.{RequestReport}
-use Rattle.models.specs.declared.SetupPacket.{SetupPacket}
-use Rattle.standards.specs.Setup.{setupBytes}
+use Rattle.standards.specs.Setup.{packetOf, setupBytes}
 use Rattle.rows.specs.Codec.{setupTail, setupWords, stateWords}
 use Rattle.rows.specs.declared.codec.StateWords.{StateWords}
 use Rattle.submissions.specs.declared.PlanSubmission.{PlanSubmission}
@@ -54,11 +51,6 @@ begunWords x = 2 ∷ idTail (x .id) (x .row ∷ metadataTail (x .metadata) (flag
 abbrev pub profileWord : ControlProfile → ℕ
 profileWord profile.Compliant = 0
 profileWord profile.DeviceCompatibility = 1
-
--- a plan always has a packet
-abbrev pub packetOf : OptionSetup → SetupPacket
-packetOf setup.None = record { «request_type» = 0; request = 0; value = 0; index = 0; length = 0 }
-packetOf (setup.Some p) = p
 
 -- the eight SETUP bytes stand last, a word each
 unfoldable pub planWords : PlanSubmission → List ℕ

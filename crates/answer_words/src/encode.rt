@@ -2,7 +2,6 @@
 use calls::Answer;
 use models::ControlProfile;
 use models::OptionError;
-use models::OptionSetup;
 use models::Refusal;
 use models::RequestReport;
 use models::SetupPacket;
@@ -17,7 +16,7 @@ use submissions::Submission;
 use words::slices;
 ghost use mathlib.Core.Path.{_≡_};
 ghost use Rattle.standards.specs.Setup.{setupBytes};
-ghost use Rattle.answer_words.specs.Encode.{refusalWords, begunWords, profileWord, packetOf, planWords, reportWords, recoveringWords, optionErrorWords, recoveredWords, answerWords, written};
+ghost use Rattle.answer_words.specs.Encode.{refusalWords, begunWords, profileWord, planWords, reportWords, recoveringWords, optionErrorWords, recoveredWords, answerWords, written};
 
 // How many words an answer has.
 pub const WORDS: usize = 32;
@@ -79,22 +78,6 @@ fn profile_word(profile: ControlProfile) -> u64
     }
 }
 
-// A plan always has a packet.
-fn packet_of(setup: OptionSetup) -> SetupPacket
-    ensures { λ r. ⌜ r ≡ packetOf setup ⌝ }
-{
-    match setup {
-        OptionSetup::None => SetupPacket {
-            request_type: 0,
-            request: 0,
-            value: 0,
-            index: 0,
-            length: 0,
-        },
-        OptionSetup::Some(p) => p,
-    }
-}
-
 // The SETUP bytes, a word each.
 fn byte_words(packet: SetupPacket) -> [u64; 8]
     ensures { λ w. ⌜ w ≡ setupBytes packet ⌝ }
@@ -125,7 +108,7 @@ fn plan_words(x: PlanSubmission) -> [u64; 30]
     let status_direction = plan.status_direction;
     let profile = plan.profile;
     let p = codec::setup_words(packet);
-    let b = byte_words(packet_of(packet));
+    let b = byte_words(setup::packet_of(packet));
     [
         3,
         x.id.session,

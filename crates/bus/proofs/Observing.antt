@@ -4,7 +4,7 @@ use mathlib.Core.Path.{_≡_, refl, sym, ap, _∙_}
 use mathlib.Core.Bool.{Bool, true, false, not, _||_, Bool·beq}
 use lib.Dec.{eqb, ltb}
 use borrow.Author.Tests.{eq-eqb, ne-eqb}
-use Rattle.chain.proofs.Chain.{takes, passes, eq-not, ne-not}
+use Rattle.chain.proofs.Chain.{takes, passes}
 use Rattle.words.specs.declared.OptionU32.{OptionU32}
 use Rattle.words.specs.declared.OptionU32.the-variants as u32
 use Rattle.models.specs.Refusals.{refusalOf, fromBackend}
@@ -20,7 +20,7 @@ use Rattle.models.specs.declared.Verdict.{Verdict}
 use Rattle.models.specs.declared.Verdict.the-variants as verdict
 use Rattle.standards.specs.Ports.{portConnected}
 use Rattle.bus.specs.Tables.{Bus, portAt, putPort}
-use Rattle.bus.specs.Ports.{numberChecked, verdictTo, setPortBy, setPort, readingOf, isSession, validatedRow, validatedBy, validated, raised, observedBy, observedRow, observedTo, observePortBy, observePort, freshTo, freshObserved, freshWord, freshReading, freshBy, freshPort}
+use Rattle.bus.specs.Ports.{numberChecked, verdictTo, setPortBy, setPort, readingChecked, isSession, validatedRow, validatedBy, validated, raisedRow, observedBy, observedRow, observedTo, observePortBy, observePort, freshTo, freshObserved, freshWord, freshReading, freshPortBy, freshPort}
 use Rattle.bus.specs.declared.PortRow.{PortRow}
 use Rattle.bus.specs.declared.ports.PortChecked.{PortChecked}
 use Rattle.bus.specs.declared.ports.PortChecked.the-variants as checked
@@ -46,12 +46,12 @@ module _ (o : OptionPorts) (number : ℕ) where
 pub session-is : (o : OptionPorts) (p : Ports) (session : ℕ) → o ≡ ports.Some p → eqb session (p .session) ≡ isSession o session
 session-is o p session e = rw e
 
-pub reading-none : (o : OptionU32) (r : Refusal) → o ≡ u32.None → r ≡ refusalOf 32 → checked.Refused r ≡ readingOf o
-unfolding readingOf
+pub reading-none : (o : OptionU32) (r : Refusal) → o ≡ u32.None → r ≡ refusalOf 32 → checked.Refused r ≡ readingChecked o
+unfolding readingChecked
 reading-none o r e f = rw (e, f)
 
-pub reading-some : (o : OptionU32) (raw : ℕ) → o ≡ u32.Some raw → checked.Read raw ≡ readingOf o
-unfolding readingOf
+pub reading-some : (o : OptionU32) (raw : ℕ) → o ≡ u32.Some raw → checked.Read raw ≡ readingChecked o
+unfolding readingChecked
 reading-some o raw e = rw e
 
 -- an id against its row
@@ -62,7 +62,7 @@ module _ (o : OptionPorts) (id : PortId) where
     unfolding validatedRow
     row-stale r t f = takes PortChecked _ _ _ _ (rw s at t) (ap checked.Refused f)
 
-    pub row-read : (v : PortChecked) → (not same || not (eqb (id .generation) (row .generation))) ≡ false → v ≡ readingOf (row .reading)
+    pub row-read : (v : PortChecked) → (not same || not (eqb (id .generation) (row .generation))) ≡ false → v ≡ readingChecked (row .reading)
         → v ≡ validatedRow o id row
     unfolding validatedRow
     row-read v t f = passes PortChecked _ _ _ _ (rw s at t) f
@@ -88,13 +88,13 @@ module _ (o : OptionPorts) (number : ℕ) (row : PortRow) (b : Bus) (x : Verdict
 
 -- a row after a reading
 module _ (row : PortRow) (raw : ℕ) where
-  pub raise-full : (r : Refusal) → row .generation ≡ 18446744073709551615 → r ≡ refusalOf 34 → observed.Refused r ≡ raised row raw
-  unfolding raised
+  pub raise-full : (r : Refusal) → row .generation ≡ 18446744073709551615 → r ≡ refusalOf 34 → observed.Refused r ≡ raisedRow row raw
+  unfolding raisedRow
   raise-full r e f = takes Observed _ _ _ _ (eq-eqb _ _ e) (ap observed.Refused f)
 
   pub raise-on : (row .generation ≡ 18446744073709551615 → ⊥)
-      → observed.To (record { generation = row .generation + 1; reading = u32.Some raw }) ≡ raised row raw
-  unfolding raised
+      → observed.To (record { generation = row .generation + 1; reading = u32.Some raw }) ≡ raisedRow row raw
+  unfolding raisedRow
   raise-on e = passes Observed _ _ _ _ (ne-eqb _ _ e) refl
 
   pub observed-first : row .reading ≡ u32.None → observed.To (record { generation = row .generation; reading = u32.Some raw }) ≡ observedRow row raw
@@ -102,7 +102,7 @@ module _ (row : PortRow) (raw : ℕ) where
   observed-first e = rw e
 
   module _ (old : ℕ) (s t : Bool) (e : row .reading ≡ u32.Some old) (es : s ≡ portConnected old) (et : t ≡ portConnected raw) where
-    pub observed-changed : (v : Observed) → not (Bool·beq s t) ≡ true → v ≡ raised row raw → v ≡ observedRow row raw
+    pub observed-changed : (v : Observed) → not (Bool·beq s t) ≡ true → v ≡ raisedRow row raw → v ≡ observedRow row raw
     unfolding observedRow observedBy
     observed-changed v h f = takes Observed _ _ _ _ (rw (es, et) at h) f ∙ sym (ap (λ (o : OptionU32). observedBy o row raw) e)
 
@@ -120,36 +120,31 @@ module _ (number raw : ℕ) (b : Bus) (row : PortRow) (v : Observed) (e : row �
   observe-on w after g h = rw (← e, ← f, g, h)
 
 -- a fresh reading
-module _ (id : PortId) (raw : ℕ) (b after : Bus) (v : Observed) (f : observedTo v after ≡ observePort (id .number) raw b) where
-  pub fresh-full : (r : Refusal) → v ≡ observed.Refused r → freshTo (checked.Refused r) after ≡ freshWord raw id b
+module _ (o : OptionPorts) (id : PortId) (raw : ℕ) (b after : Bus) (v : Observed) (f : observedTo v after ≡ observePort (id .number) raw b) where
+  pub fresh-full : (r : Refusal) → v ≡ observed.Refused r → freshTo (checked.Refused r) after ≡ freshWord raw o id b
   unfolding freshWord freshObserved
   fresh-full r g = rw (← f, g)
 
-  module _ (w : PortRow) (g : v ≡ observed.To w) where
-    pub fresh-stale : (r : Refusal) → (id .generation ≡ w .generation → ⊥) → r ≡ refusalOf 31 → freshTo (checked.Refused r) after ≡ freshWord raw id b
-    unfolding freshWord freshObserved
-    fresh-stale r ne h = rw (← f, g) (ap (λ (c : PortChecked). freshTo c after) (takes PortChecked _ _ _ _ (ne-not _ _ ne) (ap checked.Refused h)))
+  pub fresh-on : (w : PortRow) (r : PortChecked) → v ≡ observed.To w → r ≡ validatedRow o id w → freshTo r after ≡ freshWord raw o id b
+  unfolding freshWord freshObserved
+  fresh-on w r g h = rw (← f, g, h)
 
-    pub fresh-on : id .generation ≡ w .generation → freshTo (checked.Read raw) after ≡ freshWord raw id b
-    unfolding freshWord freshObserved
-    fresh-on h = rw (← f, g) (ap (λ (c : PortChecked). freshTo c after) (passes PortChecked _ _ _ _ (eq-not _ _ h) refl))
-
-module _ (id : PortId) (b : Bus) (reading : PortReading) where
-  pub reading-failed : (x : OperationError) (r : Refusal) → reading ≡ Error x → r ≡ fromBackend 33 x → freshTo (checked.Refused r) b ≡ freshReading reading id b
+module _ (o : OptionPorts) (id : PortId) (b : Bus) (reading : PortReading) where
+  pub reading-failed : (x : OperationError) (r : Refusal) → reading ≡ Error x → r ≡ fromBackend 33 x → freshTo (checked.Refused r) b ≡ freshReading reading o id b
   unfolding freshReading
   reading-failed x r e f = rw (e, f)
 
-  pub reading-word : (raw : ℕ) (v : PortChecked) (after : Bus) → reading ≡ Word raw → freshTo v after ≡ freshWord raw id b
-      → freshTo v after ≡ freshReading reading id b
+  pub reading-word : (raw : ℕ) (v : PortChecked) (after : Bus) → reading ≡ Word raw → freshTo v after ≡ freshWord raw o id b
+      → freshTo v after ≡ freshReading reading o id b
   unfolding freshReading
   reading-word raw v after e f = f ∙ rw e
 
-  module _ (o : OptionPorts) (v : PortChecked) (e : v ≡ validated o id b) where
+  module _ (v : PortChecked) (e : v ≡ validated o id b) where
     pub fresh-out : (r : Refusal) → v ≡ checked.Refused r → freshTo v b ≡ freshPort o id reading b
-    unfolding freshPort freshBy
+    unfolding freshPort freshPortBy
     fresh-out r f = rw (← e, f)
 
-    pub fresh-in : (raw : ℕ) (w : PortChecked) (after : Bus) → v ≡ checked.Read raw → freshTo w after ≡ freshReading reading id b
+    pub fresh-in : (raw : ℕ) (w : PortChecked) (after : Bus) → v ≡ checked.Read raw → freshTo w after ≡ freshReading reading o id b
         → freshTo w after ≡ freshPort o id reading b
-    unfolding freshPort freshBy
+    unfolding freshPort freshPortBy
     fresh-in raw w after f g = g ∙ rw (← e, f)

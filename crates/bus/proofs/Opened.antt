@@ -11,7 +11,7 @@ use lib.Seq.{take-at, drop-at, drop-drop, getD-append-add, length-take-le}
 use Rattle.words.specs.Records.{splice, part, chunks}
 use Rattle.words.proofs.Records.{splice-set, tab-all, chunks-all, zero-at}
 use Rattle.models.specs.declared.OptionDevice.the-variants as device
-use Rattle.bus.specs.Layout.{devicesAt, listsAt, marksAt, busWords, portOf, deviceOf, endpointsOf, markOf}
+use Rattle.bus.specs.Layout.{devicesAt, listsAt, marksAt, busWords, readPort, readDevice, readEndpoints, readMark}
 use Rattle.bus.specs.Tables.{Bus, busOf, newPort, newPorts, cleared}
 use Rattle.bus.proofs.Tabled.{store-copy}
 
@@ -76,19 +76,19 @@ module _ (p z : List ℕ) (np : length p ≡ devicesAt) (nz : length z ≡ 10240
 
   opened-ports : busOf (p ++ z) .ports ≡ replicate 255 newPort
   unfolding busOf chunks
-  opened-ports = tab-all (λ (j : ℕ). portOf (part (0 + j * 2) 2 (p ++ z))) 255 newPort (λ j h. let e : 0 + j * 2 ≡ j * 2 = omega arith in rw (e, ports j h))
+  opened-ports = tab-all (λ (j : ℕ). readPort (part (0 + j * 2) 2 (p ++ z))) 255 newPort (λ j h. let e : 0 + j * 2 ≡ j * 2 = omega arith in rw (e, ports j h))
 
   opened-devices : busOf (p ++ z) .devices ≡ replicate 256 device.None
-  unfolding busOf deviceOf
-  opened-devices = let n = whole in chunks-all devicesAt 8 deviceOf 256 (p ++ z) (omega arith) (λ k lo hi. past k lo)
+  unfolding busOf readDevice
+  opened-devices = let n = whole in chunks-all devicesAt 8 readDevice 256 (p ++ z) (omega arith) (λ k lo hi. past k lo)
 
   opened-lists : busOf (p ++ z) .lists ≡ replicate 256 []
-  unfolding busOf endpointsOf
-  opened-lists = let n = whole in chunks-all listsAt 31 endpointsOf 256 (p ++ z) (omega arith) (λ k lo hi. past k (omega arith))
+  unfolding busOf readEndpoints
+  opened-lists = let n = whole in chunks-all listsAt 31 readEndpoints 256 (p ++ z) (omega arith) (λ k lo hi. past k (omega arith))
 
   opened-marks : busOf (p ++ z) .marks ≡ replicate 256 false
   unfolding busOf
-  opened-marks = let n = whole in chunks-all marksAt 1 markOf 256 (p ++ z) (omega arith) (λ k lo hi. past k (omega arith))
+  opened-marks = let n = whole in chunks-all marksAt 1 readMark 256 (p ++ z) (omega arith) (λ k lo hi. past k (omega arith))
 
   opened-tables : busOf (p ++ z) ≡ openedBus (p ++ z)
   unfolding busOf

@@ -2,60 +2,60 @@
 use Prim.Native.Nat.{ℕ, suc, _+_, _*_, _%_, _<_, _≤_}
 use mathlib.Core.Path.{_≡_, refl, sym, ap, _∙_}
 use mathlib.Core.Bool.{Bool, false}
-use mathlib.Core.List.{List, [], _∷_, _++_, map, append-assoc}
+use mathlib.Core.List.{List, [], _∷_, _++_, append-assoc}
 use mathlib.Core.Logic.{_⊎_, inl, inr}
 use native.Mathlib.Omega.{arith}
 use native.Mathlib.Numerals.{add-one}
-use lib.ListN.{length, getD, set, take, drop, length-append, length-drop, length-set, take-append-drop}
+use lib.ListN.{length, getD, set, take, drop, length-append, length-drop, take-append-drop}
 use lib.Seq.{take-all, take-at, take-take, take-suc-set, drop-set-lt, drop-drop, drop-append-le}
 use borrow.Author.Tests.{ne-eqb}
 use Rattle.words.specs.Words.{flagOf, flagWord, optionU32Of, optionU32Word}
 use Rattle.words.specs.Records.{splice, part, chunks}
 use Rattle.words.specs.declared.OptionU32.{OptionU32}
-use Rattle.words.proofs.Records.{part-getD, part-first, part-length, splice-length, splice-set, length-chunks, chunks-at, chunks-put, chunks-kept}
+use Rattle.words.proofs.Records.{part-getD, part-first, part-length, splice-set, chunks-at, chunks-put, chunks-kept}
 use Rattle.models.specs.Codes.{deviceStateOf}
 use Rattle.models.specs.declared.DeviceSnapshot.{DeviceSnapshot}
 use Rattle.models.specs.declared.DeviceState.{DeviceState}
 use Rattle.models.specs.declared.OptionDevice.the-variants as device
-use Rattle.bus.specs.Layout.{devicesAt, listsAt, marksAt, busWords, portOf, portRecord, deviceOf, deviceRecord, endpointOf, endpointsOf, markOf}
-use Rattle.bus.specs.Tables.{Bus, busOf, newPort, rowOf, portAt, deviceAt, markAt, putPort, putDevice, putEndpoints, putMark}
+use Rattle.bus.specs.Layout.{devicesAt, listsAt, marksAt, busWords, readPort, portRecord, readDevice, deviceRecord, readEndpoints, readMark}
+use Rattle.bus.specs.Tables.{Bus, busOf, newPort, portIndex, portAt, deviceAt, markAt, putPort, putDevice, putEndpoints, putMark}
 use Rattle.bus.specs.declared.PortRow.{PortRow}
 
 -- words put inside one table keep each other table
 module _ (l : List ℕ) (at : ℕ) (p : List ℕ) (sized : length l ≡ busWords) (fits : at + length p ≤ busWords) where
   keeps-ports : devicesAt ≤ at → busOf (splice at p l) .ports ≡ busOf l .ports
   unfolding busOf
-  keeps-ports h = chunks-kept 0 2 portOf 255 l at p (omega arith) (inr h)
+  keeps-ports h = chunks-kept 0 2 readPort 255 l at p (omega arith) (inr h)
 
   keeps-devices : (at + length p ≤ devicesAt) ⊎ (listsAt ≤ at) → busOf (splice at p l) .devices ≡ busOf l .devices
   unfolding busOf
-  keeps-devices h = chunks-kept devicesAt 8 deviceOf 256 l at p (omega arith) h
+  keeps-devices h = chunks-kept devicesAt 8 readDevice 256 l at p (omega arith) h
 
   keeps-lists : (at + length p ≤ listsAt) ⊎ (marksAt ≤ at) → busOf (splice at p l) .lists ≡ busOf l .lists
   unfolding busOf
-  keeps-lists h = chunks-kept listsAt 31 endpointsOf 256 l at p (omega arith) h
+  keeps-lists h = chunks-kept listsAt 31 readEndpoints 256 l at p (omega arith) h
 
   keeps-marks : at + length p ≤ marksAt → busOf (splice at p l) .marks ≡ busOf l .marks
   unfolding busOf
-  keeps-marks h = chunks-kept marksAt 1 markOf 256 l at p (omega arith) (inl h)
+  keeps-marks h = chunks-kept marksAt 1 readMark 256 l at p (omega arith) (inl h)
 
 -- a port row
-pub port-is : (l : List ℕ) (number i : ℕ) (r : OptionU32) → i ≡ rowOf number → i < 255 → r ≡ optionU32Of (getD l (i * 2 + 1) 0)
+pub port-is : (l : List ℕ) (number i : ℕ) (r : OptionU32) → i ≡ portIndex number → i < 255 → r ≡ optionU32Of (getD l (i * 2 + 1) 0)
     → _≡_ {A = PortRow} (record { generation = getD l (i * 2) 0; reading = r }) (portAt (busOf l) number)
 unfolding busOf
 port-is l number i r ei h e =
     let z : 0 + i * 2 ≡ i * 2 = omega arith in
-    rw (← ei, chunks-at 0 2 portOf 255 l i newPort h, e, z, part-first 0 (i * 2) 2 l (omega arith), part-getD 0 (i * 2) 2 l 1 (omega arith))
+    rw (← ei, chunks-at 0 2 readPort 255 l i newPort h, e, z, part-first 0 (i * 2) 2 l (omega arith), part-getD 0 (i * 2) 2 l 1 (omega arith))
 
-pub put-port : (l x : List ℕ) (number i w : ℕ) (r : PortRow) → length l ≡ busWords → i ≡ rowOf number → i < 255 → optionU32Of w ≡ r .reading
+pub put-port : (l x : List ℕ) (number i w : ℕ) (r : PortRow) → length l ≡ busWords → i ≡ portIndex number → i < 255 → optionU32Of w ≡ r .reading
     → w ≡ optionU32Word (r .reading) → x ≡ splice (i * 2) (r .generation ∷ w ∷ []) l → busOf x ≡ putPort (busOf l) number r
 unfolding busOf putPort
 put-port l x number i w r sized ei h e f ex =
     let p : List ℕ = r .generation ∷ w ∷ [] in
     let fits : i * 2 + 2 ≤ devicesAt = omega arith in
-    let row : portOf p ≡ r = ap (λ (o : OptionU32). record { generation = r .generation; reading = o }) e in
+    let row : readPort p ≡ r = ap (λ (o : OptionU32). record { generation = r .generation; reading = o }) e in
     let z : 0 + i * 2 ≡ i * 2 = omega arith in
-    let rows = rw z at (chunks-put 0 2 portOf 255 l i p h (omega arith) refl) in
+    let rows = rw z at (chunks-put 0 2 readPort 255 l i p h (omega arith) refl) in
     rw (
       ← ei,
       ex,
@@ -72,15 +72,15 @@ module _ (l : List ℕ) (slot : ℕ) (h : slot < 256) where
   abbrev at : ℕ
   at = devicesAt + slot * 8
 
-  device-row : deviceAt (busOf l) slot ≡ deviceOf (part at 8 l)
+  device-row : deviceAt (busOf l) slot ≡ readDevice (part at 8 l)
   unfolding busOf
-  device-row = chunks-at devicesAt 8 deviceOf 256 l slot device.None h
+  device-row = chunks-at devicesAt 8 readDevice 256 l slot device.None h
 
   word : (k : ℕ) → k < 8 → getD (part at 8 l) k 0 ≡ getD l (at + k) 0
   word k g = part-getD 0 at 8 l k g
 
   pub device-none : getD l at 0 ≡ 0 → device.None ≡ deviceAt (busOf l) slot
-  unfolding deviceOf
+  unfolding readDevice
   device-none e = rw (device-row, part-first 0 at 8 l (omega arith), e)
 
   pub device-some : (s : DeviceState) → (getD l at 0 ≡ 0 → ⊥) → s ≡ deviceStateOf (getD l (at + 7) 0)
@@ -89,7 +89,7 @@ module _ (l : List ℕ) (slot : ℕ) (h : slot < 256) where
         port = record { session = getD l (at + 4) 0; generation = getD l (at + 5) 0; number = getD l (at + 6) 0 % 256 };
         state = s;
       }) ≡ deviceAt (busOf l) slot
-  unfolding deviceOf
+  unfolding readDevice
   device-some s ne es =
       rw (
         device-row,
@@ -109,14 +109,14 @@ record-length : (d : DeviceSnapshot) → length (deviceRecord d) ≡ 8
 unfolding deviceRecord
 record-length d = refl
 
-pub put-device : (l x w : List ℕ) (d : DeviceSnapshot) → length l ≡ busWords → d .id .slot < 256 → deviceOf w ≡ device.Some d → w ≡ deviceRecord d
+pub put-device : (l x w : List ℕ) (d : DeviceSnapshot) → length l ≡ busWords → d .id .slot < 256 → readDevice w ≡ device.Some d → w ≡ deviceRecord d
     → x ≡ splice (devicesAt + d .id .slot * 8) (take 8 w) l → busOf x ≡ putDevice (busOf l) d
 unfolding busOf putDevice
 put-device l x w d sized h e f ex =
     let at : ℕ = devicesAt + d .id .slot * 8 in
     let n : length w ≡ 8 = ap length f ∙ record-length d in
     let y : x ≡ splice at w l = ex ∙ rw (take-all 8 w (omega arith)) in
-    let rows = chunks-put devicesAt 8 deviceOf 256 l (d .id .slot) w h (omega arith) n in
+    let rows = chunks-put devicesAt 8 readDevice 256 l (d .id .slot) w h (omega arith) n in
     rw (
       y,
       keeps-ports l at w sized (omega arith) (omega arith),
@@ -132,7 +132,7 @@ pub mark-is : (l : List ℕ) (slot : ℕ) (r : Bool) → slot < 256 → r ≡ fl
 unfolding busOf
 mark-is l slot r h e =
     let z : marksAt + slot * 1 ≡ marksAt + slot = omega arith in
-    e ∙ rw (chunks-at marksAt 1 markOf 256 l slot false h, part-first 0 (marksAt + slot * 1) 1 l (omega arith), z)
+    e ∙ rw (chunks-at marksAt 1 readMark 256 l slot false h, part-first 0 (marksAt + slot * 1) 1 l (omega arith), z)
 
 pub put-mark : (l : List ℕ) (slot w : ℕ) (m : Bool) → length l ≡ busWords → slot < 256 → flagOf w ≡ m → w ≡ flagWord m
     → busOf (set l (marksAt + slot) w) ≡ putMark (busOf l) slot m
@@ -142,7 +142,7 @@ put-mark l slot w m sized h e f =
     let p : List ℕ = w ∷ [] in
     let z : marksAt + slot * 1 ≡ at = omega arith in
     let y : set l at w ≡ splice at p l = sym (splice-set at w l (omega arith)) in
-    let rows = rw z at (chunks-put marksAt 1 markOf 256 l slot p h (omega arith) refl) in
+    let rows = rw z at (chunks-put marksAt 1 readMark 256 l slot p h (omega arith) refl) in
     rw (
       y,
       keeps-ports l at p sized (omega arith) (omega arith),
@@ -179,8 +179,8 @@ module _ (at w : ℕ) (p l : List ℕ) (less : length p ≤ w) (fits : at + w �
       rw (fronted-length, ← drop-drop (length p) at l, a, drop-drop w at l) (ap (λ (r : List ℕ). take at l ++ r) (sym (append-assoc p (drop (length p) q) (drop (at + w) l))))
 
 -- a list of endpoints
-listed : (e r : List ℕ) → length e ≤ 30 → endpointsOf ((length e ∷ e) ++ r) ≡ map endpointOf e
-unfolding endpointsOf
+listed : (e r : List ℕ) → length e ≤ 30 → readEndpoints ((length e ∷ e) ++ r) ≡ e
+unfolding readEndpoints
 listed e r h = rw (take-take (length e) 30 (e ++ r) h, take-at e r (length e) refl)
 
 pub put-endpoints : (l x : List ℕ) (slot : ℕ) (e : List ℕ) → length l ≡ busWords → slot < 256 → length e ≤ 30
@@ -193,8 +193,8 @@ put-endpoints l x slot e sized h few ex =
     let n : length q ≡ 31 = fronted-length at 31 p l (omega arith) (omega arith) in
     let y : x ≡ splice at p l = ex ∙ rw (take-all (length e) e (omega arith)) (store-copy at (length e) e l (omega arith)) in
     let z : splice at p l ≡ splice at q l = splice-front at 31 p l (omega arith) (omega arith) in
-    let row : endpointsOf q ≡ map endpointOf e = listed e (drop (length p) (part at 31 l)) few in
-    let rows = ap (chunks listsAt 31 endpointsOf 256) z ∙ chunks-put listsAt 31 endpointsOf 256 l slot q h (omega arith) n in
+    let row : readEndpoints q ≡ e = listed e (drop (length p) (part at 31 l)) few in
+    let rows = ap (chunks listsAt 31 readEndpoints 256) z ∙ chunks-put listsAt 31 readEndpoints 256 l slot q h (omega arith) n in
     rw (
       y,
       keeps-ports l at p sized (omega arith) (omega arith),
@@ -203,34 +203,3 @@ put-endpoints l x slot e sized h few ex =
       rows,
       row,
     )
-
--- a put keeps the number of words
-pub put-port-length : (b : Bus) (number : ℕ) (r : PortRow) → length (b .words) ≡ busWords → number < 256
-    → length (putPort b number r .words) ≡ length (b .words)
-unfolding putPort
-put-port-length b number r sized h = splice-length (rowOf number * 2) (portRecord r) (b .words) (omega arith)
-
-pub put-device-length : (b : Bus) (d : DeviceSnapshot) → length (b .words) ≡ busWords → d .id .slot < 256 → length (putDevice b d .words) ≡ length (b .words)
-unfolding putDevice
-put-device-length b d sized h =
-    let n = record-length d in
-    splice-length (devicesAt + d .id .slot * 8) (deviceRecord d) (b .words) (omega arith)
-
-pub put-endpoints-length : (b : Bus) (slot : ℕ) (e : List ℕ) → length (b .words) ≡ busWords → slot < 256 → length e ≤ 30
-    → length (putEndpoints b slot e .words) ≡ length (b .words)
-unfolding putEndpoints
-put-endpoints-length b slot e sized h few = splice-length (listsAt + slot * 31) (length e ∷ e) (b .words) (omega arith)
-
-pub put-mark-length : (b : Bus) (slot : ℕ) (m : Bool) → length (putMark b slot m .words) ≡ length (b .words)
-unfolding putMark
-put-mark-length b slot m = length-set (b .words) (marksAt + slot) (flagWord m)
-
--- the words of a bus, and how many rows its tables have
-pub words-of : (l : List ℕ) → busOf l .words ≡ l
-unfolding busOf
-words-of l = refl
-
-pub row-counts : (l : List ℕ) → (length (busOf l .ports) ≡ 255) × (length (busOf l .devices) ≡ 256) × (length (busOf l .lists) ≡ 256) × (length (busOf l .marks) ≡ 256)
-unfolding busOf
-row-counts l =
-    (length-chunks 0 2 portOf 255 l, length-chunks devicesAt 8 deviceOf 256 l, length-chunks listsAt 31 endpointsOf 256 l, length-chunks marksAt 1 markOf 256 l)

@@ -1,16 +1,16 @@
 -- What the words of the bus say: 255 port rows, 256 device rows, 256 endpoint lists and 256 marks, one table after the other.
 -- Every list of words says something. Assumes nothing.
-use Prim.Native.Nat.{ℕ, _+_, _*_, _/_, _%_, _^_}
+use Prim.Native.Nat.{ℕ, _+_, _*_, _%_, _^_}
 use mathlib.Core.Bool.{Bool, cond}
-use mathlib.Core.List.{List, [], _∷_, map}
+use mathlib.Core.List.{List, [], _∷_}
 use lib.ListN.{getD, take, drop}
 use lib.Dec.{eqb}
 use Rattle.words.specs.Words.{flagOf, flagWord, optionU32Of, optionU32Word}
-use Rattle.models.specs.Codes.{deviceStateOf, deviceStateWord, transferOf}
+use Rattle.models.specs.Codes.{deviceStateOf, deviceStateWord, transferWord}
 use Rattle.models.specs.declared.DeviceSnapshot.{DeviceSnapshot}
 use Rattle.models.specs.declared.OptionDevice.{OptionDevice}
 use Rattle.models.specs.declared.OptionDevice.the-variants as device
-use Rattle.models.specs.declared.EndpointSnapshot.{EndpointSnapshot}
+use Rattle.models.specs.declared.TransferType.{TransferType}
 use Rattle.bus.specs.declared.PortRow.{PortRow}
 
 -- the words of a record of each table, and where the table starts
@@ -37,15 +37,15 @@ abbrev pub busWords : ℕ
 busWords = 10750
 
 -- a port row: its generation, and its last reading or none
-abbrev pub portOf : List ℕ → PortRow
-portOf w = record { generation = getD w 0 0; reading = optionU32Of (getD w 1 0) }
+abbrev pub readPort : List ℕ → PortRow
+readPort w = record { generation = getD w 0 0; reading = optionU32Of (getD w 1 0) }
 
 abbrev pub portRecord : PortRow → List ℕ
 portRecord r = r .generation ∷ optionU32Word (r .reading) ∷ []
 
 -- a device row: absent, or the device
-unfoldable pub deviceOf : List ℕ → OptionDevice
-deviceOf w =
+unfoldable pub readDevice : List ℕ → OptionDevice
+readDevice w =
     cond (eqb (getD w 0 0) 0) device.None
     (device.Some (record {
       id = record { session = getD w 1 0; generation = getD w 2 0; slot = getD w 3 0 % 2 ^ 8 };
@@ -58,12 +58,12 @@ deviceRecord d =
     1 ∷ d .id .session ∷ d .id .generation ∷ d .id .slot ∷ d .port .session ∷ d .port .generation ∷ d .port .number ∷ deviceStateWord (d .state) ∷ []
 
 -- an endpoint: its address in the low 8 bits, its transfer type above them
-abbrev pub endpointOf : ℕ → EndpointSnapshot
-endpointOf w = record { address = w % 2 ^ 8; «transfer_type» = transferOf (w / 2 ^ 8) }
+abbrev pub endpointWord : ℕ → TransferType → ℕ
+endpointWord address type = address + 2 ^ 8 * transferWord type
 
--- a list: a count, of which 30 at the most count, and the endpoints
-unfoldable pub endpointsOf : List ℕ → List EndpointSnapshot
-endpointsOf w = map endpointOf (take (getD w 0 0) (take 30 (drop 1 w)))
+-- a list: a count, of which 30 at the most count, and a word for each endpoint
+unfoldable pub readEndpoints : List ℕ → List ℕ
+readEndpoints w = take (getD w 0 0) (take 30 (drop 1 w))
 
-abbrev pub markOf : List ℕ → Bool
-markOf w = flagOf (getD w 0 0)
+abbrev pub readMark : List ℕ → Bool
+readMark w = flagOf (getD w 0 0)

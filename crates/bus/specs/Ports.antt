@@ -42,9 +42,9 @@ unfoldable pub setPort : OptionPorts → ℕ → PortRow → Bus → VerdictTo
 setPort ports number row b = setPortBy (numberChecked ports number) number row b
 
 -- 32: no reading
-unfoldable pub readingOf : OptionU32 → PortChecked
-readingOf u32.None = checked.Refused (refusalOf 32)
-readingOf (u32.Some raw) = checked.Read raw
+unfoldable pub readingChecked : OptionU32 → PortChecked
+readingChecked u32.None = checked.Refused (refusalOf 32)
+readingChecked (u32.Some raw) = checked.Read raw
 
 -- the session number that port ids carry is the opening's
 abbrev pub isSession : OptionPorts → ℕ → Bool
@@ -55,7 +55,7 @@ isSession (ports.Some p) session = eqb session (p .session)
 unfoldable pub validatedRow : OptionPorts → PortId → PortRow → PortChecked
 validatedRow ports id row =
     checked.Refused (refusalOf 31) if not (isSession ports (id .session)) || not (eqb (id .generation) (row .generation)) else
-    readingOf (row .reading)
+    readingChecked (row .reading)
 
 unfoldable pub validatedBy : Verdict → OptionPorts → PortId → Bus → PortChecked
 validatedBy (verdict.Refused r) ports id b = checked.Refused r
@@ -66,15 +66,15 @@ unfoldable pub validated : OptionPorts → PortId → Bus → PortChecked
 validated ports id b = validatedBy (numberChecked ports (id .number)) ports id b
 
 -- if the reading's connected bit differs from the row's, the generation rises by one; 34: it is at its maximum
-unfoldable pub raised : PortRow → ℕ → Observed
-raised row raw =
+unfoldable pub raisedRow : PortRow → ℕ → Observed
+raisedRow row raw =
     observed.Refused (refusalOf 34) if eqb (row .generation) (2 ^ 64 - 1) else
     observed.To (record { generation = row .generation + 1; reading = u32.Some raw })
 
 unfoldable pub observedBy : OptionU32 → PortRow → ℕ → Observed
 observedBy u32.None row raw = observed.To (record { generation = row .generation; reading = u32.Some raw })
 observedBy (u32.Some old) row raw =
-    raised row raw if not (Bool·beq (portConnected old) (portConnected raw)) else
+    raisedRow row raw if not (Bool·beq (portConnected old) (portConnected raw)) else
     observed.To (record { generation = row .generation; reading = u32.Some raw })
 
 unfoldable pub observedRow : PortRow → ℕ → Observed
@@ -103,25 +103,25 @@ pub record FreshTo : Type 0 where
 abbrev pub freshTo : PortChecked → Bus → FreshTo
 freshTo c b = record { answer = c; bus = b }
 
--- 31 again, with the row written
-unfoldable pub freshObserved : Observed → PortId → ℕ → PortChecked
-freshObserved (observed.Refused r) id raw = checked.Refused r
-freshObserved (observed.To row) id raw = checked.Refused (refusalOf 31) if not (eqb (id .generation) (row .generation)) else checked.Read raw
+-- 31 again: the id is validated against the row that was written
+unfoldable pub freshObserved : Observed → OptionPorts → PortId → PortChecked
+freshObserved (observed.Refused r) ports id = checked.Refused r
+freshObserved (observed.To row) ports id = validatedRow ports id row
 
 -- 34 with nothing written, or the row written
-unfoldable pub freshWord : ℕ → PortId → Bus → FreshTo
-freshWord raw id b =
-    freshTo (freshObserved (observePort (id .number) raw b .answer) id raw) (observePort (id .number) raw b .bus)
+unfoldable pub freshWord : ℕ → OptionPorts → PortId → Bus → FreshTo
+freshWord raw ports id b =
+    freshTo (freshObserved (observePort (id .number) raw b .answer) ports id) (observePort (id .number) raw b .bus)
 
 -- 33: the reading failed, with the backend's error
-unfoldable pub freshReading : PortReading → PortId → Bus → FreshTo
-freshReading (Error e) id b = freshTo (checked.Refused (fromBackend 33 e)) b
-freshReading (Word raw) id b = freshWord raw id b
+unfoldable pub freshReading : PortReading → OptionPorts → PortId → Bus → FreshTo
+freshReading (Error e) ports id b = freshTo (checked.Refused (fromBackend 33 e)) b
+freshReading (Word raw) ports id b = freshWord raw ports id b
 
-unfoldable pub freshBy : PortChecked → PortReading → PortId → Bus → FreshTo
-freshBy (checked.Refused r) reading id b = freshTo (checked.Refused r) b
-freshBy (checked.Read raw) reading id b = freshReading reading id b
+unfoldable pub freshPortBy : PortChecked → PortReading → OptionPorts → PortId → Bus → FreshTo
+freshPortBy (checked.Refused r) reading ports id b = freshTo (checked.Refused r) b
+freshPortBy (checked.Read raw) reading ports id b = freshReading reading ports id b
 
 -- 29, 30, 31, 32, then 33, 34, and 31 again
 unfoldable pub freshPort : OptionPorts → PortId → PortReading → Bus → FreshTo
-freshPort ports id reading b = freshBy (validated ports id b) reading id b
+freshPort ports id reading b = freshPortBy (validated ports id b) reading ports id b

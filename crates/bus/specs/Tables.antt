@@ -1,7 +1,7 @@
 -- The bus: its words and the tables that they say, and one row of a table put. Assumes nothing.
 use Prim.Native.Nat.{ℕ, zero, suc, _+_, _-_, _*_}
 use mathlib.Core.Bool.{Bool, false}
-use mathlib.Core.List.{List, [], _∷_, _++_, map}
+use mathlib.Core.List.{List, [], _∷_, _++_}
 use lib.ListN.{length, getD, set, replicate}
 use Rattle.words.specs.Words.{flagWord}
 use Rattle.words.specs.Records.{splice, chunks}
@@ -9,24 +9,23 @@ use Rattle.words.specs.declared.OptionU32.the-variants as u32
 use Rattle.models.specs.declared.DeviceSnapshot.{DeviceSnapshot}
 use Rattle.models.specs.declared.OptionDevice.{OptionDevice}
 use Rattle.models.specs.declared.OptionDevice.the-variants as device
-use Rattle.models.specs.declared.EndpointSnapshot.{EndpointSnapshot}
-use Rattle.bus.specs.Layout.{portWords, deviceWords, listWords, devicesAt, listsAt, marksAt, busWords, portOf, portRecord, deviceOf, deviceRecord, endpointOf, endpointsOf, markOf}
+use Rattle.bus.specs.Layout.{portWords, deviceWords, listWords, devicesAt, listsAt, marksAt, busWords, readPort, portRecord, readDevice, deviceRecord, readEndpoints, readMark}
 use Rattle.bus.specs.declared.PortRow.{PortRow}
 
 pub record Bus : Type 0 where
   pub words : List ℕ
   pub ports : List PortRow
   pub devices : List OptionDevice
-  pub lists : List (List EndpointSnapshot)
+  pub lists : List (List ℕ)
   pub marks : List Bool
 
 unfoldable pub busOf : List ℕ → Bus
 busOf l = record {
   words = l;
-  ports = chunks 0 portWords portOf 255 l;
-  devices = chunks devicesAt deviceWords deviceOf 256 l;
-  lists = chunks listsAt listWords endpointsOf 256 l;
-  marks = chunks marksAt 1 markOf 256 l;
+  ports = chunks 0 portWords readPort 255 l;
+  devices = chunks devicesAt deviceWords readDevice 256 l;
+  lists = chunks listsAt listWords readEndpoints 256 l;
+  marks = chunks marksAt 1 readMark 256 l;
 }
 
 -- a port at opening
@@ -34,17 +33,17 @@ abbrev pub newPort : PortRow
 newPort = record { generation = 1; reading = u32.None }
 
 -- ports are numbered from 1
-abbrev pub rowOf : ℕ → ℕ
-rowOf number = number - 1
+abbrev pub portIndex : ℕ → ℕ
+portIndex number = number - 1
 
 -- a port by its number, and what stands at a slot
 abbrev pub portAt : Bus → ℕ → PortRow
-portAt b number = getD (b .ports) (rowOf number) newPort
+portAt b number = getD (b .ports) (portIndex number) newPort
 
 abbrev pub deviceAt : Bus → ℕ → OptionDevice
 deviceAt b slot = getD (b .devices) slot device.None
 
-abbrev pub endpointsAt : Bus → ℕ → List EndpointSnapshot
+abbrev pub endpointsAt : Bus → ℕ → List ℕ
 endpointsAt b slot = getD (b .lists) slot []
 
 abbrev pub markAt : Bus → ℕ → Bool
@@ -52,8 +51,8 @@ markAt b slot = getD (b .marks) slot false
 
 unfoldable pub putPort : Bus → ℕ → PortRow → Bus
 putPort b number r = record {
-  words = splice (rowOf number * portWords) (portRecord r) (b .words);
-  ports = set (b .ports) (rowOf number) r;
+  words = splice (portIndex number * portWords) (portRecord r) (b .words);
+  ports = set (b .ports) (portIndex number) r;
   devices = b .devices;
   lists = b .lists;
   marks = b .marks;
@@ -75,7 +74,7 @@ putEndpoints b slot l = record {
   words = splice (listsAt + slot * listWords) (length l ∷ l) (b .words);
   ports = b .ports;
   devices = b .devices;
-  lists = set (b .lists) slot (map endpointOf l);
+  lists = set (b .lists) slot l;
   marks = b .marks;
 }
 

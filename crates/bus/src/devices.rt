@@ -10,11 +10,11 @@ use words::slices;
 ghost use mathlib.Core.Path.{_≡_};
 ghost use lib.ListN.{length};
 ghost use Rattle.models.specs.declared.OptionDevice.the-variants as device;
-ghost use Rattle.bus.specs.Layout.{busWords, deviceOf, deviceRecord};
+ghost use Rattle.bus.specs.Layout.{busWords, readDevice, deviceRecord};
 ghost use Rattle.bus.specs.Tables.{busOf, deviceAt, putDevice, markAt, putMark};
 
 fn encode_device(d: DeviceSnapshot) -> [u64; 8]
-    ensures { λ w. ⌜ (deviceOf w ≡ device.Some d) × (w ≡ deviceRecord d) ⌝ }
+    ensures { λ w. ⌜ (readDevice w ≡ device.Some d) × (w ≡ deviceRecord d) ⌝ }
 {
     let state = d.state;
     [

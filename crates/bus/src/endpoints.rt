@@ -3,16 +3,14 @@ use crate::ENDPOINTS;
 use models::TransferType;
 use models::Verdict;
 use models::codes;
-use models::kinds;
 use words::slices;
 ghost use mathlib.Core.Path.{_≡_};
-ghost use Prim.Native.Nat.{min};
+ghost use Prim.Native.Nat.{_<_, min};
 ghost use lib.ListN.{length};
-ghost use Rattle.chain.specs.Lists.{anyIn};
-ghost use Rattle.bus.specs.Layout.{busWords, endpointOf};
-ghost use Rattle.bus.specs.Tables.{busOf, endpointsAt};
+ghost use Rattle.bus.specs.Layout.{busWords, endpointWord};
+ghost use Rattle.bus.specs.Tables.{busOf};
 ghost use Rattle.bus.specs.Ports.{verdictTo};
-ghost use Rattle.bus.specs.Endpoints.{isEndpoint, setEndpoints};
+ghost use Rattle.bus.specs.Endpoints.{hasEndpoint, setEndpoints};
 
 // The list takes the place of the slot's; 53: it has more than 30.
 pub fn set_endpoints(bus: &mut [u64], slot: u8, list: &[u64]) -> Verdict
@@ -29,13 +27,10 @@ pub fn set_endpoints(bus: &mut [u64], slot: u8, list: &[u64]) -> Verdict
     Verdict::Pass
 }
 
-// The word is an endpoint with this address and type.
-fn is_endpoint(word: u64, address: u8, transfer_type: TransferType) -> bool
-    ensures { λ r. ⌜ r ≡ isEndpoint address «transfer_type» (endpointOf word) ⌝ }
+fn endpoint_word(address: u8, transfer_type: TransferType) -> u64
+    ensures { λ r. ⌜ r ≡ endpointWord address «transfer_type» ⌝ }
 {
-    let own = codes::to_transfer(word / 256);
-    let same = kinds::same_transfer(own, transfer_type);
-    (word % 256 == address as u64) & same
+    address as u64 + 256 * codes::transfer_word(transfer_type)
 }
 
 fn up_to_30(n: u64) -> usize
@@ -46,14 +41,15 @@ fn up_to_30(n: u64) -> usize
 
 pub fn has_endpoint(bus: &[u64], slot: u8, address: u8, transfer_type: TransferType) -> bool
     requires { ⌜ length (now bus) ≡ busWords ⌝ }
-    ensures { λ r. ⌜ r ≡ anyIn (isEndpoint address «transfer_type») (endpointsAt (busOf (now (bus .entry))) slot) ⌝ }
+    ensures { λ r. ⌜ r ≡ hasEndpoint slot address «transfer_type» (busOf (now (bus .entry))) ⌝ }
 {
+    let word = endpoint_word(address, transfer_type);
     let at = ENDPOINTS + slot as usize * 31;
     let n = up_to_30(bus[at]);
     let first = at + 1;
     let mut i = 0;
     while i < n {
-        if is_endpoint(bus[first + i], address, transfer_type) {
+        if word == bus[first + i] {
             return true;
         }
         i += 1;

@@ -12,8 +12,8 @@ ghost use mathlib.Core.Path.{_≡_};
 ghost use Prim.Native.Nat.{_<_};
 ghost use lib.ListN.{length};
 ghost use Rattle.bus.specs.Layout.{busWords};
-ghost use Rattle.bus.specs.Tables.{busOf, rowOf, portAt, putPort};
-ghost use Rattle.bus.specs.Ports.{numberChecked, verdictTo, setPort, readingOf, isSession, validatedRow, validated, raised, observedRow, observedTo, observePort, freshTo, freshWord, freshReading, freshPort};
+ghost use Rattle.bus.specs.Tables.{busOf, portIndex, portAt, putPort};
+ghost use Rattle.bus.specs.Ports.{numberChecked, verdictTo, setPort, readingChecked, isSession, validatedRow, validated, raisedRow, observedRow, observedTo, observePort, freshTo, freshWord, freshReading, freshPort};
 
 // A port that was validated, with its reading.
 pub enum PortChecked {
@@ -28,8 +28,8 @@ pub enum Observed {
 }
 
 // Ports are numbered from 1; number 0, which no port has, is given port 1's row.
-fn row_of(number: u8) -> usize
-    ensures { λ r. ⌜ (r ≡ rowOf number) × (r < 255) ⌝ }
+fn port_index(number: u8) -> usize
+    ensures { λ r. ⌜ (r ≡ portIndex number) × (r < 255) ⌝ }
 {
     if number == 0 {
         0
@@ -42,7 +42,7 @@ pub fn read_port(bus: &[u64], number: u8) -> PortRow
     requires { ⌜ length (now bus) ≡ busWords ⌝ }
     ensures { λ r. ⌜ r ≡ portAt (busOf (now (bus .entry))) number ⌝ }
 {
-    let at = row_of(number) * 2;
+    let at = port_index(number) * 2;
     let reading = words::to_option_u32(bus[at + 1]);
     PortRow {
         generation: bus[at],
@@ -54,7 +54,7 @@ pub fn write_port(bus: &mut [u64], number: u8, row: PortRow)
     requires { ⌜ length (now bus) ≡ busWords ⌝ }
     ensures { λ _. ⌜ busOf (now (bus .exit)) ≡ putPort (busOf (now (bus .entry))) number row ⌝ }
 {
-    let at = row_of(number) * 2;
+    let at = port_index(number) * 2;
     let reading = row.reading;
     let w = [row.generation, words::option_u32_word(reading)];
     slices::copy_words(bus, at, &w, 2);
@@ -97,8 +97,8 @@ fn is_session(ports: OptionPorts, session: u64) -> bool
 }
 
 // 32: no reading.
-fn reading_of(reading: OptionU32) -> PortChecked
-    ensures { λ r. ⌜ r ≡ readingOf reading ⌝ }
+fn check_reading(reading: OptionU32) -> PortChecked
+    ensures { λ r. ⌜ r ≡ readingChecked reading ⌝ }
 {
     let OptionU32::Some(raw) = reading else {
         return PortChecked::Refused(models::refuse(32));
@@ -115,7 +115,7 @@ fn validate_row(ports: OptionPorts, id: PortId, row: PortRow) -> PortChecked
         return PortChecked::Refused(models::refuse(31));
     }
     let reading = row.reading;
-    reading_of(reading)
+    check_reading(reading)
 }
 
 // 29, 30, 31, 32.
@@ -133,9 +133,9 @@ pub fn validate(bus: &[u64], ports: OptionPorts, id: PortId) -> PortChecked
     }
 }
 
-// The row with the reading and its generation, raised by one; 34: it is at its maximum.
+// The row with the reading and its generation, raisedRow by one; 34: it is at its maximum.
 fn raise(row: PortRow, raw: u32) -> Observed
-    ensures { λ r. ⌜ r ≡ raised row raw ⌝ }
+    ensures { λ r. ⌜ r ≡ raisedRow row raw ⌝ }
 {
     if row.generation == 18446744073709551615 {
         return Observed::Refused(models::refuse(34));
@@ -181,30 +181,30 @@ pub fn observe(bus: &mut [u64], number: u8, raw: u32) -> Observed
 }
 
 // 34 with nothing written, or 31 again with the row written.
-fn observe_word(bus: &mut [u64], id: PortId, raw: u32) -> PortChecked
+fn observe_word(bus: &mut [u64], ports: OptionPorts, id: PortId, raw: u32) -> PortChecked
     requires { ⌜ length (now bus) ≡ busWords ⌝ }
-    ensures { λ r. ⌜ freshTo r (busOf (now (bus .exit))) ≡ freshWord raw id (busOf (now (bus .entry))) ⌝ }
+    ensures { λ r. ⌜ freshTo r (busOf (now (bus .exit))) ≡ freshWord raw ports id (busOf (now (bus .entry))) ⌝ }
 {
     let next = observe(bus, id.number, raw);
     match next {
         Observed::Refused(refusal) => PortChecked::Refused(refusal),
-        Observed::To(row) => {
-            if id.generation != row.generation {
-                return PortChecked::Refused(models::refuse(31));
-            }
-            PortChecked::Read(raw)
-        }
+        Observed::To(row) => validate_row(ports, id, row),
     }
 }
 
 // 33, 34, and 31 again.
-fn observe_reading(bus: &mut [u64], id: PortId, reading: PortReading) -> PortChecked
+fn observe_reading(
+    bus: &mut [u64],
+    ports: OptionPorts,
+    id: PortId,
+    reading: PortReading,
+) -> PortChecked
     requires { ⌜ length (now bus) ≡ busWords ⌝ }
-    ensures { λ r. ⌜ freshTo r (busOf (now (bus .exit))) ≡ freshReading reading id (busOf (now (bus .entry))) ⌝ }
+    ensures { λ r. ⌜ freshTo r (busOf (now (bus .exit))) ≡ freshReading reading ports id (busOf (now (bus .entry))) ⌝ }
 {
     match reading {
         PortReading::Error(error) => PortChecked::Refused(models::refuse_backend(33, error)),
-        PortReading::Word(raw) => observe_word(bus, id, raw),
+        PortReading::Word(raw) => observe_word(bus, ports, id, raw),
     }
 }
 
@@ -222,5 +222,5 @@ pub fn fresh_port(
     let PortChecked::Read(_) = checked else {
         return checked;
     };
-    observe_reading(bus, id, reading)
+    observe_reading(bus, ports, id, reading)
 }

@@ -1,14 +1,18 @@
 -- Laws of the callers of a verdict: a refusal is passed on, and a pass is answered with what is ready. Assumes nothing.
 use Prim.Native.Nat.{ℕ}
-use mathlib.Core.Path.{_≡_}
+use mathlib.Core.Bool.{Bool, true, false, cond, not, _&&_, Bool·beq}
+use mathlib.Core.Path.{_≡_, refl, ap, sym, _∙_}
+use lib.Dec.{ltb}
+use Rattle.models.specs.Kinds.{isIn}
 use Rattle.models.specs.declared.ControlPlan.{ControlPlan}
+use Rattle.models.specs.declared.Direction.the-variants.{In, Out}
 use Rattle.models.specs.declared.Refusal.{Refusal}
 use Rattle.models.specs.declared.RequestMetadata.{RequestMetadata}
 use Rattle.models.specs.declared.RequestSpec.{RequestSpec}
 use Rattle.models.specs.declared.Verdict.{Verdict}
 use Rattle.models.specs.declared.Verdict.the-variants as verdict
-use Rattle.checks.specs.Plan.{planFacts, planChecked, planOf, plannedBy, planned}
-use Rattle.checks.specs.Prepare.{specFacts, specChecked, metadataOf, preparedBy, prepared}
+use Rattle.checks.specs.Plan.{planFacts, compliantStatus, planChecked, planOf, plannedIf, planned}
+use Rattle.checks.specs.Prepare.{specFacts, specChecked, metadataOf, preparedIf, prepared}
 use Rattle.checks.specs.declared.plan.PlanFacts.{PlanFacts}
 use Rattle.checks.specs.declared.plan.Planned.the-variants as plan
 use Rattle.checks.specs.declared.plan.ValidatedControlPlan.{ValidatedControlPlan}
@@ -17,18 +21,29 @@ use Rattle.checks.specs.declared.prepare.SpecFacts.{SpecFacts}
 
 module _ (q : RequestSpec) (m row : ℕ) (f : SpecFacts) (v : Verdict) (ef : f ≡ specFacts q m row) (ev : v ≡ specChecked f) where
   pub request-stop : (r : Refusal) → v ≡ verdict.Refused r → request.Refused r ≡ prepared q m row
-  unfolding prepared preparedBy
+  unfolding prepared preparedIf
   request-stop r e = rw (← ef, ← ev, e)
 
   pub request-go : (x : RequestMetadata) → v ≡ verdict.Pass → x ≡ metadataOf q → request.Ready x ≡ prepared q m row
-  unfolding prepared preparedBy
+  unfolding prepared preparedIf
   request-go x e ex = rw (← ef, ← ev, e, ex)
 
 module _ (q : ControlPlan) (m row : ℕ) (f : PlanFacts) (v : Verdict) (ef : f ≡ planFacts q m row) (ev : v ≡ planChecked f) where
   pub plan-stop : (r : Refusal) → v ≡ verdict.Refused r → plan.Refused r ≡ planned q m row
-  unfolding planned plannedBy
+  unfolding planned plannedIf
   plan-stop r e = rw (← ef, ← ev, e)
 
   pub plan-go : (x : ValidatedControlPlan) → v ≡ verdict.Pass → x ≡ planOf q → plan.Ready x ≡ planned q m row
-  unfolding planned plannedBy
+  unfolding planned plannedIf
   plan-go x e ex = rw (← ef, ← ev, e, ex)
+
+-- the status of a Compliant plan, and a test against it
+in-unless : (t : Bool) → not t ≡ isIn (cond t Out In)
+in-unless true = refl
+in-unless false = refl
+
+pub status-in : (v : PlanFacts) → not (v .inward && ltb 0 (v .length)) ≡ isIn (compliantStatus v)
+status-in v = in-unless (v .inward && ltb 0 (v .length))
+
+pub status-through : (a s t b : Bool) → s ≡ t → not (Bool·beq a s) ≡ b → not (Bool·beq a t) ≡ b
+status-through a s t b e f = ap (λ (x : Bool). not (Bool·beq a x)) (sym e) ∙ f

@@ -21,8 +21,8 @@ use Rattle.models.specs.declared.TransferType.the-variants.{Control, Bulk, Isoc
 use Rattle.checks.specs.Completion.{codeTested, testCode, testLength, testCompletion}
 use Rattle.checks.specs.Numbers.{verdictNumbers, preparedNumbers, plannedNumbers, completionNumbers, Example, gives, Shown}
 use Rattle.checks.specs.Packets.{packetsChecked}
-use Rattle.checks.specs.Plan.{payloadChecked, stagesChecked, sizeChecked, planChecked, plannedBy, planned}
-use Rattle.checks.specs.Prepare.{dataChecked, controlChecked, otherChecked, specChecked, preparedBy, prepared}
+use Rattle.checks.specs.Plan.{payloadChecked, stagesChecked, sizeChecked, planChecked, plannedIf, planned}
+use Rattle.checks.specs.Prepare.{dataChecked, controlChecked, otherChecked, specChecked, preparedIf, prepared}
 
 abbrev row : ℕ
 row = 65536
@@ -78,5 +78,5 @@ starred =
     ∷ []
 
 pub starred-shown : Shown starred
-unfolding prepared preparedBy specChecked controlChecked otherChecked dataChecked packetsChecked planned plannedBy planChecked sizeChecked stagesChecked payloadChecked testCompletion testLength testCode codeTested _if_else_
+unfolding prepared preparedIf specChecked controlChecked otherChecked dataChecked packetsChecked planned plannedIf planChecked sizeChecked stagesChecked payloadChecked testCompletion testLength testCode codeTested _if_else_
 starred-shown = refl

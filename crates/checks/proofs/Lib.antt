@@ -1,6 +1,5 @@
 pub mod Summing
 pub mod Answers
 pub mod Endings
-pub mod Targets
 pub mod Passed
 pub mod Examples

@@ -13,8 +13,8 @@ use Rattle.models.specs.declared.RequestMetadata.{RequestMetadata}
 use Rattle.models.specs.declared.RequestSpec.{RequestSpec}
 use Rattle.models.specs.declared.Verdict.{Verdict}
 use Rattle.models.specs.declared.Verdict.the-variants as verdict
-use Rattle.checks.specs.Prepare.{specFacts, dataChecked, controlChecked, otherChecked, specChecked, metadataOf, preparedBy, prepared}
-use Rattle.checks.specs.Plan.{planFacts, payloadChecked, stagesChecked, sizeChecked, planChecked, planOf, plannedBy, planned}
+use Rattle.checks.specs.Prepare.{specFacts, dataChecked, controlChecked, otherChecked, specChecked, metadataOf, preparedIf, prepared}
+use Rattle.checks.specs.Plan.{planFacts, payloadChecked, stagesChecked, sizeChecked, planChecked, planOf, plannedIf, planned}
 use Rattle.checks.specs.declared.prepare.SpecFacts.{SpecFacts}
 use Rattle.checks.specs.declared.prepare.Prepared.the-variants as prepare
 use Rattle.checks.specs.declared.plan.PlanFacts.{PlanFacts}
@@ -62,8 +62,8 @@ module _ (v : SpecFacts) where
       let m : v .«data_length» ≤ v .length = either (v .control) (controlChecked v) (otherChecked v) control-small other-small (rest _ _ _ (rest _ _ _ (rest _ _ _ e))) in
       (l, omega arith)
 
-ready-spec : (v : Verdict) (q : RequestSpec) (m : RequestMetadata) → preparedBy v q ≡ prepare.Ready m → (v ≡ verdict.Pass) × (m .«requested_length» ≡ q .length)
-unfolding preparedBy
+ready-spec : (v : Verdict) (q : RequestSpec) (m : RequestMetadata) → preparedIf v q ≡ prepare.Ready m → (v ≡ verdict.Pass) × (m .«requested_length» ≡ q .length)
+unfolding preparedIf
 ready-spec (verdict.Refused r) q m e = (cc, cc)
 ready-spec verdict.Pass q m e = (refl, let z : metadataOf q ≡ m = cc in ap (λ (x : RequestMetadata). x .«requested_length») (sym z))
 
@@ -94,9 +94,9 @@ module _ (v : PlanFacts) where
   unfolding planChecked
   plan-fits e = size-fits (rest _ _ _ (rest _ _ _ (rest _ _ _ e)))
 
-ready-plan : (v : Verdict) (q : ControlPlan) (p : ValidatedControlPlan) → plannedBy v q ≡ plan.Ready p
+ready-plan : (v : Verdict) (q : ControlPlan) (p : ValidatedControlPlan) → plannedIf v q ≡ plan.Ready p
     → (v ≡ verdict.Pass) × (p .metadata .«requested_length» ≡ planOf q .metadata .«requested_length»)
-unfolding plannedBy
+unfolding plannedIf
 ready-plan (verdict.Refused r) q p e = (cc, cc)
 ready-plan verdict.Pass q p e = (refl, let z : planOf q ≡ p = cc in ap (λ (x : ValidatedControlPlan). x .metadata .«requested_length») (sym z))
 

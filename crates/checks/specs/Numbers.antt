@@ -10,8 +10,6 @@ use Rattle.checks.specs.declared.plan.Planned.{Planned}
 use Rattle.checks.specs.declared.plan.Planned.the-variants as plan
 use Rattle.checks.specs.declared.prepare.Prepared.{Prepared}
 use Rattle.checks.specs.declared.prepare.Prepared.the-variants as request
-use Rattle.checks.specs.declared.target.DeviceChecked.{DeviceChecked}
-use Rattle.checks.specs.declared.target.DeviceChecked.the-variants as target
 
 abbrev pub verdictNumbers : Verdict → List ℕ
 verdictNumbers (verdict.Refused r) = r .number ∷ []
@@ -25,11 +23,6 @@ preparedNumbers (request.Ready m) = 0 ∷ m .«requested_length» ∷ []
 abbrev pub plannedNumbers : Planned → List ℕ
 plannedNumbers (plan.Refused r) = r .number ∷ []
 plannedNumbers (plan.Ready p) = 0 ∷ p .metadata .«requested_length» ∷ []
-
--- ready: the device's id
-abbrev pub deviceNumbers : DeviceChecked → List ℕ
-deviceNumbers (target.Refused r) = r .number ∷ []
-deviceNumbers (target.Ready d) = 0 ∷ d .id .session ∷ d .id .generation ∷ d .id .slot ∷ []
 
 -- valid: the length and the code; 47 completion lacks length; 48 invalid completion
 abbrev pub completionNumbers : CompletionTest → List ℕ

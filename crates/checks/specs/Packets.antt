@@ -7,10 +7,10 @@ use lib.Dec.{eqb, ltb}
 use Rattle.chain.specs.Chain.{_if_else_}
 use Rattle.chain.specs.Lists.{sumBy}
 use Rattle.models.specs.Kinds.{isIsochronous}
+use Rattle.models.specs.Refusals.{rejected}
 use Rattle.models.specs.declared.TransferType.{TransferType}
 use Rattle.models.specs.declared.Verdict.{Verdict}
 use Rattle.models.specs.declared.Verdict.the-variants.{Pass}
-use Rattle.checks.specs.Verdicts.{rejected}
 
 -- the sum of the packets, which no width bounds
 abbrev pub total : List ℕ → ℕ

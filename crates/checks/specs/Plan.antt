@@ -1,15 +1,16 @@
 -- The place plan of document 01's table, in its order. Assumes nothing.
 use Prim.Native.Nat.{ℕ}
-use mathlib.Core.Bool.{Bool, true, false, not, _&&_, _||_, Bool·beq}
+use mathlib.Core.Bool.{Bool, true, false, cond, not, _&&_, _||_, Bool·beq}
 use lib.Dec.{eqb, ltb}
 use Rattle.chain.specs.Chain.{_if_else_}
 use Rattle.models.specs.Kinds.{isIn}
+use Rattle.models.specs.Refusals.{rejected}
 use Rattle.models.specs.declared.ControlPlan.{ControlPlan}
 use Rattle.models.specs.declared.ControlProfile.{ControlProfile}
 use Rattle.models.specs.declared.ControlProfile.the-variants.{Compliant, DeviceCompatibility}
 use Rattle.models.specs.declared.DataStage.{DataStage}
 use Rattle.models.specs.declared.Direction.{Direction}
-use Rattle.models.specs.declared.Direction.the-variants.{In}
+use Rattle.models.specs.declared.Direction.the-variants.{In, Out}
 use Rattle.models.specs.declared.OptionDirection.{OptionDirection}
 use Rattle.models.specs.declared.OptionDirection.the-variants as direction
 use Rattle.models.specs.declared.OptionSetup.the-variants as setup
@@ -19,7 +20,6 @@ use Rattle.models.specs.declared.TransferType.the-variants.{Control}
 use Rattle.models.specs.declared.Verdict.{Verdict}
 use Rattle.models.specs.declared.Verdict.the-variants as verdict
 use Rattle.standards.specs.Setup.{requestDirection, requestKind, recipientOf}
-use Rattle.checks.specs.Verdicts.{rejected}
 use Rattle.checks.specs.declared.plan.PlanFacts.{PlanFacts}
 use Rattle.checks.specs.declared.plan.ValidatedControlPlan.{ValidatedControlPlan}
 use Rattle.checks.specs.declared.plan.Planned.{Planned}
@@ -30,9 +30,9 @@ hasStatus direction.None = false
 hasStatus (direction.Some d) = true
 
 -- the status direction; In, which no check looks at, where there is none
-abbrev pub statusOf : OptionDirection → Direction
-statusOf direction.None = In
-statusOf (direction.Some d) = d
+abbrev pub statusOrIn : OptionDirection → Direction
+statusOrIn direction.None = In
+statusOrIn (direction.Some d) = d
 
 abbrev pub isCompliant : ControlProfile → Bool
 isCompliant Compliant = true
@@ -51,7 +51,7 @@ stageOf (stage.Some s) type = s
 abbrev pub planFacts : ControlPlan → ℕ → ℕ → PlanFacts
 planFacts q m row = record {
   «has_status» = hasStatus (q .«status_direction»);
-  «status_in» = isIn (statusOf (q .«status_direction»));
+  «status_in» = isIn (statusOrIn (q .«status_direction»));
   «request_type» = q .setup .«request_type»;
   request = q .setup .request;
   recipient = recipientOf (q .setup .«request_type»);
@@ -73,14 +73,18 @@ payloadChecked v =
     rejected 25 if not (v .«has_stage») && not (eqb (v .«data_length») 0) else
     verdict.Pass
 
--- Compliant: 21U as 13; 22 stages; 23 status, which is OUT after a non-empty IN stage, else IN
+-- Compliant status is OUT after a non-empty IN stage, else IN
+abbrev pub compliantStatus : PlanFacts → Direction
+compliantStatus v = cond (v .inward && ltb 0 (v .length)) Out In
+
+-- Compliant: 21U as 13; 22 stages; 23 status
 unfoldable pub stagesChecked : PlanFacts → Verdict
 stagesChecked v =
     rejected 21 if ltb 3 (v .recipient) || eqb (v .kind) 3 else
     rejected 22
     if not (eqb (v .length) (v .«setup_length»)) || not (Bool·beq (v .«has_stage») (not (eqb (v .«setup_length») 0))) || not (Bool·beq (v .inward) (v .«setup_in»))
     else
-    rejected 23 if Bool·beq (v .«status_in») (ltb 0 (v .length) && v .inward) else
+    rejected 23 if not (Bool·beq (v .«status_in») (isIn (compliantStatus v))) else
     payloadChecked v
 
 -- 6; 7
@@ -112,13 +116,13 @@ planOf q = record {
   };
   «has_data» = hasStage (q .«data_stage»);
   «data_direction» = stageOf (q .«data_stage») (q .setup .«request_type») .direction;
-  «status_direction» = statusOf (q .«status_direction»);
+  «status_direction» = statusOrIn (q .«status_direction»);
   profile = q .profile;
 }
 
-unfoldable pub plannedBy : Verdict → ControlPlan → Planned
-plannedBy (verdict.Refused r) q = answer.Refused r
-plannedBy verdict.Pass q = answer.Ready (planOf q)
+unfoldable pub plannedIf : Verdict → ControlPlan → Planned
+plannedIf (verdict.Refused r) q = answer.Refused r
+plannedIf verdict.Pass q = answer.Ready (planOf q)
 
 unfoldable pub planned : ControlPlan → ℕ → ℕ → Planned
-planned q m row = plannedBy (planChecked (planFacts q m row)) q
+planned q m row = plannedIf (planChecked (planFacts q m row)) q

@@ -4,15 +4,14 @@ use mathlib.Core.Bool.{Bool, true, false, not, _&&_, _||_, Bool·beq}
 use lib.Dec.{eqb, ltb}
 use Rattle.chain.specs.Chain.{_if_else_}
 use Rattle.models.specs.Kinds.{isIn, isControl}
+use Rattle.models.specs.Refusals.{rejected}
 use Rattle.models.specs.declared.OptionSetup.{OptionSetup}
 use Rattle.models.specs.declared.OptionSetup.the-variants as setup
 use Rattle.models.specs.declared.RequestMetadata.{RequestMetadata}
 use Rattle.models.specs.declared.RequestSpec.{RequestSpec}
-use Rattle.models.specs.declared.SetupPacket.{SetupPacket}
 use Rattle.models.specs.declared.Verdict.{Verdict}
 use Rattle.models.specs.declared.Verdict.the-variants as verdict
-use Rattle.standards.specs.Setup.{requestDirection, requestKind, recipientOf, endpointNumber, endpointReserved, endpointDirection}
-use Rattle.checks.specs.Verdicts.{rejected}
+use Rattle.standards.specs.Setup.{packetOf, requestDirection, requestKind, recipientOf, endpointNumber, endpointReserved, endpointDirection}
 use Rattle.checks.specs.declared.prepare.SpecFacts.{SpecFacts}
 use Rattle.checks.specs.declared.prepare.Prepared.{Prepared}
 use Rattle.checks.specs.declared.prepare.Prepared.the-variants as answer
@@ -21,12 +20,7 @@ abbrev pub hasSetup : OptionSetup → Bool
 hasSetup setup.None = false
 hasSetup (setup.Some p) = true
 
--- the packet, or one of zeros, which no check looks at
-abbrev pub packetOf : OptionSetup → SetupPacket
-packetOf setup.None = record { «request_type» = 0; request = 0; value = 0; index = 0; length = 0 }
-packetOf (setup.Some p) = p
-
--- what the checks look at, of the request q with m bytes of data, where a row of the store has `row` bytes
+-- what the checks look at, of the request q with m bytes of data, where a row of the store has `row` bytes; past 10 the packet is there
 abbrev pub specFacts : RequestSpec → ℕ → ℕ → SpecFacts
 specFacts q m row = record {
   length = q .length;
@@ -91,9 +85,9 @@ metadataOf q = record {
   setup = q .setup;
 }
 
-unfoldable pub preparedBy : Verdict → RequestSpec → Prepared
-preparedBy (verdict.Refused r) q = answer.Refused r
-preparedBy verdict.Pass q = answer.Ready (metadataOf q)
+unfoldable pub preparedIf : Verdict → RequestSpec → Prepared
+preparedIf (verdict.Refused r) q = answer.Refused r
+preparedIf verdict.Pass q = answer.Ready (metadataOf q)
 
 unfoldable pub prepared : RequestSpec → ℕ → ℕ → Prepared
-prepared q m row = preparedBy (specChecked (specFacts q m row)) q
+prepared q m row = preparedIf (specChecked (specFacts q m row)) q

@@ -1,8 +1,8 @@
 // Isochronous packet lengths: the place packets of the table.
-use crate::reject;
 use models::TransferType;
 use models::Verdict;
 use models::kinds;
+use models::reject;
 ghost use mathlib.Core.Path.{_≡_};
 ghost use lib.Dec.{eqb};
 ghost use Rattle.checks.specs.Packets.{total, packetsChecked};

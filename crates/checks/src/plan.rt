@@ -1,5 +1,4 @@
 // The place plan of the table: the Rust's `ControlPlan::validate`.
-use crate::reject;
 use models::ControlPlan;
 use models::ControlProfile;
 use models::DataStage;
@@ -12,9 +11,11 @@ use models::RequestMetadata;
 use models::TransferType;
 use models::Verdict;
 use models::kinds;
+use models::reject;
 use standards::setup;
 ghost use mathlib.Core.Path.{_≡_};
-ghost use Rattle.checks.specs.Plan.{hasStatus, statusOf, isCompliant, hasStage, stageOf, planFacts, payloadChecked, stagesChecked, sizeChecked, planChecked, planOf, planned};
+ghost use Rattle.models.specs.Kinds.{isIn};
+ghost use Rattle.checks.specs.Plan.{hasStatus, statusOrIn, isCompliant, hasStage, stageOf, planFacts, payloadChecked, compliantStatus, stagesChecked, sizeChecked, planChecked, planOf, planned};
 
 // A plan that may go on. Its SETUP bytes are `standards::setup::setup_bytes` of the metadata's packet.
 pub struct ValidatedControlPlan {
@@ -58,8 +59,8 @@ fn has_status(d: OptionDirection) -> bool
 }
 
 // The status direction, or In where none is given.
-fn status_of(d: OptionDirection) -> Direction
-    ensures { λ r. ⌜ r ≡ statusOf d ⌝ }
+fn status_or_in(d: OptionDirection) -> Direction
+    ensures { λ r. ⌜ r ≡ statusOrIn d ⌝ }
 {
     match d {
         OptionDirection::None => Direction::In,
@@ -107,7 +108,7 @@ fn plan_facts(q: ControlPlan, data_length: u64, row_bytes: u64) -> PlanFacts
     let optional_status = q.status_direction;
     let stage = stage_of(optional_stage, p.request_type);
     let data_direction = stage.direction;
-    let status = status_of(optional_status);
+    let status = status_or_in(optional_status);
     let setup_direction = setup::request_direction(p.request_type);
     PlanFacts {
         has_status: has_status(optional_status),
@@ -140,7 +141,14 @@ fn check_payload(v: PlanFacts) -> Verdict
     Verdict::Pass
 }
 
-// 21, 22, 23, of a Compliant plan. Its status is OUT after an IN stage that is not empty, else IN.
+// Whether the status of a Compliant plan is IN: it is OUT after an IN stage that is not empty, else IN.
+fn is_status_in(v: PlanFacts) -> bool
+    ensures { λ r. ⌜ r ≡ isIn (compliantStatus v) ⌝ }
+{
+    !(v.inward & (v.length > 0))
+}
+
+// 21, 22, 23, of a Compliant plan.
 fn check_stages(v: PlanFacts) -> Verdict
     ensures { λ r. ⌜ r ≡ stagesChecked v ⌝ }
 {
@@ -153,7 +161,8 @@ fn check_stages(v: PlanFacts) -> Verdict
     {
         return reject(22);
     }
-    if v.status_in == ((v.length > 0) & v.inward) {
+    let wanted = is_status_in(v);
+    if v.status_in != wanted {
         return reject(23);
     }
     check_payload(v)
@@ -213,7 +222,7 @@ fn plan_of(q: ControlPlan) -> ValidatedControlPlan
         metadata,
         has_data: has_stage(optional_stage),
         data_direction: direction,
-        status_direction: status_of(optional_status),
+        status_direction: status_or_in(optional_status),
         profile,
     }
 }

@@ -1,15 +1,14 @@
 // The place prepare of the table: the Rust's `RequestSpec::prepare`.
-use crate::reject;
 use models::OptionSetup;
 use models::Refusal;
 use models::RequestMetadata;
 use models::RequestSpec;
-use models::SetupPacket;
 use models::Verdict;
 use models::kinds;
+use models::reject;
 use standards::setup;
 ghost use mathlib.Core.Path.{_≡_};
-ghost use Rattle.checks.specs.Prepare.{hasSetup, packetOf, specFacts, dataChecked, controlChecked, otherChecked, specChecked, metadataOf, prepared};
+ghost use Rattle.checks.specs.Prepare.{hasSetup, specFacts, dataChecked, controlChecked, otherChecked, specChecked, metadataOf, prepared};
 
 // A request that may go on, or its refusal. Its buffer is zeros of the length (IN) or the data (OUT).
 pub enum Prepared {
@@ -45,29 +44,13 @@ fn has_setup(s: OptionSetup) -> bool
     }
 }
 
-// The packet, or one of zeros.
-fn packet_of(s: OptionSetup) -> SetupPacket
-    ensures { λ r. ⌜ r ≡ packetOf s ⌝ }
-{
-    match s {
-        OptionSetup::None => SetupPacket {
-            request_type: 0,
-            request: 0,
-            value: 0,
-            index: 0,
-            length: 0,
-        },
-        OptionSetup::Some(p) => p,
-    }
-}
-
 fn spec_facts(q: RequestSpec, data_length: u64, row_bytes: u64) -> SpecFacts
     ensures { λ r. ⌜ r ≡ specFacts q «data_length» «row_bytes» ⌝ }
 {
     let transfer_type = q.transfer_type;
     let direction = q.direction;
     let optional = q.setup;
-    let p = packet_of(optional);
+    let p = setup::packet_of(optional);
     let endpoint_direction = setup::endpoint_direction(q.endpoint);
     let setup_direction = setup::request_direction(p.request_type);
     SpecFacts {

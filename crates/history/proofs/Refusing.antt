@@ -58,15 +58,15 @@ use Rattle.checks.specs.Completion.{testCompletion}
 use Rattle.checks.specs.Packets.{packetsChecked}
 use Rattle.checks.specs.Plan.{planned}
 use Rattle.checks.specs.Prepare.{prepared}
-use Rattle.checks.specs.Target as target
+use Rattle.targets.specs.Target as target
 use Rattle.checks.specs.declared.completion.CompletionTest.{CompletionTest}
 use Rattle.checks.specs.declared.completion.CompletionTest.the-variants as test
 use Rattle.checks.specs.declared.plan.Planned.{Planned}
 use Rattle.checks.specs.declared.plan.Planned.the-variants as plan
 use Rattle.checks.specs.declared.prepare.Prepared.{Prepared}
 use Rattle.checks.specs.declared.prepare.Prepared.the-variants as prepare
-use Rattle.checks.specs.declared.target.DeviceChecked.{DeviceChecked}
-use Rattle.checks.specs.declared.target.DeviceChecked.the-variants as deviceIs
+use Rattle.targets.specs.declared.target.DeviceChecked.{DeviceChecked}
+use Rattle.targets.specs.declared.target.DeviceChecked.the-variants as deviceIs
 use Rattle.session.specs.Session.{isInitialized, withFlight}
 use Rattle.session.specs.Lifecycle.{OpenedTo, CalledTo, openOf, acquiredBy, acquireOf, initializedBy, initializeOf, closedBy, freshBy, closeOf}
 use Rattle.session.specs.Place.{placed, setDeviceOf, setPortOf, setEndpointsOf, setReconcileOf}
@@ -185,18 +185,22 @@ unfolding bus.numberChecked
 other-number ports.None number = refl
 other-number (ports.Some p) number = if-all OtherVerdict _ _ _ refl tt
 
-other-reading : (o : OptionU32) → OtherPort (bus.readingOf o)
-unfolding bus.readingOf
+other-reading : (o : OptionU32) → OtherPort (bus.readingChecked o)
+unfolding bus.readingChecked
 other-reading u32.None = refl
 other-reading (u32.Some raw) = tt
 
-other-valid : (v : Verdict) → OtherVerdict v → (o : OptionPorts) (id : PortId) (b : Bus) → OtherPort (bus.validatedBy v o id b)
-unfolding bus.validatedBy bus.validatedRow
-other-valid (verdict.Refused r) h o id b = h
-other-valid verdict.Pass h o id b = if-all OtherPort _ _ _ refl (other-reading (portAt b (id .number) .reading))
+other-row : (o : OptionPorts) (id : PortId) (row : PortRow) → OtherPort (bus.validatedRow o id row)
+unfolding bus.validatedRow
+other-row o id row = if-all OtherPort _ _ _ refl (other-reading (row .reading))
 
-other-raised : (row : PortRow) (raw : ℕ) → OtherSeen (bus.raised row raw)
-unfolding bus.raised
+other-valid : (v : Verdict) → OtherVerdict v → (o : OptionPorts) (id : PortId) (b : Bus) → OtherPort (bus.validatedBy v o id b)
+unfolding bus.validatedBy
+other-valid (verdict.Refused r) h o id b = h
+other-valid verdict.Pass h o id b = other-row o id (portAt b (id .number))
+
+other-raised : (row : PortRow) (raw : ℕ) → OtherSeen (bus.raisedRow row raw)
+unfolding bus.raisedRow
 other-raised row raw = if-all OtherSeen _ _ _ refl tt
 
 other-seen : (o : OptionU32) (row : PortRow) (raw : ℕ) → OtherSeen (bus.observedBy o row raw)
@@ -209,22 +213,22 @@ unfolding bus.observePortBy
 other-observed (observed.Refused r) h number b = h
 other-observed (observed.To row) h number b = tt
 
-other-fresh : (o : Observed) → OtherSeen o → (id : PortId) (raw : ℕ) → OtherPort (bus.freshObserved o id raw)
+other-fresh : (v : Observed) → OtherSeen v → (o : OptionPorts) (id : PortId) → OtherPort (bus.freshObserved v o id)
 unfolding bus.freshObserved
-other-fresh (observed.Refused r) h id raw = h
-other-fresh (observed.To row) h id raw = if-all OtherPort _ _ _ refl tt
+other-fresh (observed.Refused r) h o id = h
+other-fresh (observed.To row) h o id = other-row o id row
 
-other-by : (k : PortChecked) → OtherPort k → (x : PortReading) (id : PortId) (b : Bus) → OtherPort (bus.freshBy k x id b .answer)
-unfolding bus.freshBy bus.freshReading bus.freshWord bus.observePort bus.observedRow
-other-by (checked.Refused r) h x id b = h
-other-by (checked.Read raw) h (reading.Error e) id b = refl
-other-by (checked.Read raw) h (reading.Word new) id b =
+other-by : (k : PortChecked) → OtherPort k → (x : PortReading) (o : OptionPorts) (id : PortId) (b : Bus) → OtherPort (bus.freshPortBy k x o id b .answer)
+unfolding bus.freshPortBy bus.freshReading bus.freshWord bus.observePort bus.observedRow
+other-by (checked.Refused r) h x o id b = h
+other-by (checked.Read raw) h (reading.Error e) o id b = refl
+other-by (checked.Read raw) h (reading.Word new) o id b =
     other-fresh (bus.observePortBy (bus.observedBy (portAt b (id .number) .reading) (portAt b (id .number)) new) (id .number) b .answer)
-    (other-observed (bus.observedBy (portAt b (id .number) .reading) (portAt b (id .number)) new) (other-seen (portAt b (id .number) .reading) (portAt b (id .number)) new) (id .number) b) id new
+    (other-observed (bus.observedBy (portAt b (id .number) .reading) (portAt b (id .number)) new) (other-seen (portAt b (id .number) .reading) (portAt b (id .number)) new) (id .number) b) o id
 
 other-port : (o : OptionPorts) (id : PortId) (x : PortReading) (b : Bus) → OtherPort (bus.freshPort o id x b .answer)
 unfolding bus.freshPort bus.validated
-other-port o id x b = other-by (bus.validatedBy (bus.numberChecked o (id .number)) o id b) (other-valid (bus.numberChecked o (id .number)) (other-number o (id .number)) o id b) x id b
+other-port o id x b = other-by (bus.validatedBy (bus.numberChecked o (id .number)) o id b) (other-valid (bus.numberChecked o (id .number)) (other-number o (id .number)) o id b) x o id b
 
 -- ---- a device's 26 to 28 and 35, a target's 36 to 38
 other-known : (o : OptionDevice) (ready : Bool) (id : DeviceId) → OtherDevice (target.knownBy o ready id)
@@ -252,8 +256,8 @@ unfolding target.endpointBy target.speedChecked
 other-endpoint (checked.Refused r) h m b = h
 other-endpoint (checked.Read raw) h m b = if-all OtherVerdict _ _ _ refl (if-all OtherVerdict _ _ _ refl tt)
 
-other-by-device : (k : DeviceChecked) → OtherDevice k → (o : OptionPorts) (m : RequestMetadata) (x : PortReading) (b : Bus) → OtherVerdict (target.targetBy k o m x b .answer)
-unfolding target.targetBy target.checkEndpoint
+other-by-device : (k : DeviceChecked) → OtherDevice k → (o : OptionPorts) (m : RequestMetadata) (x : PortReading) (b : Bus) → OtherVerdict (target.checkTargetBy k o m x b .answer)
+unfolding target.checkTargetBy target.checkEndpoint
 other-by-device (deviceIs.Refused r) h o m x b = h
 other-by-device (deviceIs.Ready d) h o m x b =
     if-all (λ (v : bus.VerdictTo). OtherVerdict (v .answer)) _ _ _ tt

@@ -38,13 +38,13 @@ use Rattle.bus.specs.Tables.{Bus, deviceAt}
 use Rattle.checks.specs.Packets.{packetsChecked}
 use Rattle.checks.specs.Plan.{planned}
 use Rattle.checks.specs.Prepare.{prepared}
-use Rattle.checks.specs.Target.{knownBy, knownDevice, checkDeviceBy, checkDevice, targetBy, checkTarget}
+use Rattle.targets.specs.Target.{knownBy, knownDevice, checkDeviceBy, checkDevice, checkTargetBy, checkTarget}
 use Rattle.checks.specs.declared.plan.Planned.{Planned}
 use Rattle.checks.specs.declared.plan.Planned.the-variants as plan
 use Rattle.checks.specs.declared.prepare.Prepared.{Prepared}
 use Rattle.checks.specs.declared.prepare.Prepared.the-variants as prepare
-use Rattle.checks.specs.declared.target.DeviceChecked.{DeviceChecked}
-use Rattle.checks.specs.declared.target.DeviceChecked.the-variants as answer
+use Rattle.targets.specs.declared.target.DeviceChecked.{DeviceChecked}
+use Rattle.targets.specs.declared.target.DeviceChecked.the-variants as answer
 use Rattle.session.specs.Session.{isInitialized}
 use Rattle.session.specs.Session as session
 use Rattle.session.specs.declared.Session.{Session}
@@ -91,10 +91,10 @@ module _ (ready : Bool) where
   by-known (answer.Ready d) h ports reading b = any-device ready h (checkDeviceBy (answer.Ready d) ports reading b .answer)
 
   by-checked : (k : DeviceChecked) → DeviceSound ready k → (ports : OptionPorts) (m : RequestMetadata) (second : PortReading) (b : Bus)
-      → VerdictSound ready (targetBy k ports m second b .answer)
-  unfolding targetBy
+      → VerdictSound ready (checkTargetBy k ports m second b .answer)
+  unfolding checkTargetBy
   by-checked (answer.Refused r) h ports m second b = tt
-  by-checked (answer.Ready d) h ports m second b = any-verdict ready h (targetBy (answer.Ready d) ports m second b .answer)
+  by-checked (answer.Ready d) h ports m second b = any-verdict ready h (checkTargetBy (answer.Ready d) ports m second b .answer)
 
   target-ready : (ports : OptionPorts) (m : RequestMetadata) (first second : PortReading) (b : Bus)
       → VerdictSound ready (checkTarget ready ports m first second b .answer)

@@ -1,7 +1,5 @@
 -- Tests on the enums of no data. Assumes nothing.
 use mathlib.Core.Bool.{Bool, true, false}
-use lib.Dec.{eqb}
-use Rattle.models.specs.Codes.{directionWord, transferWord}
 use Rattle.models.specs.declared.Direction.{Direction}
 use Rattle.models.specs.declared.Direction.the-variants as direction
 use Rattle.models.specs.declared.TransferType.{TransferType}
@@ -12,13 +10,6 @@ use Rattle.models.specs.declared.DeviceState.the-variants as device
 abbrev pub isIn : Direction → Bool
 isIn direction.In = true
 isIn direction.Out = false
-
--- two are the same where their words are
-abbrev pub sameDirection : Direction → Direction → Bool
-sameDirection a b = eqb (directionWord a) (directionWord b)
-
-abbrev pub sameTransfer : TransferType → TransferType → Bool
-sameTransfer a b = eqb (transferWord a) (transferWord b)
 
 abbrev pub isControl : TransferType → Bool
 isControl transfer.Control = true

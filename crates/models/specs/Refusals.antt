@@ -10,6 +10,8 @@ use Rattle.models.specs.declared.ErrorCategory.{ErrorCategory}
 use Rattle.models.specs.declared.ErrorCategory.the-variants.{Validation, Unsupported, RecoveryRequired}
 use Rattle.models.specs.declared.OperationError.{OperationError}
 use Rattle.models.specs.declared.Refusal.{Refusal}
+use Rattle.models.specs.declared.Verdict.{Verdict}
+use Rattle.models.specs.declared.Verdict.the-variants.{Refused}
 
 -- an error whose message is the number n
 abbrev pub ownError : ErrorCategory → ℕ → OptionU32 → OperationError
@@ -33,6 +35,9 @@ tableCategory n =
 -- a refusal of our own, by its number
 abbrev pub refusalOf : ℕ → Refusal
 refusalOf n = fromBackend n (ownError (tableCategory n) n u32.None)
+
+abbrev pub rejected : ℕ → Verdict
+rejected n = Refused (refusalOf n)
 
 -- 48 has the completion's code
 abbrev pub invalidCompletion : OptionU32 → Refusal

@@ -4,7 +4,6 @@ use lib.Dec.{eqb, ltb}
 use Rattle.chain.specs.Chain.{_if_else_}
 use Rattle.models.specs.declared.RequestId.{RequestId}
 use Rattle.models.specs.declared.DeviceId.{DeviceId}
-use Rattle.models.specs.declared.PortId.{PortId}
 use Rattle.models.specs.declared.RequestState.{RequestState}
 use Rattle.models.specs.declared.RequestState.the-variants.{Pending, Completed, Failed, Aborted}
 
@@ -34,9 +33,6 @@ sameRequest a b = eqb (a .session) (b .session) && eqb (a .generation) (b .gener
 
 abbrev pub sameDevice : DeviceId → DeviceId → Bool
 sameDevice a b = eqb (a .session) (b .session) && eqb (a .generation) (b .generation) && eqb (a .slot) (b .slot)
-
-abbrev pub samePort : PortId → PortId → Bool
-samePort a b = eqb (a .session) (b .session) && eqb (a .generation) (b .generation) && eqb (a .number) (b .number)
 
 -- the order of ids: by session, then generation, then sequence
 unfoldable pub requestBefore : RequestId → RequestId → Bool

@@ -2,9 +2,8 @@
 use crate::DeviceState;
 use crate::Direction;
 use crate::TransferType;
-use crate::codes;
 ghost use mathlib.Core.Path.{_≡_};
-ghost use Rattle.models.specs.Kinds.{isIn, sameDirection, isControl, isBulk, isIsochronous, sameTransfer, isPrepared, isConfigured};
+ghost use Rattle.models.specs.Kinds.{isIn, isControl, isBulk, isIsochronous, isPrepared, isConfigured};
 
 pub fn is_in(d: Direction) -> bool
     ensures { λ r. ⌜ r ≡ isIn d ⌝ }
@@ -13,12 +12,6 @@ pub fn is_in(d: Direction) -> bool
         Direction::In => true,
         Direction::Out => false,
     }
-}
-
-pub fn same_direction(a: Direction, b: Direction) -> bool
-    ensures { λ r. ⌜ r ≡ sameDirection a b ⌝ }
-{
-    codes::direction_word(a) == codes::direction_word(b)
 }
 
 pub fn is_control(t: TransferType) -> bool
@@ -52,12 +45,6 @@ pub fn is_isochronous(t: TransferType) -> bool
         TransferType::Interrupt => false,
         TransferType::Isochronous => true,
     }
-}
-
-pub fn same_transfer(a: TransferType, b: TransferType) -> bool
-    ensures { λ r. ⌜ r ≡ sameTransfer a b ⌝ }
-{
-    codes::transfer_word(a) == codes::transfer_word(b)
 }
 
 // The device has a default control endpoint.

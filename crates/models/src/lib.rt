@@ -4,8 +4,8 @@ use words::OptionI32;
 use words::OptionU32;
 use words::OptionU64;
 ghost use mathlib.Core.Path.{_≡_};
-ghost use Rattle.models.specs.Requests.{deviceMayAccess, isPending, isUncertainFailure, sameRequest, sameDevice, samePort, requestBefore};
-ghost use Rattle.models.specs.Refusals.{ownError, tableCategory, refusalOf, fromBackend, invalidCompletion};
+ghost use Rattle.models.specs.Requests.{deviceMayAccess, isPending, isUncertainFailure, sameRequest, sameDevice, requestBefore};
+ghost use Rattle.models.specs.Refusals.{ownError, tableCategory, refusalOf, rejected, fromBackend, invalidCompletion};
 
 pub mod codes;
 pub mod kinds;
@@ -211,11 +211,6 @@ pub enum OptionDevice {
     Some(DeviceSnapshot),
 }
 
-pub struct EndpointSnapshot {
-    pub address: u8,
-    pub transfer_type: TransferType,
-}
-
 // What reading a port's status register brought.
 pub enum PortReading {
     Word(u32),
@@ -302,12 +297,6 @@ pub fn same_device(a: DeviceId, b: DeviceId) -> bool
     (a.session == b.session) & (a.generation == b.generation) & (a.slot == b.slot)
 }
 
-pub fn same_port(a: PortId, b: PortId) -> bool
-    ensures { λ r. ⌜ r ≡ samePort a b ⌝ }
-{
-    (a.session == b.session) & (a.generation == b.generation) & (a.number == b.number)
-}
-
 // The order of ids: by session, then generation, then sequence.
 pub fn request_before(a: RequestId, b: RequestId) -> bool
     ensures { λ r. ⌜ r ≡ requestBefore a b ⌝ }
@@ -360,6 +349,12 @@ pub fn refuse(number: u16) -> Refusal
     let category = table_category(number);
     let error = own_error(category, number, OptionU32::None);
     Refusal { number, error }
+}
+
+pub fn reject(number: u16) -> Verdict
+    ensures { λ r. ⌜ r ≡ rejected number ⌝ }
+{
+    Verdict::Refused(refuse(number))
 }
 
 // 33 and 45 carry the backend's error.

@@ -14,7 +14,7 @@ use borrow.Author.Tests.{eq-eqb, ne-eqb, eqb-true}
 use Rattle.chain.proofs.Chain.{caseB}
 use Rattle.models.specs.declared.SetupPacket.{SetupPacket}
 use Rattle.standards.specs.Fields.{field}
-use Rattle.standards.specs.Setup.{setupBytes, packetOf, sameBytes}
+use Rattle.standards.specs.Setup.{setupBytes, readPacket, sameBytes}
 
 pub setup-length : (s : SetupPacket) → length (setupBytes s) ≡ 8
 unfolding setupBytes
@@ -44,14 +44,14 @@ word-back : (x : ℕ) → x < 2 ^ 16 → field 0 8 x + field 8 8 x * 2 ^ 8 ≡ x
 word-back x h = rw (div-one x) (add-comm _ _ ∙ recompose 8 8 h)
 
 -- a packet is read back from its bytes
-pub packet-back : (s : SetupPacket) → Fitting s → packetOf (setupBytes s) ≡ s
-unfolding packetOf setupBytes
+pub packet-back : (s : SetupPacket) → Fitting s → readPacket (setupBytes s) ≡ s
+unfolding readPacket setupBytes
 packet-back s h =
     rw (word-back (s .value) (h .value-fits), word-back (s .index) (h .index-fits), word-back (s .length) (h .length-fits))
 
 -- so two packets with the same bytes are the same
 pub same-packet : (s t : SetupPacket) → Fitting s → Fitting t → setupBytes s ≡ setupBytes t → s ≡ t
-same-packet s t hs ht e = sym (packet-back s hs) ∙ ap packetOf e ∙ packet-back t ht
+same-packet s t hs ht e = sym (packet-back s hs) ∙ ap readPacket e ∙ packet-back t ht
 
 -- the comparison says whether two lists are the same
 pub same-self : (a : List ℕ) → sameBytes a a ≡ true

@@ -4,10 +4,17 @@ use mathlib.Core.Bool.{Bool, true, false, cond, _&&_}
 use mathlib.Core.List.{List, [], _∷_}
 use lib.Dec.{eqb}
 use lib.ListN.{getD}
+use Rattle.models.specs.declared.OptionSetup.{OptionSetup}
+use Rattle.models.specs.declared.OptionSetup.the-variants as setup
 use Rattle.models.specs.declared.SetupPacket.{SetupPacket}
 use Rattle.models.specs.declared.Direction.{Direction}
 use Rattle.models.specs.declared.Direction.the-variants.{In, Out}
 use Rattle.standards.specs.Fields.{field, bit}
+
+-- the packet, or one of zeros
+abbrev pub packetOf : OptionSetup → SetupPacket
+packetOf setup.None = record { «request_type» = 0; request = 0; value = 0; index = 0; length = 0 }
+packetOf (setup.Some p) = p
 
 -- table 9-2: bmRequestType, bRequest, then wValue, wIndex and wLength; 8.1: of two bytes the low one comes first
 unfoldable pub setupBytes : SetupPacket → List ℕ
@@ -23,8 +30,8 @@ abbrev pub pairAt : List ℕ → ℕ → ℕ
 pairAt l at = getD l at 0 + getD l (at + 1) 0 * 2 ^ 8
 
 -- table 9-2 read back
-unfoldable pub packetOf : List ℕ → SetupPacket
-packetOf l = record {
+unfoldable pub readPacket : List ℕ → SetupPacket
+readPacket l = record {
   «request_type» = getD l 0 0;
   request = getD l 1 0;
   value = pairAt l 2;

@@ -1,9 +1,26 @@
 // The SETUP packet and the endpoint address, USB 2.0 chapter 9.
 use models::Direction;
+use models::OptionSetup;
 use models::SetupPacket;
 ghost use mathlib.Core.Path.{_≡_};
 ghost use Rattle.standards.specs.Fields.{field, bit};
-ghost use Rattle.standards.specs.Setup.{setupBytes, sameBytes, inIf, requestDirection, requestKind, recipientOf, endpointNumber, endpointReserved, endpointDirection};
+ghost use Rattle.standards.specs.Setup.{packetOf, setupBytes, sameBytes, inIf, requestDirection, requestKind, recipientOf, endpointNumber, endpointReserved, endpointDirection};
+
+// The packet, or one of zeros.
+pub fn packet_of(s: OptionSetup) -> SetupPacket
+    ensures { λ r. ⌜ r ≡ packetOf s ⌝ }
+{
+    match s {
+        OptionSetup::None => SetupPacket {
+            request_type: 0,
+            request: 0,
+            value: 0,
+            index: 0,
+            length: 0,
+        },
+        OptionSetup::Some(p) => p,
+    }
+}
 
 fn low_byte(x: u16) -> u8
     ensures { λ r. ⌜ r ≡ field 0 8 x ⌝ }

@@ -33,7 +33,7 @@ use Rattle.ledger.proofs.Placing.{found-in}
 use Rattle.ledger.proofs.Saturated.{saturate-plain, saturate-top, saturate-le}
 use Rattle.bus.specs.Tables.{Bus}
 use Rattle.bus.specs.Ports.{verdictTo}
-use Rattle.checks.specs.Target.{checkTarget}
+use Rattle.targets.specs.Target.{checkTarget}
 use Rattle.session.specs.Session.{isInitialized}
 use Rattle.session.specs.Session as session
 use Rattle.session.specs.declared.Session.{Session}

@@ -25,7 +25,7 @@ use Rattle.ledger.specs.Rules.{pendingRow, spendSequence}
 use Rattle.ledger.specs.declared.rules.Spent.{Spent}
 use Rattle.ledger.specs.declared.rules.Spent.the-variants as spent
 use Rattle.bus.specs.Tables.{Bus}
-use Rattle.checks.specs.Target.{checkTarget}
+use Rattle.targets.specs.Target.{checkTarget}
 use Rattle.session.specs.Session.{isInitialized}
 use Rattle.session.specs.Session as session
 use Rattle.session.specs.declared.Session.{Session}

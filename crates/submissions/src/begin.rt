@@ -1,7 +1,6 @@
 // The end of every submission, once its request is prepared: the device, the endpoint, the sequence number, and the one place where a
 // submission changes rows and area.
 use chain::Found;
-use checks::target;
 use ledger::rules;
 use ledger::rules::Spent;
 use ledger::search;
@@ -13,6 +12,7 @@ use models::RequestMetadata;
 use models::Verdict;
 use models::kinds;
 use session::Session;
+use targets::target;
 use words::slices;
 ghost use mathlib.Core.Path.{_≡_};
 ghost use Prim.Native.Nat.{_+_, _<_, _≤_};

@@ -1,17 +1,17 @@
-use Rattle.bus.specs.Endpoints.{isEndpoint}
 use Rattle.bus.proofs.Listed.{search-on, search-here, search-none}
 use Rattle.bus.specs.Tables.{busOf, endpointsAt}
 use Rattle.chain.specs.Lists.{find}
+use lib.Dec.{eqb}
 use Prim.Native.Nat.{_-_, _≤_}
 use borrow.Author.Needs.{needs}
 use Rattle.bus.proofs.endpoints.has_endpoint.Statement.{statement}
 use Rattle.bus.proofs.endpoints.has_endpoint.Tie as tie
 
 abbrev Inv-loop : tie.InvT-loop
-Inv-loop bus slot address transfer-type at n first i₀ i = (i ≤ n) × (i ≤ find (isEndpoint address transfer-type) (endpointsAt (busOf bus) slot))
+Inv-loop bus slot address word at n first i₀ i = (i ≤ n) × (i ≤ find (eqb word) (endpointsAt (busOf bus) slot))
 
 abbrev μ-loop : tie.MeasureT-loop
-μ-loop bus slot address transfer-type at n first i₀ i = n - i
+μ-loop bus slot address word at n first i₀ i = n - i
 
 returns : tie.Need-returns Inv-loop μ-loop
 returns c = search search-here
@@ -28,6 +28,7 @@ has-endpoint-spec =
     (tie.spec
     Inv-loop
     μ-loop
+    (λ c κs. search needs)
     (λ c. search needs)
     (λ c. search needs)
     (λ c. search needs)
@@ -38,7 +39,6 @@ has-endpoint-spec =
     (λ c. search needs)
     (λ c. search needs)
     (λ c. search needs)
-    (λ c κs. search needs)
     returns
     (λ c. search needs)
     (λ c. search needs)

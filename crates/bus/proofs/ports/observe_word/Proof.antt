@@ -1,16 +1,13 @@
-use Rattle.bus.proofs.Observing.{fresh-full, fresh-on, fresh-stale}
+use Rattle.bus.proofs.Observing.{fresh-full, fresh-on}
 use borrow.Author.Needs.{needs}
 use Rattle.bus.proofs.ports.observe_word.Statement.{statement}
 use Rattle.bus.proofs.ports.observe_word.Tie as tie
 
 returns : tie.Need-returns
-returns c = search fresh-stale
+returns c = search fresh-full
 
 returns-2 : tie.Need-returns-2
-returns-2 c = search fresh-full
-
-returns-3 : tie.Need-returns-3
-returns-3 c = search fresh-on
+returns-2 c = search fresh-on
 
 pub observe-word-spec : {M : Type 1} → statement M
 observe-word-spec =
@@ -23,6 +20,4 @@ observe-word-spec =
     (λ c. search needs)
     returns
     (λ c. search needs)
-    returns-2
-    (λ c. search needs)
-    returns-3)
+    returns-2)

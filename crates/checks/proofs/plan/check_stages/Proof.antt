@@ -1,7 +1,8 @@
 -- `checks::plan::check_stages` meets its contract: at each `return` the tests that led there walk the chain. Assumes nothing.
 use borrow.Author.Needs.{needs}
-use Rattle.chain.proofs.Chain.{chain}
+use Rattle.chain.proofs.Chain.{chain, takes, passes}
 use Rattle.checks.specs.Plan.{stagesChecked}
+use Rattle.checks.proofs.Answers.{status-through}
 use Rattle.checks.proofs.plan.check_stages.Statement.{statement}
 use Rattle.checks.proofs.plan.check_stages.Tie as tie
 
@@ -15,6 +16,7 @@ check-stages-spec =
     (λ c κs. search needs)
     (λ c. search chain depth 20)
     (λ c κs. search needs)
-    (λ c. search chain depth 20)
     (λ c κs. search needs)
-    (λ c. search chain depth 20))
+    (λ c. search (takes, passes, status-through) depth 20)
+    (λ c κs. search needs)
+    (λ c. search (takes, passes, status-through) depth 20))

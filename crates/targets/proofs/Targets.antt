@@ -1,0 +1,152 @@
+-- One law for each way out of the checks of a device and its endpoint: its premises are the facts in hand there. Assumes nothing.
+use Prim.Native.Nat.{ℕ}
+use mathlib.Core.Bool.{Bool, true, false, not, _&&_}
+use mathlib.Core.Path.{_≡_, refl, ap, sym, _∙_}
+use lib.Dec.{eqb}
+use Rattle.chain.proofs.Chain.{takes, passes, not-through}
+use Rattle.models.specs.Kinds.{isControl, isBulk, isPrepared, isConfigured}
+use Rattle.models.specs.Refusals.{rejected}
+use Rattle.models.specs.Requests.{sameDevice}
+use Rattle.models.specs.declared.DeviceId.{DeviceId}
+use Rattle.models.specs.declared.DeviceSnapshot.{DeviceSnapshot}
+use Rattle.models.specs.declared.OptionDevice.{OptionDevice}
+use Rattle.models.specs.declared.OptionDevice.the-variants as device
+use Rattle.models.specs.declared.OptionPorts.{OptionPorts}
+use Rattle.models.specs.declared.PortReading.{PortReading}
+use Rattle.models.specs.declared.Refusal.{Refusal}
+use Rattle.models.specs.declared.RequestMetadata.{RequestMetadata}
+use Rattle.models.specs.declared.TransferType.{TransferType}
+use Rattle.models.specs.declared.Verdict.{Verdict}
+use Rattle.models.specs.declared.Verdict.the-variants as verdict
+use Rattle.standards.specs.Ports.{portSpeed}
+use Rattle.bus.specs.Tables.{Bus, deviceAt, markAt}
+use Rattle.bus.specs.Ports.{VerdictTo, verdictTo, freshTo, freshPort}
+use Rattle.bus.specs.Endpoints.{hasEndpoint}
+use Rattle.bus.specs.declared.ports.PortChecked.{PortChecked}
+use Rattle.bus.specs.declared.ports.PortChecked.the-variants as checked
+use Rattle.targets.specs.Target.{refusedDevice, knownBy, knownDevice, preparedDevice, deviceTo, freshDevice, checkDeviceBy, checkDevice, speedChecked, endpointBy, checkEndpoint, checkTargetBy, checkTarget}
+use Rattle.targets.specs.declared.target.DeviceChecked.{DeviceChecked}
+use Rattle.targets.specs.declared.target.DeviceChecked.the-variants as answer
+
+-- 26, 27, 28: m is the slot's mark
+module _ (i : Bool) (id : DeviceId) (b : Bus) (m : Bool) (em : m ≡ markAt b (id .slot)) where
+  pub known-marked : (r : DeviceChecked) → m ≡ true → r ≡ refusedDevice 26 → r ≡ knownDevice i id b
+  unfolding knownDevice
+  known-marked r e er = takes DeviceChecked _ _ _ _ (sym em ∙ e) er
+
+  module _ (clear : m ≡ false) (found : OptionDevice) (ef : found ≡ deviceAt b (id .slot)) where
+    known-on : (o : OptionDevice) (r : DeviceChecked) → found ≡ o → r ≡ knownBy o i id → r ≡ knownDevice i id b
+    unfolding knownDevice
+    known-on o r e er = passes DeviceChecked _ _ _ _ (sym em ∙ clear) (er ∙ ap (λ (x : OptionDevice). knownBy x i id) (sym e ∙ ef))
+
+    pub known-absent : (r : DeviceChecked) → found ≡ device.None → r ≡ refusedDevice 27 → r ≡ knownDevice i id b
+    unfolding knownBy
+    known-absent r e er = known-on device.None r e er
+
+    module _ (d : DeviceSnapshot) (ed : found ≡ device.Some d) (same : Bool) (es : same ≡ sameDevice (d .id) id) where
+      pub known-other : (r : DeviceChecked) → not same ≡ true → r ≡ refusedDevice 27 → r ≡ knownDevice i id b
+      unfolding knownBy
+      known-other r e er = known-on (device.Some d) r ed (takes DeviceChecked _ _ _ _ (not-through same _ true es e) er)
+
+      module _ (own : not same ≡ false) where
+        pub known-early : (r : DeviceChecked) → not i ≡ true → r ≡ refusedDevice 28 → r ≡ knownDevice i id b
+        unfolding knownBy
+        known-early r e er =
+            known-on (device.Some d) r ed (passes DeviceChecked _ _ _ _ (not-through same _ false es own) (takes DeviceChecked _ _ _ _ e er))
+
+        pub known-ready : not i ≡ false → answer.Ready d ≡ knownDevice i id b
+        unfolding knownBy
+        known-ready e =
+            known-on (device.Some d) (answer.Ready d) ed
+            (passes DeviceChecked _ _ _ _ (not-through same _ false es own) (passes DeviceChecked _ _ _ _ e refl))
+
+-- 35
+module _ (p : PortChecked) (d : DeviceSnapshot) where
+  pub prepared-refused : (r : Refusal) → p ≡ checked.Refused r → answer.Refused r ≡ preparedDevice p d
+  unfolding preparedDevice
+  prepared-refused r e = rw e
+
+  module _ (raw : ℕ) (ep : p ≡ checked.Read raw) (t : Bool) (et : t ≡ isPrepared (d .state)) where
+    pub prepared-early : (r : DeviceChecked) → not t ≡ true → r ≡ refusedDevice 35 → r ≡ preparedDevice p d
+    unfolding preparedDevice
+    prepared-early r e er = rw ep (takes DeviceChecked _ _ _ _ (not-through t _ true et e) er)
+
+    pub prepared-ready : not t ≡ false → answer.Ready d ≡ preparedDevice p d
+    unfolding preparedDevice
+    prepared-ready e = rw ep (passes DeviceChecked _ _ _ _ (not-through t _ false et e) refl)
+
+-- the port's reading, then 35
+pub fresh-is : (o : OptionPorts) (d : DeviceSnapshot) (reading : PortReading) (b after : Bus) (p : PortChecked) (r : DeviceChecked)
+    → freshTo p after ≡ freshPort o (d .port) reading b → r ≡ preparedDevice p d → deviceTo r after ≡ freshDevice o d reading b
+unfolding freshDevice
+fresh-is o d reading b after p r e er = rw (er, ← e)
+
+-- 26 to 35
+module _ (i : Bool) (o : OptionPorts) (id : DeviceId) (reading : PortReading) (b : Bus) (k : DeviceChecked) (ek : k ≡ knownDevice i id b) where
+  pub device-refused : (r : Refusal) → k ≡ answer.Refused r → deviceTo (answer.Refused r) b ≡ checkDevice i o id reading b
+  unfolding checkDevice checkDeviceBy
+  device-refused r e = rw (← ek, e)
+
+  pub device-fresh : (d : DeviceSnapshot) (r : DeviceChecked) (after : Bus) → k ≡ answer.Ready d → deviceTo r after ≡ freshDevice o d reading b
+      → deviceTo r after ≡ checkDevice i o id reading b
+  unfolding checkDevice checkDeviceBy
+  device-fresh d r after e er = er ∙ rw (← ek, e)
+
+-- 37 and 38
+module _ (raw slot endpoint : ℕ) (type : TransferType) (b : Bus) (speed : ℕ) (bulk : Bool) (es : speed ≡ portSpeed raw) (eb : bulk ≡ isBulk type) where
+  pub speed-two : (r : Verdict) → (eqb speed 2 && bulk) ≡ true → r ≡ rejected 37 → r ≡ speedChecked raw slot endpoint type b
+  unfolding speedChecked
+  speed-two r e er = takes Verdict _ _ _ _ (rw (es, eb) at e) er
+
+  module _ (other : (eqb speed 2 && bulk) ≡ false) (t : Bool) (et : t ≡ hasEndpoint slot endpoint type b) where
+    pub speed-absent : (r : Verdict) → not t ≡ true → r ≡ rejected 38 → r ≡ speedChecked raw slot endpoint type b
+    unfolding speedChecked
+    speed-absent r e er = passes Verdict _ _ _ _ (rw (es, eb) at other) (takes Verdict _ _ _ _ (not-through t _ true et e) er)
+
+    pub speed-pass : not t ≡ false → verdict.Pass ≡ speedChecked raw slot endpoint type b
+    unfolding speedChecked
+    speed-pass e = passes Verdict _ _ _ _ (rw (es, eb) at other) (passes Verdict _ _ _ _ (not-through t _ false et e) refl)
+
+-- the second reading, then 37 and 38
+module _ (p : PortChecked) (m : RequestMetadata) (b : Bus) where
+  pub read-refused : (r : Refusal) → p ≡ checked.Refused r → verdict.Refused r ≡ endpointBy p m b
+  unfolding endpointBy
+  read-refused r e = rw e
+
+  pub read-on : (raw : ℕ) (r : Verdict) → p ≡ checked.Read raw → r ≡ speedChecked raw (m .device .slot) (m .endpoint) (m .«transfer_type») b
+      → r ≡ endpointBy p m b
+  unfolding endpointBy
+  read-on raw r e er = er ∙ rw e
+
+-- 36, then the second reading
+module _ (o : OptionPorts) (d : DeviceSnapshot) (m : RequestMetadata) (reading : PortReading) (b : Bus) (t : Bool) (et : t ≡ isConfigured (d .state)) where
+  pub endpoint-early : (r : Verdict) → not t ≡ true → r ≡ rejected 36 → verdictTo r b ≡ checkEndpoint o d m reading b
+  unfolding checkEndpoint
+  endpoint-early r e er = takes VerdictTo _ _ _ _ (not-through t _ true et e) (rw er)
+
+  pub endpoint-read : (p : PortChecked) (after : Bus) (r : Verdict) → not t ≡ false → freshTo p after ≡ freshPort o (d .port) reading b
+      → r ≡ endpointBy p m after → verdictTo r after ≡ checkEndpoint o d m reading b
+  unfolding checkEndpoint
+  endpoint-read p after r e ef er = passes VerdictTo _ _ _ _ (not-through t _ false et e) (rw (er, ← ef))
+
+-- what follows the device's check
+module _ (k : DeviceChecked) (o : OptionPorts) (m : RequestMetadata) (second : PortReading) (b : Bus) where
+  pub after-refused : (r : Refusal) → k ≡ answer.Refused r → verdictTo (verdict.Refused r) b ≡ checkTargetBy k o m second b
+  unfolding checkTargetBy
+  after-refused r e = rw e
+
+  module _ (d : DeviceSnapshot) (ek : k ≡ answer.Ready d) (t : Bool) (et : t ≡ isControl (m .«transfer_type»)) where
+    pub after-control : t ≡ true → verdictTo verdict.Pass b ≡ checkTargetBy k o m second b
+    unfolding checkTargetBy
+    after-control e = rw ek (takes VerdictTo _ _ _ _ (sym et ∙ e) refl)
+
+    pub after-other : (r : Verdict) (after : Bus) → t ≡ false → verdictTo r after ≡ checkEndpoint o d m second b
+        → verdictTo r after ≡ checkTargetBy k o m second b
+    unfolding checkTargetBy
+    after-other r after e er = rw ek (passes VerdictTo _ _ _ _ (sym et ∙ e) er)
+
+pub target-is : (i : Bool) (o : OptionPorts) (m : RequestMetadata) (first second : PortReading) (b middle after : Bus) (k : DeviceChecked) (r : Verdict)
+    → deviceTo k middle ≡ checkDevice i o (m .device) first b → verdictTo r after ≡ checkTargetBy k o m second middle
+    → verdictTo r after ≡ checkTarget i o m first second b
+unfolding checkTarget
+target-is i o m first second b middle after k r e er = er ∙ rw (← e)

@@ -1,0 +1,92 @@
+-- The places device and not control of document 01's table, in their order. Assumes nothing.
+use Prim.Native.Nat.{ℕ}
+use mathlib.Core.Bool.{Bool, not, _&&_}
+use lib.Dec.{eqb}
+use Rattle.chain.specs.Chain.{_if_else_}
+use Rattle.models.specs.Kinds.{isControl, isBulk, isPrepared, isConfigured}
+use Rattle.models.specs.Refusals.{refusalOf, rejected}
+use Rattle.models.specs.Requests.{sameDevice}
+use Rattle.models.specs.declared.DeviceId.{DeviceId}
+use Rattle.models.specs.declared.DeviceSnapshot.{DeviceSnapshot}
+use Rattle.models.specs.declared.OptionDevice.{OptionDevice}
+use Rattle.models.specs.declared.OptionDevice.the-variants as device
+use Rattle.models.specs.declared.OptionPorts.{OptionPorts}
+use Rattle.models.specs.declared.PortReading.{PortReading}
+use Rattle.models.specs.declared.RequestMetadata.{RequestMetadata}
+use Rattle.models.specs.declared.TransferType.{TransferType}
+use Rattle.models.specs.declared.Verdict.{Verdict}
+use Rattle.models.specs.declared.Verdict.the-variants as verdict
+use Rattle.standards.specs.Ports.{portSpeed}
+use Rattle.bus.specs.Tables.{Bus, deviceAt, markAt}
+use Rattle.bus.specs.Ports.{VerdictTo, verdictTo, freshPort}
+use Rattle.bus.specs.Endpoints.{hasEndpoint}
+use Rattle.bus.specs.declared.ports.PortChecked.{PortChecked}
+use Rattle.bus.specs.declared.ports.PortChecked.the-variants as checked
+use Rattle.targets.specs.declared.target.DeviceChecked.{DeviceChecked}
+use Rattle.targets.specs.declared.target.DeviceChecked.the-variants as answer
+
+abbrev pub refusedDevice : ℕ → DeviceChecked
+refusedDevice n = answer.Refused (refusalOf n)
+
+-- 27 unknown or stale; 28 not Initialized
+unfoldable pub knownBy : OptionDevice → Bool → DeviceId → DeviceChecked
+knownBy device.None initialized id = refusedDevice 27
+knownBy (device.Some d) initialized id =
+    refusedDevice 27 if not (sameDevice (d .id) id) else
+    refusedDevice 28 if not initialized else
+    answer.Ready d
+
+-- 26 raw mark
+unfoldable pub knownDevice : Bool → DeviceId → Bus → DeviceChecked
+knownDevice initialized id b = refusedDevice 26 if markAt b (id .slot) else knownBy (deviceAt b (id .slot)) initialized id
+
+-- 35 not DefaultAddress, Addressed or Configured
+unfoldable pub preparedDevice : PortChecked → DeviceSnapshot → DeviceChecked
+preparedDevice (checked.Refused r) d = answer.Refused r
+preparedDevice (checked.Read raw) d = refusedDevice 35 if not (isPrepared (d .state)) else answer.Ready d
+
+-- a device's check and the bus after it
+pub record DeviceTo : Type 0 where
+  pub answer : DeviceChecked
+  pub bus : Bus
+
+abbrev pub deviceTo : DeviceChecked → Bus → DeviceTo
+deviceTo c b = record { answer = c; bus = b }
+
+-- 29 to 34 and 31 again are the port's; whatever was read stays written
+unfoldable pub freshDevice : OptionPorts → DeviceSnapshot → PortReading → Bus → DeviceTo
+freshDevice ports d reading b =
+    deviceTo (preparedDevice (freshPort ports (d .port) reading b .answer) d) (freshPort ports (d .port) reading b .bus)
+
+unfoldable pub checkDeviceBy : DeviceChecked → OptionPorts → PortReading → Bus → DeviceTo
+checkDeviceBy (answer.Refused r) ports reading b = deviceTo (answer.Refused r) b
+checkDeviceBy (answer.Ready d) ports reading b = freshDevice ports d reading b
+
+unfoldable pub checkDevice : Bool → OptionPorts → DeviceId → PortReading → Bus → DeviceTo
+checkDevice initialized ports id reading b = checkDeviceBy (knownDevice initialized id b) ports reading b
+
+-- 37U speed 2 and bulk; 38 endpoint and type not placed
+unfoldable pub speedChecked : ℕ → ℕ → ℕ → TransferType → Bus → Verdict
+speedChecked raw slot endpoint type b =
+    rejected 37 if eqb (portSpeed raw) 2 && isBulk type else
+    rejected 38 if not (hasEndpoint slot endpoint type b) else
+    verdict.Pass
+
+unfoldable pub endpointBy : PortChecked → RequestMetadata → Bus → Verdict
+endpointBy (checked.Refused r) m b = verdict.Refused r
+endpointBy (checked.Read raw) m b = speedChecked raw (m .device .slot) (m .endpoint) (m .«transfer_type») b
+
+-- 36 not Configured; the second reading: 33, 34, 31
+unfoldable pub checkEndpoint : OptionPorts → DeviceSnapshot → RequestMetadata → PortReading → Bus → VerdictTo
+checkEndpoint ports d m reading b =
+    verdictTo (rejected 36) b if not (isConfigured (d .state)) else
+    verdictTo (endpointBy (freshPort ports (d .port) reading b .answer) m (freshPort ports (d .port) reading b .bus)) (freshPort ports (d .port) reading b .bus)
+
+unfoldable pub checkTargetBy : DeviceChecked → OptionPorts → RequestMetadata → PortReading → Bus → VerdictTo
+checkTargetBy (answer.Refused r) ports m second b = verdictTo (verdict.Refused r) b
+checkTargetBy (answer.Ready d) ports m second b = verdictTo verdict.Pass b if isControl (m .«transfer_type») else checkEndpoint ports d m second b
+
+-- one reading for control, two otherwise
+unfoldable pub checkTarget : Bool → OptionPorts → RequestMetadata → PortReading → PortReading → Bus → VerdictTo
+checkTarget initialized ports m first second b =
+    checkTargetBy (checkDevice initialized ports (m .device) first b .answer) ports m second (checkDevice initialized ports (m .device) first b .bus)

@@ -1,0 +1,209 @@
+// The places device and not control of the table: the Rust's `prepared_device`, and what follows it for an endpoint other than 0.
+use bus::devices;
+use bus::endpoints;
+use bus::ports::PortChecked;
+use bus::ports::fresh_port;
+use models::DeviceId;
+use models::DeviceSnapshot;
+use models::OptionDevice;
+use models::OptionPorts;
+use models::PortReading;
+use models::Refusal;
+use models::RequestMetadata;
+use models::TransferType;
+use models::Verdict;
+use models::kinds;
+use models::reject;
+use standards::ports::port_speed;
+ghost use mathlib.Core.Path.{_≡_};
+ghost use lib.ListN.{length};
+ghost use Rattle.bus.specs.Layout.{busWords};
+ghost use Rattle.bus.specs.Tables.{busOf};
+ghost use Rattle.bus.specs.Ports.{verdictTo};
+ghost use Rattle.targets.specs.Target.{refusedDevice, knownDevice, preparedDevice, deviceTo, freshDevice, checkDevice, speedChecked, endpointBy, checkEndpoint, checkTargetBy, checkTarget};
+
+// A device that may take a request, or the refusal.
+pub enum DeviceChecked {
+    Refused(Refusal),
+    Ready(DeviceSnapshot),
+}
+
+fn refuse_device(number: u16) -> DeviceChecked
+    ensures { λ r. ⌜ r ≡ refusedDevice number ⌝ }
+{
+    DeviceChecked::Refused(models::refuse(number))
+}
+
+// 26, 27, 28.
+fn known_device(bus: &[u64], initialized: bool, id: DeviceId) -> DeviceChecked
+    requires { ⌜ length (now bus) ≡ busWords ⌝ }
+    ensures { λ r. ⌜ r ≡ knownDevice initialized id (busOf (now (bus .entry))) ⌝ }
+{
+    let marked = devices::needs_reconcile(bus, id.slot);
+    if marked {
+        return refuse_device(26);
+    }
+    let found = devices::read_device(bus, id.slot);
+    let OptionDevice::Some(device) = found else {
+        return refuse_device(27);
+    };
+    let own = device.id;
+    let same = models::same_device(own, id);
+    if !same {
+        return refuse_device(27);
+    }
+    if !initialized {
+        return refuse_device(28);
+    }
+    DeviceChecked::Ready(device)
+}
+
+// 35, once the port has a fresh reading.
+fn prepared_device(port: PortChecked, device: DeviceSnapshot) -> DeviceChecked
+    ensures { λ r. ⌜ r ≡ preparedDevice port device ⌝ }
+{
+    match port {
+        PortChecked::Refused(refusal) => DeviceChecked::Refused(refusal),
+        PortChecked::Read(_) => {
+            let state = device.state;
+            let prepared = kinds::is_prepared(state);
+            if !prepared {
+                return refuse_device(35);
+            }
+            DeviceChecked::Ready(device)
+        }
+    }
+}
+
+// The port's reading, 29 to 34 and 31 again, then 35.
+fn fresh_device(
+    bus: &mut [u64],
+    ports: OptionPorts,
+    device: DeviceSnapshot,
+    reading: PortReading,
+) -> DeviceChecked
+    requires { ⌜ length (now bus) ≡ busWords ⌝ }
+    ensures { λ r. ⌜ deviceTo r (busOf (now (bus .exit))) ≡ freshDevice ports device reading (busOf (now (bus .entry))) ⌝ }
+{
+    let id = device.port;
+    let port = fresh_port(bus, ports, id, reading);
+    prepared_device(port, device)
+}
+
+// 26 to 35. What was read before a refusal stays written.
+pub fn check_device(
+    bus: &mut [u64],
+    initialized: bool,
+    ports: OptionPorts,
+    id: DeviceId,
+    reading: PortReading,
+) -> DeviceChecked
+    requires { ⌜ length (now bus) ≡ busWords ⌝ }
+    ensures { λ r. ⌜ deviceTo r (busOf (now (bus .exit))) ≡ checkDevice initialized ports id reading (busOf (now (bus .entry))) ⌝ }
+{
+    let known = known_device(bus, initialized, id);
+    match known {
+        DeviceChecked::Refused(refusal) => DeviceChecked::Refused(refusal),
+        DeviceChecked::Ready(device) => fresh_device(bus, ports, device, reading),
+    }
+}
+
+// 37 and 38, by the second reading.
+fn check_speed(
+    bus: &[u64],
+    raw: u32,
+    slot: u8,
+    endpoint: u8,
+    transfer_type: TransferType,
+) -> Verdict
+    requires { ⌜ length (now bus) ≡ busWords ⌝ }
+    ensures { λ r. ⌜ r ≡ speedChecked raw slot endpoint «transfer_type» (busOf (now (bus .entry))) ⌝ }
+{
+    let speed = port_speed(raw);
+    let bulk = kinds::is_bulk(transfer_type);
+    if (speed == 2) & bulk {
+        return reject(37);
+    }
+    let placed = endpoints::has_endpoint(bus, slot, endpoint, transfer_type);
+    if !placed {
+        return reject(38);
+    }
+    Verdict::Pass
+}
+
+// The second reading's refusal, or 37 and 38.
+fn check_read(bus: &[u64], port: PortChecked, metadata: RequestMetadata) -> Verdict
+    requires { ⌜ length (now bus) ≡ busWords ⌝ }
+    ensures { λ r. ⌜ r ≡ endpointBy port metadata (busOf (now (bus .entry))) ⌝ }
+{
+    match port {
+        PortChecked::Refused(refusal) => Verdict::Refused(refusal),
+        PortChecked::Read(raw) => {
+            let device = metadata.device;
+            let transfer_type = metadata.transfer_type;
+            check_speed(bus, raw, device.slot, metadata.endpoint, transfer_type)
+        }
+    }
+}
+
+// 36, the second reading (33, 34, 31), 37, 38.
+pub fn check_endpoint(
+    bus: &mut [u64],
+    ports: OptionPorts,
+    device: DeviceSnapshot,
+    metadata: RequestMetadata,
+    reading: PortReading,
+) -> Verdict
+    requires { ⌜ length (now bus) ≡ busWords ⌝ }
+    ensures { λ r. ⌜ verdictTo r (busOf (now (bus .exit))) ≡ checkEndpoint ports device metadata reading (busOf (now (bus .entry))) ⌝ }
+{
+    let state = device.state;
+    let configured = kinds::is_configured(state);
+    if !configured {
+        return reject(36);
+    }
+    let id = device.port;
+    let port = fresh_port(bus, ports, id, reading);
+    check_read(bus, port, metadata)
+}
+
+// What follows the device's check; the second reading is taken only for a request that is not control.
+fn check_after(
+    bus: &mut [u64],
+    checked: DeviceChecked,
+    ports: OptionPorts,
+    metadata: RequestMetadata,
+    second: PortReading,
+) -> Verdict
+    requires { ⌜ length (now bus) ≡ busWords ⌝ }
+    ensures { λ r. ⌜ verdictTo r (busOf (now (bus .exit))) ≡ checkTargetBy checked ports metadata second (busOf (now (bus .entry))) ⌝ }
+{
+    match checked {
+        DeviceChecked::Refused(refusal) => Verdict::Refused(refusal),
+        DeviceChecked::Ready(device) => {
+            let transfer_type = metadata.transfer_type;
+            let control = kinds::is_control(transfer_type);
+            if control {
+                return Verdict::Pass;
+            }
+            check_endpoint(bus, ports, device, metadata, second)
+        }
+    }
+}
+
+// The device, and for a request that is not control its endpoint.
+pub fn check_target(
+    bus: &mut [u64],
+    initialized: bool,
+    ports: OptionPorts,
+    metadata: RequestMetadata,
+    first: PortReading,
+    second: PortReading,
+) -> Verdict
+    requires { ⌜ length (now bus) ≡ busWords ⌝ }
+    ensures { λ r. ⌜ verdictTo r (busOf (now (bus .exit))) ≡ checkTarget initialized ports metadata first second (busOf (now (bus .entry))) ⌝ }
+{
+    let id = metadata.device;
+    let checked = check_device(bus, initialized, ports, id, first);
+    check_after(bus, checked, ports, metadata, second)
+}
