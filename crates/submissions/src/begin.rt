@@ -2,8 +2,6 @@
 // submission changes rows and area.
 use chain::Found;
 use checks::target;
-use ledger::rules;
-use ledger::rules::Spent;
 use ledger::search;
 use ledger::tally;
 use models::PortReading;
@@ -12,6 +10,7 @@ use models::RequestId;
 use models::RequestMetadata;
 use models::Verdict;
 use models::kinds;
+use rules::Spent;
 use session::Session;
 use words::slices;
 ghost use mathlib.Core.Path.{_≡_};
