@@ -5,8 +5,8 @@ use mathlib.Core.Bool.{Bool, _&&_}
 use mathlib.Core.List.{List}
 use lib.ListN.{length}
 use Rattle.rows.specs.Store.{Store}
-use Rattle.ledger.specs.declared.rules.Change.{Change}
-use Rattle.ledger.specs.declared.rules.Change.the-variants as change
+use Rattle.rules.specs.declared.Change.{Change}
+use Rattle.rules.specs.declared.Change.the-variants as change
 use Rattle.bus.specs.Tables.{Bus}
 use Rattle.bus.specs.Ports.{VerdictTo}
 use Rattle.models.specs.declared.RequestId.{RequestId}

@@ -6,8 +6,8 @@ use lib.ListN.{length}
 use Rattle.chain.proofs.Chain.{chain}
 use Rattle.models.specs.declared.RequestId.{RequestId}
 use Rattle.rows.specs.Store.{storeOf}
-use Rattle.ledger.specs.declared.rules.Change.{Change}
-use Rattle.ledger.specs.declared.rules.Change.the-variants as change
+use Rattle.rules.specs.declared.Change.{Change}
+use Rattle.rules.specs.declared.Change.the-variants as change
 use Rattle.session.specs.Sizes.{rowsFit}
 use Rattle.session.specs.declared.Session.{Session}
 use Rattle.reports.specs.Answers.{reportedTo}

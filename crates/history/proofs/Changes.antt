@@ -20,7 +20,7 @@ use Rattle.models.specs.declared.RequestState.the-variants.{Pending, Completed,
 use Rattle.rows.specs.Table.{emptyRow, isHeld}
 use Rattle.rows.specs.declared.Row.{Row}
 use Rattle.ledger.specs.Search.{isAt}
-use Rattle.ledger.specs.Rules.{pendingRow, withState, flagged}
+use Rattle.rules.specs.Rules.{pendingRow, withState, flagged}
 use Rattle.history.specs.Journal.{Entry, isNone, isOpen, isEntry, entryOf, release, markFailed, withToken, newEntry, View, entryView}
 use Rattle.history.specs.Claim.{rowView}
 use Rattle.history.proofs.Led.{rowW, entryW, each, long, twice, Led, Changed, Alike, row-none, unheld-row, free-held, free-at, empty-free}

@@ -28,7 +28,7 @@ use Rattle.recovery.specs.declared.BeginAnswer.{BeginAnswer}
 use Rattle.recovery.specs.declared.BeginAnswer.the-variants as begin
 use Rattle.recovery.specs.declared.RecoveryAnswer.{RecoveryAnswer}
 use Rattle.recovery.specs.declared.RecoveryAnswer.the-variants as recovery
-use Rattle.ledger.specs.declared.rules.Change.the-variants as change
+use Rattle.rules.specs.declared.Change.the-variants as change
 use Rattle.checks.specs.Completion.{testCompletion}
 use Rattle.checks.specs.Plan.{stageOf}
 use Rattle.checks.specs.declared.completion.CompletionTest.{CompletionTest}

@@ -39,13 +39,13 @@ use Rattle.rows.specs.Store.{Store}
 use Rattle.rows.specs.Table.{emptyRow}
 use Rattle.rows.specs.declared.Row.{Row}
 use Rattle.ledger.specs.Apply.{applyBy, applyAt, applyOf}
-use Rattle.ledger.specs.Rules.{spendSequence, moved, freed, pendingFlags, accepted, logicalCancelBy, logicalCancel, timeOutBy, timeOut, completedBy, completed, failedBy, failed, abortConfirmed, reclaimed, changeRow}
+use Rattle.rules.specs.Rules.{spendSequence, moved, freed, accepted, whilePending, logicalCancel, timeOut, completed, failed, abortConfirmed, reclaimed, changeRow, flagged, withState}
 use Rattle.ledger.specs.Search.{isAt}
-use Rattle.ledger.specs.declared.rules.Change.{Change}
-use Rattle.ledger.specs.declared.rules.Change.the-variants as change
-use Rattle.ledger.specs.declared.rules.Spent.{Spent}
-use Rattle.ledger.specs.declared.rules.Step.{Step}
-use Rattle.ledger.specs.declared.rules.Step.the-variants as step
+use Rattle.rules.specs.declared.Change.{Change}
+use Rattle.rules.specs.declared.Change.the-variants as change
+use Rattle.rules.specs.declared.Spent.{Spent}
+use Rattle.rules.specs.declared.Step.{Step}
+use Rattle.rules.specs.declared.Step.the-variants as step
 use Rattle.bus.specs.Tables.{Bus, deviceAt, portAt}
 use Rattle.bus.specs.Ports as bus
 use Rattle.bus.specs.Endpoints as lists
@@ -145,33 +145,33 @@ OtherStep (step.To q x) = Unit {0}
 
 -- the ledger's 41, 42, 43
 other-step : (r : Row) (c : Change) → OtherStep (changeRow r c)
-unfolding changeRow accepted moved freed logicalCancel logicalCancelBy timeOut timeOutBy completed completedBy failed failedBy abortConfirmed reclaimed
+unfolding changeRow accepted moved freed logicalCancel whilePending timeOut completed failed abortConfirmed reclaimed
 other-step r (change.Accept token) = tt
 other-step r change.Discard = tt
 other-step r change.LogicalCancel = go (r .state)
   where
-    go : (x : RequestState) → OtherStep (logicalCancelBy (pendingFlags x) r)
+    go : (x : RequestState) → OtherStep (whilePending x (λ cancel late. flagged r true late true (r .«timed_out»)))
     go (Pending a b) = tt
     go (Completed a b c) = refl
     go (Failed a b c) = refl
     go Aborted = refl
 other-step r change.Timeout = go (r .state)
   where
-    go : (x : RequestState) → OtherStep (timeOutBy (pendingFlags x) r)
+    go : (x : RequestState) → OtherStep (whilePending x (λ cancel late. flagged r cancel true (r .«logical_cancel») true))
     go (Pending a b) = tt
     go (Completed a b c) = refl
     go (Failed a b c) = refl
     go Aborted = refl
 other-step r (change.Complete actual code) = go (r .state)
   where
-    go : (x : RequestState) → OtherStep (completedBy (pendingFlags x) r actual code)
+    go : (x : RequestState) → OtherStep (whilePending x (λ cancel late. withState r (Completed actual code cancel)))
     go (Pending a b) = tt
     go (Completed a b c) = refl
     go (Failed a b c) = refl
     go Aborted = refl
 other-step r (change.Fail e code quiescent) = go (r .state)
   where
-    go : (x : RequestState) → OtherStep (failedBy (pendingFlags x) r e code quiescent)
+    go : (x : RequestState) → OtherStep (whilePending x (λ cancel late. withState r (Failed e code quiescent)))
     go (Pending a b) = tt
     go (Completed a b c) = refl
     go (Failed a b c) = refl

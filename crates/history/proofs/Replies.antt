@@ -23,10 +23,10 @@ use Rattle.rows.specs.Store.{Store, putIn}
 use Rattle.rows.specs.Table.{emptyRow, isHeld}
 use Rattle.rows.specs.declared.Row.{Row}
 use Rattle.ledger.specs.Apply.{applyBy, applyAt, applyOf}
-use Rattle.ledger.specs.Rules.{moved, freed, withState, pendingFlags, accepted, completedBy, completed, failedBy, failed, changeRow}
+use Rattle.rules.specs.Rules.{moved, freed, withState, accepted, whilePending, completed, failed, changeRow}
 use Rattle.ledger.specs.Search.{isAt}
-use Rattle.ledger.specs.declared.rules.Change.the-variants as change
-use Rattle.ledger.specs.declared.rules.Step.{Step}
+use Rattle.rules.specs.declared.Change.the-variants as change
+use Rattle.rules.specs.declared.Step.{Step}
 use Rattle.ledger.proofs.Placing.{found-row}
 use Rattle.checks.specs.Completion.{testCompletion}
 use Rattle.checks.specs.declared.completion.CompletionTest.{CompletionTest}
@@ -132,10 +132,10 @@ module _ (s : Session) (j : Journal) (seen : List ℕ) (store : Store) (k : Inv 
 
 -- ---- what a completion makes of a Pending row
 complete-to : (r : Row) (actual code : ℕ) → isPending (r .state) ≡ true → (c : Bool) × (changeRow r (change.Complete actual code) ≡ moved (withState r (Completed actual code c)))
-unfolding changeRow completed completedBy
+unfolding changeRow completed whilePending
 complete-to r actual code = go (r .state)
   where
-    go : (s : RequestState) → isPending s ≡ true → (c : Bool) × (completedBy (pendingFlags s) r actual code ≡ moved (withState r (Completed actual code c)))
+    go : (s : RequestState) → isPending s ≡ true → (c : Bool) × (whilePending s (λ cancel late. withState r (Completed actual code cancel)) ≡ moved (withState r (Completed actual code c)))
     go (Pending cancel late) e = (cancel, refl)
     go (Completed a b c) e = absurd (false≢true e)
     go (Failed a b c) e = absurd (false≢true e)
@@ -143,10 +143,10 @@ complete-to r actual code = go (r .state)
 
 fail-to : (r : Row) (x : OperationError) (code : OptionU32) (quiescent : Bool) → isPending (r .state) ≡ true
     → changeRow r (change.Fail x code quiescent) ≡ moved (withState r (Failed x code quiescent))
-unfolding changeRow failed failedBy
+unfolding changeRow failed whilePending
 fail-to r x code quiescent = go (r .state)
   where
-    go : (s : RequestState) → isPending s ≡ true → failedBy (pendingFlags s) r x code quiescent ≡ moved (withState r (Failed x code quiescent))
+    go : (s : RequestState) → isPending s ≡ true → whilePending s (λ cancel late. withState r (Failed x code quiescent)) ≡ moved (withState r (Failed x code quiescent))
     go (Pending cancel late) e = refl
     go (Completed a b c) e = absurd (false≢true e)
     go (Failed a b c) e = absurd (false≢true e)

@@ -26,8 +26,8 @@ use Rattle.models.specs.declared.Verdict.the-variants as verdict
 use Rattle.rows.specs.Store.{Store, putIn}
 use Rattle.rows.specs.Table.{emptyRow, isHeld, rowIn, tokenIn}
 use Rattle.rows.specs.declared.Row.{Row}
-use Rattle.ledger.specs.Rules.{changeRow, completed, completedBy, abortConfirmed, moved, withState, pendingFlags, refusedBy}
-use Rattle.ledger.specs.declared.rules.Step.{Step}
+use Rattle.rules.specs.Rules.{changeRow, completed, whilePending, abortConfirmed, moved, withState, refusedBy}
+use Rattle.rules.specs.declared.Step.{Step}
 use Rattle.checks.specs.Completion.{hasError, codeTested, testCode, testLength, testCompletion}
 use Rattle.checks.specs.declared.completion.CompletionTest.{CompletionTest}
 use Rattle.checks.specs.declared.completion.CompletionTest.the-variants as test
@@ -94,10 +94,10 @@ SetBy verdict.Pass l m = m ≡ l
 
 module _ (store : Store) (i : ℕ) where
   row-set : (st : RequestState) (actual n at room : ℕ) (bytes area : List ℕ)
-      → SetBy (rowCompletedBy (completedBy (pendingFlags st) (rowIn (store .rows) i) actual n) i at room bytes store area .verdict)
+      → SetBy (rowCompletedBy (whilePending st (λ cancel late. withState (rowIn (store .rows) i) (Completed actual n cancel))) i at room bytes store area .verdict)
       (set (store .rows) i (withState (rowIn (store .rows) i) (Completed actual n (cancelledIn st))))
-      (rowCompletedBy (completedBy (pendingFlags st) (rowIn (store .rows) i) actual n) i at room bytes store area .store .rows)
-  unfolding rowCompletedBy completedBy moved putIn
+      (rowCompletedBy (whilePending st (λ cancel late. withState (rowIn (store .rows) i) (Completed actual n cancel))) i at room bytes store area .store .rows)
+  unfolding rowCompletedBy whilePending moved putIn
   row-set (Pending cancel late) actual n at room bytes area = refl
   row-set (Completed a b c) actual n at room bytes area = tt
   row-set (Failed a b c) actual n at room bytes area = tt

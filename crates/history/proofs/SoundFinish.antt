@@ -21,10 +21,10 @@ use Rattle.models.specs.declared.OptionError.{OptionError}
 use Rattle.models.specs.declared.OptionError.the-variants as error
 use Rattle.models.specs.declared.RequestId.{RequestId}
 use Rattle.rows.specs.declared.Row.{Row}
-use Rattle.ledger.specs.Rules.{changeRow}
+use Rattle.rules.specs.Rules.{changeRow}
 use Rattle.ledger.specs.Search.{isAt}
-use Rattle.ledger.specs.declared.rules.Step.{Step}
-use Rattle.ledger.specs.declared.rules.Step.the-variants as step
+use Rattle.rules.specs.declared.Step.{Step}
+use Rattle.rules.specs.declared.Step.the-variants as step
 use Rattle.ledger.proofs.Placing.{found-row}
 use Rattle.checks.specs.Completion.{hasError, codeTested, testCode, testLength, testCompletion}
 use Rattle.checks.specs.declared.completion.CompletionTest.{CompletionTest}

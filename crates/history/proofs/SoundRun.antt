@@ -10,7 +10,7 @@ use Rattle.chain.proofs.Chain.{if-by, both}
 use Rattle.rows.specs.Store.{storeOf, emptied}
 use Rattle.rows.specs.Table.{rowCount}
 use Rattle.rows.proofs.Placed.{length-rowsOf}
-use Rattle.ledger.specs.declared.rules.Change.the-variants as change
+use Rattle.rules.specs.declared.Change.the-variants as change
 use Rattle.bus.specs.Tables.{cleared}
 use Rattle.session.specs.Lifecycle.{OpenedTo, newSession, openOf}
 use Rattle.session.specs.Sizes.{sized, rowsFit, openFits}

@@ -22,12 +22,12 @@ use Rattle.rows.specs.Store.{Store, putIn, emptied}
 use Rattle.rows.specs.Table.{emptyRow}
 use Rattle.rows.specs.declared.Row.{Row}
 use Rattle.ledger.specs.Apply.{applyBy, applyAt, applyOf}
-use Rattle.ledger.specs.Rules.{moved, freed, pendingFlags, logicalCancelBy, logicalCancel, timeOutBy, timeOut, reclaimed, changeRow}
+use Rattle.rules.specs.Rules.{moved, freed, whilePending, logicalCancel, timeOut, reclaimed, changeRow, flagged}
 use Rattle.ledger.specs.Search.{isAt}
-use Rattle.ledger.specs.declared.rules.Change.{Change}
-use Rattle.ledger.specs.declared.rules.Change.the-variants as change
-use Rattle.ledger.specs.declared.rules.Step.{Step}
-use Rattle.ledger.specs.declared.rules.Step.the-variants as step
+use Rattle.rules.specs.declared.Change.{Change}
+use Rattle.rules.specs.declared.Change.the-variants as change
+use Rattle.rules.specs.declared.Step.{Step}
+use Rattle.rules.specs.declared.Step.the-variants as step
 use Rattle.ledger.proofs.Placing.{found-row}
 use Rattle.session.specs.Session.{isClosed, isBusy, marked}
 use Rattle.session.specs.Lifecycle.{CalledTo, acquiredBy, acquireOf, initializedBy, initializeOf, closedBy, freshBy, closeOf}
@@ -56,20 +56,20 @@ Stays r (step.Refused x) = Unit {0}
 Stays r (step.To next x) = Alike r next
 
 cancel-stays : (r : Row) → Stays r (changeRow r change.LogicalCancel)
-unfolding changeRow logicalCancel logicalCancelBy moved
+unfolding changeRow logicalCancel whilePending moved
 cancel-stays r = go (r .state) refl
   where
-    go : (s : RequestState) → r .state ≡ s → Stays r (logicalCancelBy (pendingFlags s) r)
+    go : (s : RequestState) → r .state ≡ s → Stays r (whilePending s (λ cancel late. flagged r true late true (r .«timed_out»)))
     go (Pending cancel late) e = flag-alike r true late true (r .«timed_out») (ap isPending e)
     go (Completed a b c) e = tt
     go (Failed a b c) e = tt
     go Aborted e = tt
 
 timeout-stays : (r : Row) → Stays r (changeRow r change.Timeout)
-unfolding changeRow timeOut timeOutBy moved
+unfolding changeRow timeOut whilePending moved
 timeout-stays r = go (r .state) refl
   where
-    go : (s : RequestState) → r .state ≡ s → Stays r (timeOutBy (pendingFlags s) r)
+    go : (s : RequestState) → r .state ≡ s → Stays r (whilePending s (λ cancel late. flagged r cancel true (r .«logical_cancel») true))
     go (Pending cancel late) e = flag-alike r cancel true (r .«logical_cancel») true (ap isPending e)
     go (Completed a b c) e = tt
     go (Failed a b c) e = tt

@@ -22,10 +22,10 @@ use Rattle.rows.specs.Store.{storeOf, emptied}
 use Rattle.rows.specs.Table.{emptyRow, isHeld}
 use Rattle.rows.specs.declared.Row.{Row}
 use Rattle.ledger.specs.Apply.{applyBy, applyAt, applyOf}
-use Rattle.ledger.specs.Rules.{reclaimed, changeRow}
+use Rattle.rules.specs.Rules.{reclaimed, changeRow}
 use Rattle.ledger.specs.Search.{isAt}
-use Rattle.ledger.specs.declared.rules.Change.the-variants as change
-use Rattle.ledger.specs.declared.rules.Step.{Step}
+use Rattle.rules.specs.declared.Change.the-variants as change
+use Rattle.rules.specs.declared.Step.{Step}
 use Rattle.ledger.proofs.Placing.{found-row}
 use Rattle.ledger.proofs.Saturated.{count-plain, bytes-plain}
 use Rattle.session.specs.Lifecycle.{OpenedTo, newSession, openOf}

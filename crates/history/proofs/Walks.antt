@@ -23,7 +23,7 @@ use Rattle.rows.specs.Store.{Store, putIn}
 use Rattle.rows.specs.Table.{emptyRow, isHeld, rowIn}
 use Rattle.rows.specs.declared.Row.{Row}
 use Rattle.ledger.specs.Search.{isAt}
-use Rattle.ledger.specs.Rules.{changeRow, completed, completedBy, abortConfirmed, moved, withState, pendingFlags}
+use Rattle.rules.specs.Rules.{changeRow, completed, whilePending, abortConfirmed, moved, withState}
 use Rattle.checks.specs.Completion.{testCompletion}
 use Rattle.checks.specs.declared.completion.CompletionTest.{CompletionTest}
 use Rattle.checks.specs.declared.completion.CompletionTest.the-variants as test
@@ -123,9 +123,9 @@ module _ (place : ℕ → ℕ) (view : ℕ → View) where
     row = rowIn (store .rows) (place t)
 
     valid-both : (actual n : ℕ) (st : RequestState) → deviceMayAccess st ≡ true
-        → TogetherTo (store .rows) entries t (rowCompletedBy (completedBy (pendingFlags st) row actual n) (place t) at room bytes store area)
+        → TogetherTo (store .rows) entries t (rowCompletedBy (whilePending st (λ cancel late. withState row (Completed actual n cancel))) (place t) at room bytes store area)
         (cond (isUncertainFailure st) (releasedTo true entries) (releasedTo false (atEntry (view t .id) release entries)))
-    unfolding rowCompletedBy completedBy moved putIn
+    unfolding rowCompletedBy whilePending moved putIn
     valid-both actual n (Pending cancel late) h = (Completed actual n cancel, refl, refl, refl)
     valid-both actual n (Completed x y z) h = absurd (false≢true h)
     valid-both actual n (Failed x y true) h = absurd (false≢true h)

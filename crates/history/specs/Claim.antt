@@ -19,7 +19,7 @@ use Rattle.models.specs.declared.RequestState.{RequestState}
 use Rattle.models.specs.declared.RequestState.the-variants.{Pending, Completed, Failed, Aborted}
 use Rattle.rows.specs.Table.{isHeld, rowIn, tokenIn}
 use Rattle.rows.specs.declared.Row.{Row}
-use Rattle.ledger.specs.Rules.{withState}
+use Rattle.rules.specs.Rules.{withState}
 use Rattle.ledger.specs.Search.{isAt}
 use Rattle.checks.specs.Completion.{hasError}
 use Rattle.reports.specs.declared.OptionId.{OptionId}

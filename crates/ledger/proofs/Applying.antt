@@ -13,12 +13,12 @@ use Rattle.rows.specs.Table.{emptyRow}
 use Rattle.rows.specs.Store.{Store, putIn}
 use Rattle.rows.specs.declared.Row.{Row}
 use Rattle.ledger.specs.Search.{isAt}
-use Rattle.ledger.specs.Rules.{changeRow}
+use Rattle.rules.specs.Rules.{changeRow}
 use Rattle.ledger.specs.Apply.{appliedTo, applyBy, applyAt, applyOf}
 use Rattle.ledger.specs.declared.Applied.the-variants as applied
-use Rattle.ledger.specs.declared.rules.Step.{Step}
-use Rattle.ledger.specs.declared.rules.Step.the-variants as step
-use Rattle.ledger.specs.declared.rules.Change.{Change}
+use Rattle.rules.specs.declared.Step.{Step}
+use Rattle.rules.specs.declared.Step.the-variants as step
+use Rattle.rules.specs.declared.Change.{Change}
 
 module _ (id : RequestId) (c : Change) (s : Store) (f : Found) (ef : f ≡ foundIn (isAt id) (s .rows)) where
   pub apply-none : (r : Refusal) → f ≡ Nothing → r ≡ refusalOf 40 → appliedTo (applied.Refused r) s ≡ applyOf id c s

@@ -9,7 +9,6 @@ ghost use mathlib.Core.Path.{_≡_};
 ghost use Rattle.rows.specs.Store.{storeOf};
 ghost use Rattle.ledger.specs.Apply.{appliedTo, applyOf};
 
-pub mod rules;
 pub mod search;
 pub mod tally;
 

@@ -11,7 +11,7 @@ ghost use Rattle.rows.specs.Table.{rowsOf, rowAt, isUncertain};
 ghost use Rattle.ledger.specs.Search.{isAt, isFree};
 
 // The row is a request with the whole id.
-pub fn is_at(row: Row, id: RequestId) -> bool
+fn is_at(row: Row, id: RequestId) -> bool
     ensures { λ r. ⌜ r ≡ isAt id row ⌝ }
 {
     let own = row.id;

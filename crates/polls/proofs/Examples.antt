@@ -18,7 +18,7 @@ use Rattle.models.specs.declared.RequestState.{RequestState}
 use Rattle.models.specs.declared.RequestState.the-variants.{Completed, Failed}
 use Rattle.models.specs.declared.TransferType.the-variants.{Bulk}
 use Rattle.rows.specs.Store.{putIn}
-use Rattle.ledger.specs.Rules.{pendingRow, moved, completedBy, completed, failedBy, failed, changeRow}
+use Rattle.rules.specs.Rules.{pendingRow, moved, whilePending, completed, failed, changeRow}
 use Rattle.ledger.specs.Search.{isAt}
 use Rattle.checks.specs.Completion.{codeTested, testCode, testLength, testCompletion}
 use Rattle.session.specs.Session.{withFlight}
@@ -67,10 +67,10 @@ after code bytes s words area =
 
 module _ (s : Session) (words area : List ℕ) where
   pub short-completes : after 13 [] s words area ≡ Completed 0 13 false ∷ []
-  unfolding finishOf finishIn finishFound finishBy finishAt settled judged judgedBy judgedTest testCompletion testLength testCode codeTested changeRow completed completedBy moved pendingRow putIn foundIn isAt _if_else_
+  unfolding finishOf finishIn finishFound finishBy finishAt settled judged judgedBy judgedTest testCompletion testLength testCode codeTested changeRow completed whilePending moved pendingRow putIn foundIn isAt _if_else_
   short-completes = refl
 
   -- not quiescent
   pub long-fails : after 1 (replicate 9 0) s words area ≡ Failed (invalidCompletion (u32.Some 1) .error) (u32.Some 1) false ∷ []
-  unfolding finishOf finishIn finishFound finishBy finishAt settled judged judgedBy judgedTest invalidAs testCompletion testLength testCode changeRow failed failedBy moved pendingRow putIn foundIn isAt _if_else_
+  unfolding finishOf finishIn finishFound finishBy finishAt settled judged judgedBy judgedTest invalidAs testCompletion testLength testCode changeRow failed whilePending moved pendingRow putIn foundIn isAt _if_else_
   long-fails = refl

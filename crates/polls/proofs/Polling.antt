@@ -15,7 +15,7 @@ use Rattle.models.specs.declared.RequestId.{RequestId}
 use Rattle.models.specs.declared.RequestReport.{RequestReport}
 use Rattle.rows.specs.Table.{emptyRow}
 use Rattle.rows.specs.declared.Row.{Row}
-use Rattle.ledger.specs.Rules.{reportOf}
+use Rattle.rules.specs.Rules.{reportOf}
 use Rattle.ledger.specs.Search.{isAt}
 use Rattle.session.specs.Session.{isBusy, isInitialized, withFlight}
 use Rattle.session.specs.declared.InFlight.the-variants as flight

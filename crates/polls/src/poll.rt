@@ -2,7 +2,6 @@
 use crate::PollAnswer;
 use crate::Polled;
 use chain::Found;
-use ledger::rules;
 use ledger::search;
 use models::RequestId;
 use rows::Row;

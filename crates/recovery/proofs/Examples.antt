@@ -18,7 +18,7 @@ use Rattle.models.specs.declared.TransferType.the-variants as transfer
 use Rattle.rows.specs.Store.{Store, putIn}
 use Rattle.rows.specs.Table.{isHeld}
 use Rattle.rows.specs.declared.Row.{Row}
-use Rattle.ledger.specs.Rules.{changeRow, abortConfirmed, moved}
+use Rattle.rules.specs.Rules.{changeRow, abortConfirmed, moved}
 use Rattle.models.specs.Requests.{requestBefore}
 use Rattle.chain.specs.Chain.{_if_else_}
 use Rattle.session.specs.Session.{raised, marked}

@@ -25,10 +25,10 @@ use Rattle.rows.specs.Table.{emptyRow, rowsOf, rowCount}
 use Rattle.rows.specs.Store.{Store, putIn, storeOf}
 use Rattle.rows.specs.declared.Row.{Row}
 use Rattle.rows.proofs.Placed.{length-rowsOf}
-use Rattle.ledger.specs.Rules.{changeRow}
-use Rattle.ledger.specs.declared.rules.Change.the-variants as change
-use Rattle.ledger.specs.declared.rules.Step.{Step}
-use Rattle.ledger.specs.declared.rules.Step.the-variants as step
+use Rattle.rules.specs.Rules.{changeRow}
+use Rattle.rules.specs.declared.Change.the-variants as change
+use Rattle.rules.specs.declared.Step.{Step}
+use Rattle.rules.specs.declared.Step.the-variants as step
 use Rattle.checks.specs.Completion.{testCompletion}
 use Rattle.checks.specs.declared.completion.CompletionTest.{CompletionTest}
 use Rattle.checks.specs.declared.completion.CompletionTest.the-variants as test

@@ -1,11 +1,10 @@
 // The entries of a reply, applied one after the other. A request stands here for the place of its row in the store.
 use checks::completion;
 use checks::completion::CompletionTest;
-use ledger::rules;
-use ledger::rules::Change;
-use ledger::rules::Step;
 use models::BackendCompletion;
 use models::Verdict;
+use rules::Change;
+use rules::Step;
 use scope::returned;
 use scope::returned::Brought;
 use scope::tokens;

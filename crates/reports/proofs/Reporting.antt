@@ -23,7 +23,7 @@ use Rattle.models.specs.declared.RequestId.{RequestId}
 use Rattle.models.specs.declared.RequestReport.{RequestReport}
 use Rattle.rows.specs.Table.{emptyRow, rowsOf}
 use Rattle.rows.specs.declared.Row.{Row}
-use Rattle.ledger.specs.Rules.{reportOf}
+use Rattle.rules.specs.Rules.{reportOf}
 use Rattle.ledger.specs.Search.{isAt}
 use Rattle.ledger.specs.Tally.{heldCount, heldBytes}
 use Rattle.session.specs.Sizes.{rowsFit, areaFits}

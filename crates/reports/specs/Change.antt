@@ -7,7 +7,7 @@ use Rattle.rows.specs.Store.{Store}
 use Rattle.ledger.specs.Apply.{applyOf}
 use Rattle.ledger.specs.declared.Applied.{Applied}
 use Rattle.ledger.specs.declared.Applied.the-variants as applied
-use Rattle.ledger.specs.declared.rules.Change.{Change}
+use Rattle.rules.specs.declared.Change.{Change}
 use Rattle.session.specs.Session.{isBusy}
 use Rattle.session.specs.declared.Session.{Session}
 use Rattle.reports.specs.Answers.{ReportedTo, reportedTo, reportRefused}

@@ -14,7 +14,7 @@ use Rattle.models.specs.declared.RequestState.{RequestState}
 use Rattle.models.specs.declared.RequestState.the-variants.{Pending, Completed, Failed, Aborted}
 use Rattle.rows.specs.Table.{emptyRow}
 use Rattle.rows.specs.declared.Row.{Row}
-use Rattle.ledger.specs.Rules.{reportOf}
+use Rattle.rules.specs.Rules.{reportOf}
 use Rattle.ledger.specs.Search.{isAt}
 use Rattle.ledger.specs.Tally.{heldCount, heldBytes}
 use Rattle.session.specs.declared.InFlight.{InFlight}

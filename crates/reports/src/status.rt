@@ -5,7 +5,6 @@ use crate::Part;
 use crate::ReportAnswer;
 use crate::Tally;
 use chain::Found;
-use ledger::rules;
 use ledger::search;
 use ledger::tally;
 use models::RequestId;

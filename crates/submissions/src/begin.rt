@@ -1,8 +1,6 @@
 // The end of every submission, once its request is prepared: the device, the endpoint, the sequence number, and the one place where a
 // submission changes rows and area.
 use chain::Found;
-use ledger::rules;
-use ledger::rules::Spent;
 use ledger::search;
 use ledger::tally;
 use models::PortReading;
@@ -11,6 +9,7 @@ use models::RequestId;
 use models::RequestMetadata;
 use models::Verdict;
 use models::kinds;
+use rules::Spent;
 use session::Session;
 use targets::target;
 use words::slices;

@@ -1,7 +1,6 @@
 // The backend's reply to a submission.
 use crate::SubmitReply;
 use ledger::Applied;
-use ledger::rules::Change;
 use models::OperationError;
 use models::RequestId;
 use reports::ReportAnswer;
@@ -9,6 +8,7 @@ use reports::Reported;
 use reports::answers::refused;
 use reports::answers::refused_by;
 use reports::answers::take_effect;
+use rules::Change;
 use session::InFlight;
 use session::Session;
 use session::sizes;

@@ -60,16 +60,25 @@ negative v f t = neg-of v f (rw (toZ-ofZ w32 v f) at t)
 pub positive : (v : ℤ) → SFits w32 v → ltZ (toZ w32 (ofZ w32 v)) (pos 0) ≡ false → Pos v
 positive v f t = pos-of v f (rw (toZ-ofZ w32 v f) at t)
 
-pub high : (n : ℕ) → n < 2147483648 → signedOf (n + 2147483648) ≡ negsuc n
+pub high : (n : ℕ) → n < 2147483648 → signedOf (4294967295 - n) ≡ negsuc n
 unfolding signedOf
 high n h =
-    let m : (n + 2147483648) % 4294967296 ≡ n + 2147483648 = omega arith in
-    let e : n + 2147483648 - 2147483648 ≡ n = omega arith in
-    simp (m, le-ltb (n + 2147483648) 2147483648 (omega arith), e)
+    let m : (4294967295 - n) % 4294967296 ≡ 4294967295 - n = omega arith in
+    let e : 4294967295 - (4294967295 - n) ≡ n = omega arith in
+    simp (m, le-ltb (4294967295 - n) 2147483648 (omega arith), e)
 
 pub low : (n : ℕ) → n < 2147483648 → signedOf n ≡ pos n
 unfolding signedOf
 low n h = let m : n % 4294967296 ≡ n = omega arith in simp (m, lt-ltb n 2147483648 h)
+
+-- the word of a signed number, both ways
+abbrev pub Says : ℕ → ℤ → Type 0
+Says w v = (signedOf w ≡ v) × (signedWord v ≡ w)
+
+-- FFFFFFFFh is -1, FFFFFFFBh -5, and 80000000h the least number
+pub twos-complement : Says 4294967295 (negsuc 0) × Says 4294967291 (negsuc 4) × Says 2147483648 (negsuc 2147483647)
+unfolding signedOf signedWord
+twos-complement = ((refl, refl), (refl, refl), (refl, refl))
 
 minus-pos : (m : ℕ) → negsuc 0 -ℤ pos m ≡ negsuc m
 minus-pos zero = refl
@@ -80,10 +89,10 @@ pub minus-word : (m : ℕ) → m < 2147483648 → negsuc 0 -ℤ toZ w32 m ≡ ne
 minus-word m h = ap (λ (z : ℤ). negsuc 0 -ℤ z) (toZ-pos w32 m h) ∙ minus-pos m
 
 -- the upper half of the words
-pub high-word : (y : ℕ) → 2147483648 ≤ y → y < 4294967296 → toZ w32 (ofZ w32 (negsuc 0 -ℤ toZ w32 (y - 2147483648))) ≡ lowSigned y
+pub high-word : (y : ℕ) → 2147483648 ≤ y → y < 4294967296 → toZ w32 (ofZ w32 (negsuc 0 -ℤ toZ w32 (4294967295 - y))) ≡ lowSigned y
 high-word y g h =
-    let m : y - 2147483648 < 2147483648 = omega arith in
-    ap (λ (z : ℤ). toZ w32 (ofZ w32 z)) (minus-word (y - 2147483648) m) ∙ toZ-ofZ w32 (negsuc (y - 2147483648)) (record { sfits = m })
+    let m : 4294967295 - y < 2147483648 = omega arith in
+    ap (λ (z : ℤ). toZ w32 (ofZ w32 z)) (minus-word (4294967295 - y) m) ∙ toZ-ofZ w32 (negsuc (4294967295 - y)) (record { sfits = m })
     ∙ sym (simp (le-ltb y 2147483648 g))
 
 pub low-word : (y : ℕ) → y < 2147483648 → toZ w32 y ≡ lowSigned y

@@ -36,14 +36,14 @@ optionU64Words (u64.Some v) = record { present = 1; value = v }
 
 -- a signed number: two's complement in the low 32 bits
 abbrev pub lowSigned : ℕ → ℤ
-lowSigned y = cond (ltb y (2 ^ 31)) (pos y) (negsuc (y - 2 ^ 31))
+lowSigned y = cond (ltb y (2 ^ 31)) (pos y) (negsuc (2 ^ 32 - 1 - y))
 
 unfoldable pub signedOf : ℕ → ℤ
 signedOf w = lowSigned (w % 2 ^ 32)
 
 unfoldable pub signedWord : ℤ → ℕ
 signedWord (pos n) = n
-signedWord (negsuc n) = n + 2 ^ 31
+signedWord (negsuc n) = 2 ^ 32 - 1 - n
 
 unfoldable pub optionI32Of : ℕ → OptionI32
 optionI32Of w = cond (eqb w 0) i32.None (i32.Some (signedOf (w - 1)))

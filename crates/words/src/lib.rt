@@ -5,6 +5,15 @@ ghost use Rattle.words.specs.Words.{flagOf, flagWord, optionU32Of, optio
 
 pub mod slices;
 
+// 2^31: from here on the low 32 bits say a negative number.
+const SIGN: u64 = 2147483648;
+
+// 2^32 - 1: 32 bits, every one set.
+const ONES: u64 = 4294967295;
+
+// 2^32: how many values 32 bits have.
+const VALUES: u64 = 4294967296;
+
 // The Rust's `Option` of three types.
 pub enum OptionU32 {
     None,
@@ -54,7 +63,7 @@ pub fn to_option_u32(w: u64) -> OptionU32
     if w == 0 {
         return OptionU32::None;
     }
-    OptionU32::Some(((w - 1) % 4294967296) as u32)
+    OptionU32::Some(((w - 1) % VALUES) as u32)
 }
 
 pub fn option_u64_words(o: OptionU64) -> OptionWords
@@ -86,7 +95,7 @@ pub fn signed_word(v: i32) -> u64
 {
     if v < 0 {
         let n = -1 - v;
-        n as u64 + 2147483648
+        ONES - n as u64
     } else {
         v as u64
     }
@@ -95,11 +104,11 @@ pub fn signed_word(v: i32) -> u64
 pub fn to_signed(w: u64) -> i32
     ensures { λ r. ⌜ r ≡ signedOf w ⌝ }
 {
-    let y = w % 4294967296;
-    if y < 2147483648 {
+    let y = w % VALUES;
+    if y < SIGN {
         y as i32
     } else {
-        let n = (y - 2147483648) as i32;
+        let n = (ONES - y) as i32;
         -1 - n
     }
 }

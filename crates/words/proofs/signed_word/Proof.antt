@@ -11,8 +11,8 @@ sub-n c = let k = negative (c .before .args .v) (c .before .fits .v) (c .if1 .ta
 cast-result : tie.Need-cast-result
 cast-result c = let k = negative (c .before .args .v) (c .before .fits .v) (c .if1 .taken) in rw (k .back) (tt, record { fits = omega (arith, k .small) })
 
-add-result : tie.Need-add-result
-add-result c = let k = negative (c .before .args .v) (c .before .fits .v) (c .if1 .taken) in rw (k .back) (record { fits = omega (arith, k .small) })
+sub-result : tie.Need-sub-result
+sub-result c = let k = negative (c .before .args .v) (c .before .fits .v) (c .if1 .taken) in rw (k .back) (omega (arith, k .small))
 
 cast-result-2 : tie.Need-cast-result-2
 cast-result-2 c = let k = positive (c .before .args .v) (c .before .fits .v) (c .if1 .left) in rw (k .back) (tt, record { fits = omega (arith, k .small) })
@@ -27,4 +27,4 @@ returns-2 c = let k = positive (c .before .args .v) (c .before .fits .v) (c .if1
 
 pub signed-word-spec : {M : Type 1} → statement M
 signed-word-spec =
-    tie.close (tie.spec sub-n cast-result add-result cast-result-2 returns returns-2)
+    tie.close (tie.spec sub-n cast-result sub-result cast-result-2 returns returns-2)

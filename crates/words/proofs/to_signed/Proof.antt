@@ -7,7 +7,7 @@ use Rattle.words.proofs.to_signed.Statement.{statement}
 use Rattle.words.proofs.to_signed.Tie as tie
 
 sub-result : tie.Need-sub-result
-sub-result c = rw (minus-word (c .before .args .w % 4294967296 - 2147483648) (omega arith)) (record { sfits = omega arith })
+sub-result c = rw (minus-word (4294967295 - c .before .args .w % 4294967296) (omega arith)) (record { sfits = omega arith })
 
 returns : tie.Need-returns
 unfolding signedOf
@@ -18,4 +18,4 @@ unfolding signedOf
 returns-2 c = high-word (c .before .args .w % 4294967296) (omega arith) (omega arith)
 
 pub to-signed-spec : {M : Type 1} → statement M
-to-signed-spec = tie.close (tie.spec (λ c. search needs) (λ c. search needs) sub-result returns returns-2)
+to-signed-spec = tie.close (tie.spec (λ c. search needs) (λ c. search needs) (λ c. search needs) sub-result returns returns-2)

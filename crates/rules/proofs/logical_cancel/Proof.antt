@@ -1,0 +1,16 @@
+use Rattle.rules.proofs.Ruling.{settled, pending}
+use Rattle.rules.specs.Rules.{logicalCancel}
+use borrow.Author.Needs.{needs}
+use Rattle.rules.proofs.logical_cancel.Statement.{statement}
+use Rattle.rules.proofs.logical_cancel.Tie as tie
+
+returns : tie.Need-returns
+unfolding logicalCancel
+returns c = search settled
+
+returns-2 : tie.Need-returns-2
+unfolding logicalCancel
+returns-2 c = search pending
+
+pub logical-cancel-spec : {M : Type 1} → statement M
+logical-cancel-spec = tie.close (tie.spec (λ c. search needs) (λ c κs. search needs) returns (λ c κs. search needs) returns-2)

@@ -1,0 +1,16 @@
+use Rattle.rules.proofs.Ruling.{settled, pending}
+use Rattle.rules.specs.Rules.{timeOut}
+use borrow.Author.Needs.{needs}
+use Rattle.rules.proofs.timeout.Statement.{statement}
+use Rattle.rules.proofs.timeout.Tie as tie
+
+returns : tie.Need-returns
+unfolding timeOut
+returns c = search settled
+
+returns-2 : tie.Need-returns-2
+unfolding timeOut
+returns-2 c = search pending
+
+pub timeout-spec : {M : Type 1} → statement M
+timeout-spec = tie.close (tie.spec (λ c. search needs) (λ c κs. search needs) returns (λ c κs. search needs) returns-2)

@@ -1,0 +1,115 @@
+-- The rules of one row (document 01, "State row" and "Request row"; the Rust's `RequestLedger`). Assumes nothing.
+use Prim.Native.Nat.{ℕ, _+_, _-_, _^_}
+use mathlib.Core.Bool.{Bool, true, false, not}
+use lib.Dec.{eqb}
+use Rattle.chain.specs.Chain.{_if_else_}
+use Rattle.words.specs.declared.OptionU32.{OptionU32}
+use Rattle.models.specs.Refusals.{refusalOf}
+use Rattle.models.specs.Requests.{deviceMayAccess}
+use Rattle.models.specs.declared.OperationError.{OperationError}
+use Rattle.models.specs.declared.RequestId.{RequestId}
+use Rattle.models.specs.declared.RequestMetadata.{RequestMetadata}
+use Rattle.models.specs.declared.RequestReport.{RequestReport}
+use Rattle.models.specs.declared.RequestState.{RequestState}
+use Rattle.models.specs.declared.RequestState.the-variants.{Pending, Completed, Failed, Aborted}
+use Rattle.rows.specs.Table.{emptyRow}
+use Rattle.rows.specs.declared.Row.{Row}
+use Rattle.rules.specs.declared.Step.{Step}
+use Rattle.rules.specs.declared.Step.the-variants as step
+use Rattle.rules.specs.declared.Change.{Change}
+use Rattle.rules.specs.declared.Change.the-variants as change
+use Rattle.rules.specs.declared.Spent.{Spent}
+use Rattle.rules.specs.declared.Spent.the-variants as spent
+
+abbrev pub reportOf : Row → RequestReport
+reportOf r = record { id = r .id; metadata = r .metadata; state = r .state; «logical_cancel» = r .«logical_cancel»; «timed_out» = r .«timed_out» }
+
+-- the row of a submission, without a token yet
+unfoldable pub pendingRow : RequestId → RequestMetadata → Row
+pendingRow id m = record { used = true; id = id; metadata = m; token = 0; «logical_cancel» = false; «timed_out» = false; state = Pending false false }
+
+-- 39: the greatest sequence number is never given
+unfoldable pub spendSequence : ℕ → Spent
+spendSequence next = spent.Refused (refusalOf 39) if eqb next (2 ^ 64 - 1) else spent.Next (next + 1)
+
+-- a refusal, a step to a row that is reported as it then is, and one to a free row with the request reported as it was
+abbrev pub refusedBy : ℕ → Step
+refusedBy n = step.Refused (refusalOf n)
+
+unfoldable pub moved : Row → Step
+moved r = step.To r (reportOf r)
+
+unfoldable pub freed : Row → Step
+freed r = step.To emptyRow (reportOf r)
+
+abbrev pub withState : Row → RequestState → Row
+withState r s = record {
+  used = r .used;
+  id = r .id;
+  metadata = r .metadata;
+  token = r .token;
+  «logical_cancel» = r .«logical_cancel»;
+  «timed_out» = r .«timed_out»;
+  state = s;
+}
+
+-- Pending with the flags sc and st in its state, and c and t as the row's own copies
+abbrev pub flagged : Row → Bool → Bool → Bool → Bool → Row
+flagged r sc st c t = record {
+  used = r .used;
+  id = r .id;
+  metadata = r .metadata;
+  token = r .token;
+  «logical_cancel» = c;
+  «timed_out» = t;
+  state = Pending sc st;
+}
+
+-- the backend took the submission
+unfoldable pub accepted : Row → ℕ → Step
+accepted r token = moved (record {
+  used = r .used;
+  id = r .id;
+  metadata = r .metadata;
+  token = token;
+  «logical_cancel» = r .«logical_cancel»;
+  «timed_out» = r .«timed_out»;
+  state = r .state;
+})
+
+-- 41: not Pending; else the step to the row that the state's flags lead to
+unfoldable pub whilePending : RequestState → (Bool → Bool → Row) → Step
+whilePending (Pending cancel late) next = moved (next cancel late)
+whilePending (Completed actual code cancel) next = refusedBy 41
+whilePending (Failed error code quiescent) next = refusedBy 41
+whilePending Aborted next = refusedBy 41
+
+unfoldable pub logicalCancel : Row → Step
+logicalCancel r = whilePending (r .state) (λ cancel late. flagged r true late true (r .«timed_out»))
+
+unfoldable pub timeOut : Row → Step
+timeOut r = whilePending (r .state) (λ cancel late. flagged r cancel true (r .«logical_cancel») true)
+
+unfoldable pub completed : Row → ℕ → ℕ → Step
+completed r actual code = whilePending (r .state) (λ cancel late. withState r (Completed actual code cancel))
+
+unfoldable pub failed : Row → OperationError → OptionU32 → Bool → Step
+failed r error code quiescent = whilePending (r .state) (λ cancel late. withState r (Failed error code quiescent))
+
+-- 43: not held
+unfoldable pub abortConfirmed : Row → Step
+abortConfirmed r = refusedBy 43 if not (deviceMayAccess (r .state)) else moved (withState r Aborted)
+
+-- 42: still held
+unfoldable pub reclaimed : Row → Step
+reclaimed r = refusedBy 42 if deviceMayAccess (r .state) else freed r
+
+unfoldable pub changeRow : Row → Change → Step
+changeRow r (change.Accept token) = accepted r token
+changeRow r change.Discard = freed r
+changeRow r change.LogicalCancel = logicalCancel r
+changeRow r change.Timeout = timeOut r
+changeRow r (change.Complete actual code) = completed r actual code
+changeRow r (change.Fail error code quiescent) = failed r error code quiescent
+changeRow r change.ConfirmAbort = abortConfirmed r
+changeRow r change.Reclaim = reclaimed r
