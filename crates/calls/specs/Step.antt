@@ -28,9 +28,8 @@ use Rattle.recovery.specs.Reply.{RecoveredTo, recoveryReplyOf}
 use Rattle.recovery.specs.declared.Begun.{Begun}
 use Rattle.recovery.specs.declared.RecoveryReply.{RecoveryReply}
 use Rattle.calls.specs.Calls.{Placing, Device, Port, Endpoints, Reconcile, Moving, Acquire, Initialize, Close, Beginning, Submit, SubmitPlan, Poll, Recover, Replying, ToSubmit, ToPoll, ToRecovery, Changing, Cancel, Timeout, Reclaim, Reading, Status, Reports, CountReports, CompletedBytes, HeldCount, HeldBytes, Call, Open, Place, Move, Begin, Reply, Change, Read}
-use Rattle.calls.specs.Answers.{outcome, ofOpened, ofVerdict, ofSubmit, ofPlan, ofReport, ofPoll, ofNext, ofTally, ofBegin, ofRecovery}
+use Rattle.calls.specs.Answers.{outcome, ofOpened, ofVerdict, ofSubmit, ofPlan, ofReport, ofPoll, ofNext, ofTally, ofPart, ofBegin, ofRecovery}
 use Rattle.calls.specs.declared.Answer.{Answer}
-use Rattle.calls.specs.declared.Answer.the-variants as answer
 use Rattle.calls.specs.declared.Outcome.{Outcome}
 
 -- what a call is handed: the session, and what the lent slices say
@@ -144,7 +143,7 @@ unfoldable pub readOf : Reading → World → Answer
 readOf (Status id) w = ofReport (statusOf (w .session) (rowsFitIn w) id (w .store .rows))
 readOf (Reports from) w = ofNext (nextOf (w .session) (rowsFitIn w) from (w .store .rows))
 readOf CountReports w = ofTally (shownCount (w .session) (rowsFitIn w) (w .store .rows))
-readOf (CompletedBytes id) w = answer.Bytes (completedPart (w .session) (rowsFitIn w && areaFitsIn w) id (w .store .rows))
+readOf (CompletedBytes id) w = ofPart (completedPart (w .session) (rowsFitIn w && areaFitsIn w) id (w .store .rows))
 readOf HeldCount w = ofTally (heldCountOf (rowsFitIn w) (w .store .rows))
 readOf HeldBytes w = ofTally (heldBytesOf (rowsFitIn w) (w .store .rows))
 

@@ -1,5 +1,5 @@
 -- What the checks and the sizes say of a submission that goes on: its request fits its row, and its row the area. Assumes nothing.
-use Prim.Native.Nat.{ℕ, _+_, _*_, _≤_}
+use Prim.Native.Nat.{ℕ, _+_, _*_, _<_, _≤_}
 use mathlib.Core.Bool.{Bool, true, not, _&&_}
 use mathlib.Core.List.{List}
 use mathlib.Core.Path.{_≡_, refl, sym, ap, _∙_}
@@ -18,6 +18,7 @@ use Rattle.models.specs.declared.Verdict.{Verdict}
 use Rattle.models.specs.declared.Verdict.the-variants as verdict
 use Rattle.rows.specs.Table.{rowsOf}
 use Rattle.ledger.specs.Search.{isFree}
+use Rattle.ledger.proofs.Placing.{found-in}
 use Rattle.bus.specs.Layout.{busWords}
 use Rattle.checks.specs.Prepare.{prepared}
 use Rattle.checks.specs.Plan.{planned}
@@ -59,11 +60,14 @@ module _ (s : Session) (l area bus : List ℕ) (e : storeFits s (length l) (leng
   bus-fits = eqb-true _ _ (told .1)
 
   module _ (f : Found) (i : ℕ) (ef : f ≡ roomIn (rowsOf l)) (fi : f ≡ found.At i) where
+    below : i < length (rowsOf l)
+    below = found-in isFree (rowsOf l) _ i refl (found-free (rowsOf l) i (sym ef ∙ fi))
+
     pub room-fits : Fits w64 (i * s .«row_bytes»)
-    room-fits = place-fits _ _ l (length area) _ _ refl refl (ap not (told .0)) isFree _ i refl (found-free (rowsOf l) i (sym ef ∙ fi))
+    room-fits = place-fits _ _ l (length area) _ _ refl refl (ap not (told .0)) i below
 
     pub room-place : i * s .«row_bytes» + s .«row_bytes» ≤ length area
-    room-place = place-in _ _ l (length area) _ _ refl refl (ap not (told .0)) isFree _ i refl (found-free (rowsOf l) i (sym ef ∙ fi))
+    room-place = place-in _ _ l (length area) _ _ refl refl (ap not (told .0)) i below
 
 -- a session that is ready has slices of its sizes
 pub ready-sizes : (s : Session) (fits : Bool) (v : Verdict) → v ≡ readyOf s fits → v ≡ verdict.Pass → fits ≡ true
