@@ -190,20 +190,13 @@ pub fn initialize(session: Session, reply: OptionError) -> Called
 fn closed_session(session: Session, fresh: u64) -> Session
     ensures { λ r. ⌜ r ≡ closedSession session fresh ⌝ }
 {
-    let ports = session.ports;
-    let recovery_revision = session.recovery_revision;
-    let recoverable_stall = session.recoverable_stall;
     Session {
         number: fresh,
         generation: 0,
         next_sequence: 0,
-        ports,
         state: ControllerState::Closed,
-        recovery_revision,
-        recoverable_stall,
         in_flight: InFlight::Nothing,
-        row_count: session.row_count,
-        row_bytes: session.row_bytes,
+        ..session
     }
 }
 
