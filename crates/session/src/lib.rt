@@ -11,6 +11,7 @@ ghost use Rattle.session.specs.Session.{isClosed, isAcquired, isInitiali
 pub mod lifecycle;
 pub mod place;
 pub mod sizes;
+pub mod start;
 
 // What a poll found that a reset of the same endpoint may undo: document 01's stall note.
 pub struct RecoverableStall {
