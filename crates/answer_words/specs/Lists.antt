@@ -15,7 +15,7 @@ use Rattle.recovery.specs.declared.Ids.{Ids}
 use Rattle.recovery.specs.declared.Recovered.{Recovered}
 use Rattle.recovery.specs.declared.RecoveryAnswer.{RecoveryAnswer}
 use Rattle.recovery.specs.declared.RecoveryAnswer.the-variants as recovery
-use Rattle.calls.specs.Calls.{Call, Open, SetDevice, SetPort, SetEndpoints, SetReconcile, Acquire, Initialize, Close, Submit, SubmitPlan, ReplySubmit, Poll, ReplyPoll, AbortRequest, ResetEndpoint, ReplyRecovery, Cancel, Timeout, Reclaim, Status, Reports, CountReports, CompletedBytes, HeldCount, HeldBytes}
+use Rattle.calls.specs.Calls.{Beginning, Submit, SubmitPlan, Poll, Recover, Replying, ToSubmit, ToPoll, ToRecovery, Call, Open, Place, Move, Begin, Reply, Change, Read}
 use Rattle.answer_words.specs.Encode.{idTail}
 use Rattle.calls.specs.Step.{World, rowsFitIn, recoversOf}
 
@@ -50,32 +50,25 @@ unfoldable pub recoveredLists : Recovered → List ℕ
 recoveredLists o = recoveredBy (o .answer) (o .ids)
 
 -- the lists of a call: those of a recovery's start and of its reply, and no others
+abbrev pub begunIn : Beginning → World → List ℕ
+begunIn (Submit q bytes given packets first second) w = []
+begunIn (SubmitPlan q bytes first) w = []
+begunIn (Poll id) w = []
+begunIn (Recover id kind) w = begunLists (beginOf (w .session) (rowsFitIn w) id kind (w .store .rows))
+
+abbrev pub repliedIn : Replying → World → List ℕ
+repliedIn (ToSubmit reply) w = []
+repliedIn (ToPoll reply bytes) w = []
+repliedIn (ToRecovery reply tokens words aborted bytes) w = recoveredLists (recoversOf reply tokens words aborted bytes w .result)
+
 unfoldable pub listsOf : Call → World → List ℕ
 listsOf (Open o) w = []
-listsOf (SetDevice d) w = []
-listsOf (SetPort number row) w = []
-listsOf (SetEndpoints slot list) w = []
-listsOf (SetReconcile slot mark) w = []
-listsOf (Acquire reply) w = []
-listsOf (Initialize reply) w = []
-listsOf (Close fresh reply) w = []
-listsOf (Submit q bytes given packets first second) w = []
-listsOf (SubmitPlan q bytes first) w = []
-listsOf (ReplySubmit reply) w = []
-listsOf (Poll id) w = []
-listsOf (ReplyPoll reply bytes) w = []
-listsOf (AbortRequest id) w = begunLists (beginOf (w .session) (rowsFitIn w) id kind.Abort (w .store .rows))
-listsOf (ResetEndpoint id preserve) w = begunLists (beginOf (w .session) (rowsFitIn w) id (kind.Reset preserve) (w .store .rows))
-listsOf (ReplyRecovery reply tokens words aborted bytes) w = recoveredLists (recoversOf reply tokens words aborted bytes w .result)
-listsOf (Cancel id) w = []
-listsOf (Timeout id) w = []
-listsOf (Reclaim id) w = []
-listsOf (Status id) w = []
-listsOf (Reports from) w = []
-listsOf CountReports w = []
-listsOf (CompletedBytes id) w = []
-listsOf HeldCount w = []
-listsOf HeldBytes w = []
+listsOf (Place p) w = []
+listsOf (Move m) w = []
+listsOf (Begin b) w = begunIn b w
+listsOf (Reply r) w = repliedIn r w
+listsOf (Change id c) w = []
+listsOf (Read r) w = []
 
 -- the lists at the front of the words l; where there is too little room, nothing changes
 unfoldable pub putLists : List ℕ → List ℕ → List ℕ

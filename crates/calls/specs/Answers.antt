@@ -14,6 +14,8 @@ use Rattle.polls.specs.declared.PollAnswer.{PollAnswer}
 use Rattle.polls.specs.declared.PollAnswer.the-variants as poll
 use Rattle.reports.specs.declared.NextReport.{NextReport}
 use Rattle.reports.specs.declared.NextReport.the-variants as next
+use Rattle.reports.specs.declared.PartAnswer.{PartAnswer}
+use Rattle.reports.specs.declared.PartAnswer.the-variants as bytes
 use Rattle.reports.specs.declared.Tally.{Tally}
 use Rattle.reports.specs.declared.Tally.the-variants as tally
 use Rattle.recovery.specs.declared.BeginAnswer.{BeginAnswer}
@@ -61,6 +63,10 @@ ofNext (next.Report x) = answer.Report x
 abbrev pub ofTally : Tally → Answer
 ofTally (tally.Refused r) = answer.Refused r
 ofTally (tally.Number n) = answer.Number n
+
+abbrev pub ofPart : PartAnswer → Answer
+ofPart (bytes.Refused r) = answer.Refused r
+ofPart (bytes.Part p) = answer.Bytes p
 
 abbrev pub ofBegin : BeginAnswer → Answer
 ofBegin (begin.Refused r) = answer.Refused r

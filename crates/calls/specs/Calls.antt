@@ -10,6 +10,7 @@ use Rattle.models.specs.declared.PortReading.{PortReading}
 use Rattle.models.specs.declared.RequestId.{RequestId}
 use Rattle.models.specs.declared.RequestSpec.{RequestSpec}
 use Rattle.bus.specs.declared.PortRow.{PortRow}
+use Rattle.session.specs.declared.RecoveryKind.{RecoveryKind}
 use Rattle.session.specs.declared.lifecycle.AcquireReply.{AcquireReply}
 use Rattle.session.specs.declared.lifecycle.Opening.{Opening}
 use Rattle.reports.specs.declared.OptionId.{OptionId}
@@ -17,30 +18,53 @@ use Rattle.polls.specs.declared.PollReply.{PollReply}
 use Rattle.submissions.specs.declared.SubmitReply.{SubmitReply}
 use Rattle.recovery.specs.declared.RecoveryReply.{RecoveryReply}
 
+-- document 01's placing calls
+pub data Placing : Type 0 where
+  Device : DeviceSnapshot → Placing
+  Port : ℕ → PortRow → Placing
+  Endpoints : ℕ → List ℕ → Placing
+  Reconcile : ℕ → Bool → Placing
+
+-- what moves the controller's state
+pub data Moving : Type 0 where
+  Acquire : AcquireReply → Moving
+  Initialize : OptionError → Moving
+  Close : OptionU64 → OptionError → Moving
+
+-- what asks the backend, and waits for its reply
+pub data Beginning : Type 0 where
+  Submit : RequestSpec → List ℕ → Bool → List ℕ → PortReading → PortReading → Beginning
+  SubmitPlan : ControlPlan → List ℕ → PortReading → Beginning
+  Poll : RequestId → Beginning
+  Recover : RequestId → RecoveryKind → Beginning
+
+-- the backend's reply
+pub data Replying : Type 0 where
+  ToSubmit : SubmitReply → Replying
+  ToPoll : PollReply → List ℕ → Replying
+  -- tokens of completed requests, their completions' words, tokens of aborted requests, the data area
+  ToRecovery : RecoveryReply → List ℕ → List ℕ → List ℕ → List ℕ → Replying
+
+-- a change of one request
+pub data Changing : Type 0 where
+  Cancel : Changing
+  Timeout : Changing
+  Reclaim : Changing
+
+-- what leaves all as it is
+pub data Reading : Type 0 where
+  Status : RequestId → Reading
+  Reports : OptionId → Reading
+  CountReports : Reading
+  CompletedBytes : RequestId → Reading
+  HeldCount : Reading
+  HeldBytes : Reading
+
 pub data Call : Type 0 where
   Open : Opening → Call
-  SetDevice : DeviceSnapshot → Call
-  SetPort : ℕ → PortRow → Call
-  SetEndpoints : ℕ → List ℕ → Call
-  SetReconcile : ℕ → Bool → Call
-  Acquire : AcquireReply → Call
-  Initialize : OptionError → Call
-  Close : OptionU64 → OptionError → Call
-  Submit : RequestSpec → List ℕ → Bool → List ℕ → PortReading → PortReading → Call
-  SubmitPlan : ControlPlan → List ℕ → PortReading → Call
-  ReplySubmit : SubmitReply → Call
-  Poll : RequestId → Call
-  ReplyPoll : PollReply → List ℕ → Call
-  AbortRequest : RequestId → Call
-  ResetEndpoint : RequestId → Bool → Call
-  -- tokens of completed requests, their completions' words, tokens of aborted requests, the data area
-  ReplyRecovery : RecoveryReply → List ℕ → List ℕ → List ℕ → List ℕ → Call
-  Cancel : RequestId → Call
-  Timeout : RequestId → Call
-  Reclaim : RequestId → Call
-  Status : RequestId → Call
-  Reports : OptionId → Call
-  CountReports : Call
-  CompletedBytes : RequestId → Call
-  HeldCount : Call
-  HeldBytes : Call
+  Place : Placing → Call
+  Move : Moving → Call
+  Begin : Beginning → Call
+  Reply : Replying → Call
+  Change : RequestId → Changing → Call
+  Read : Reading → Call

@@ -1,11 +1,11 @@
--- A call's step: its answer, and the session, the bus, the store and the area after it. One clause a call, by the definitions that
+-- A call's step: its answer, and the session, the bus, the store and the area after it. One clause a call, in groups, by the definitions that
 -- the calls' own contracts cite. Assumes nothing.
 use Prim.Native.Nat.{ℕ}
 use mathlib.Core.Bool.{Bool, _&&_}
 use mathlib.Core.List.{List}
 use lib.ListN.{length}
 use Rattle.rows.specs.Store.{Store}
-use Rattle.rules.specs.declared.Change.{Change}
+use Rattle.rules.specs.declared.Change as rules
 use Rattle.rules.specs.declared.Change.the-variants as change
 use Rattle.bus.specs.Tables.{Bus}
 use Rattle.bus.specs.Ports.{VerdictTo}
@@ -23,15 +23,13 @@ use Rattle.polls.specs.Finish.{FinishTo, finishOf}
 use Rattle.reports.specs.Change.{changeOf}
 use Rattle.reports.specs.Status.{statusOf, nextOf, shownCount, completedPart, heldCountOf, heldBytesOf}
 use Rattle.polls.specs.declared.Polled.{Polled}
-use Rattle.session.specs.declared.RecoveryKind.the-variants as kind
 use Rattle.recovery.specs.Begin.{beginOf}
 use Rattle.recovery.specs.Reply.{RecoveredTo, recoveryReplyOf}
 use Rattle.recovery.specs.declared.Begun.{Begun}
 use Rattle.recovery.specs.declared.RecoveryReply.{RecoveryReply}
-use Rattle.calls.specs.Calls.{Call, Open, SetDevice, SetPort, SetEndpoints, SetReconcile, Acquire, Initialize, Close, Submit, SubmitPlan, ReplySubmit, Poll, ReplyPoll, AbortRequest, ResetEndpoint, ReplyRecovery, Cancel, Timeout, Reclaim, Status, Reports, CountReports, CompletedBytes, HeldCount, HeldBytes}
-use Rattle.calls.specs.Answers.{outcome, ofOpened, ofVerdict, ofSubmit, ofPlan, ofReport, ofPoll, ofNext, ofTally, ofBegin, ofRecovery}
+use Rattle.calls.specs.Calls.{Placing, Device, Port, Endpoints, Reconcile, Moving, Acquire, Initialize, Close, Beginning, Submit, SubmitPlan, Poll, Recover, Replying, ToSubmit, ToPoll, ToRecovery, Changing, Cancel, Timeout, Reclaim, Reading, Status, Reports, CountReports, CompletedBytes, HeldCount, HeldBytes, Call, Open, Place, Move, Begin, Reply, Change, Read}
+use Rattle.calls.specs.Answers.{outcome, ofOpened, ofVerdict, ofSubmit, ofPlan, ofReport, ofPoll, ofNext, ofTally, ofPart, ofBegin, ofRecovery}
 use Rattle.calls.specs.declared.Answer.{Answer}
-use Rattle.calls.specs.declared.Answer.the-variants as answer
 use Rattle.calls.specs.declared.Outcome.{Outcome}
 
 -- what a call is handed: the session, and what the lent slices say
@@ -106,36 +104,54 @@ recoversOf reply tokens words aborted bytes w =
 abbrev pub reads : Answer → World → After
 reads a w = after (outcome a (w .session)) (w .bus) (w .store) (w .area)
 
-abbrev pub changes : RequestId → Change → World → After
+abbrev pub changes : RequestId → rules.Change → World → After
 changes id c w = reports (changeOf (w .session) (rowsFitIn w) id c (w .store)) w
 
 abbrev pub closes : CalledTo → World → After
 closes o w = moves (o .result) (o .store) w
 
+unfoldable pub placedOf : Placing → World → VerdictTo
+placedOf (Device d) w = setDeviceOf (w .session) (busFitsIn w) d (w .bus)
+placedOf (Port number row) w = setPortOf (w .session) (busFitsIn w) number row (w .bus)
+placedOf (Endpoints slot list) w = setEndpointsOf (w .session) (busFitsIn w) slot list (w .bus)
+placedOf (Reconcile slot mark) w = setReconcileOf (w .session) (busFitsIn w) slot mark (w .bus)
+
+unfoldable pub movedOf : Moving → World → After
+movedOf (Acquire reply) w = moves (acquireOf (w .session) reply) (w .store) w
+movedOf (Initialize reply) w = moves (initializeOf (w .session) reply) (w .store) w
+movedOf (Close fresh reply) w = closes (closeOf (w .session) (rowsFitIn w) fresh reply (w .store)) w
+
+unfoldable pub begunOf : Beginning → World → After
+begunOf (Submit q bytes given packets first second) w =
+    submits (submitOf (w .session) (storeFitsIn w) q bytes given packets first second (w .bus) (w .store) (w .area))
+begunOf (SubmitPlan q bytes first) w = plans (submitPlanOf (w .session) (storeFitsIn w) q bytes first (w .bus) (w .store) (w .area))
+begunOf (Poll id) w = polls (pollOf (w .session) (rowsFitIn w) id (w .store .rows)) w
+begunOf (Recover id kind) w = begins (beginOf (w .session) (rowsFitIn w) id kind (w .store .rows)) w
+
+unfoldable pub repliedOf : Replying → World → After
+repliedOf (ToSubmit reply) w = reports (submitReplyOf (w .session) (rowsFitIn w) reply (w .store)) w
+repliedOf (ToPoll reply bytes) w = finishes (finishOf (w .session) (rowsFitIn w && areaFitsIn w) reply bytes (w .store) (w .area)) w
+repliedOf (ToRecovery reply tokens words aborted bytes) w = recovers (recoversOf reply tokens words aborted bytes w) w
+
+-- the ledger's change
+abbrev pub changeBy : Changing → rules.Change
+changeBy Cancel = change.LogicalCancel
+changeBy Timeout = change.Timeout
+changeBy Reclaim = change.Reclaim
+
+unfoldable pub readOf : Reading → World → Answer
+readOf (Status id) w = ofReport (statusOf (w .session) (rowsFitIn w) id (w .store .rows))
+readOf (Reports from) w = ofNext (nextOf (w .session) (rowsFitIn w) from (w .store .rows))
+readOf CountReports w = ofTally (shownCount (w .session) (rowsFitIn w) (w .store .rows))
+readOf (CompletedBytes id) w = ofPart (completedPart (w .session) (rowsFitIn w && areaFitsIn w) id (w .store .rows))
+readOf HeldCount w = ofTally (heldCountOf (rowsFitIn w) (w .store .rows))
+readOf HeldBytes w = ofTally (heldBytesOf (rowsFitIn w) (w .store .rows))
+
 unfoldable pub stepOf : Call → World → After
 stepOf (Open o) w = opens (openOf (openFits o (length (w .store .words)) (length (w .area)) (length (w .bus .words))) o (w .store) (w .bus)) w
-stepOf (SetDevice d) w = places (setDeviceOf (w .session) (busFitsIn w) d (w .bus)) w
-stepOf (SetPort number row) w = places (setPortOf (w .session) (busFitsIn w) number row (w .bus)) w
-stepOf (SetEndpoints slot list) w = places (setEndpointsOf (w .session) (busFitsIn w) slot list (w .bus)) w
-stepOf (SetReconcile slot mark) w = places (setReconcileOf (w .session) (busFitsIn w) slot mark (w .bus)) w
-stepOf (Acquire reply) w = moves (acquireOf (w .session) reply) (w .store) w
-stepOf (Initialize reply) w = moves (initializeOf (w .session) reply) (w .store) w
-stepOf (Close fresh reply) w = closes (closeOf (w .session) (rowsFitIn w) fresh reply (w .store)) w
-stepOf (Submit q bytes given packets first second) w =
-    submits (submitOf (w .session) (storeFitsIn w) q bytes given packets first second (w .bus) (w .store) (w .area))
-stepOf (SubmitPlan q bytes first) w = plans (submitPlanOf (w .session) (storeFitsIn w) q bytes first (w .bus) (w .store) (w .area))
-stepOf (ReplySubmit reply) w = reports (submitReplyOf (w .session) (rowsFitIn w) reply (w .store)) w
-stepOf (Poll id) w = polls (pollOf (w .session) (rowsFitIn w) id (w .store .rows)) w
-stepOf (ReplyPoll reply bytes) w = finishes (finishOf (w .session) (rowsFitIn w && areaFitsIn w) reply bytes (w .store) (w .area)) w
-stepOf (AbortRequest id) w = begins (beginOf (w .session) (rowsFitIn w) id kind.Abort (w .store .rows)) w
-stepOf (ResetEndpoint id preserve) w = begins (beginOf (w .session) (rowsFitIn w) id (kind.Reset preserve) (w .store .rows)) w
-stepOf (ReplyRecovery reply tokens words aborted bytes) w = recovers (recoversOf reply tokens words aborted bytes w) w
-stepOf (Cancel id) w = changes id change.LogicalCancel w
-stepOf (Timeout id) w = changes id change.Timeout w
-stepOf (Reclaim id) w = changes id change.Reclaim w
-stepOf (Status id) w = reads (ofReport (statusOf (w .session) (rowsFitIn w) id (w .store .rows))) w
-stepOf (Reports from) w = reads (ofNext (nextOf (w .session) (rowsFitIn w) from (w .store .rows))) w
-stepOf CountReports w = reads (ofTally (shownCount (w .session) (rowsFitIn w) (w .store .rows))) w
-stepOf (CompletedBytes id) w = reads (answer.Bytes (completedPart (w .session) (rowsFitIn w && areaFitsIn w) id (w .store .rows))) w
-stepOf HeldCount w = reads (ofTally (heldCountOf (rowsFitIn w) (w .store .rows))) w
-stepOf HeldBytes w = reads (ofTally (heldBytesOf (rowsFitIn w) (w .store .rows))) w
+stepOf (Place p) w = places (placedOf p w) w
+stepOf (Move m) w = movedOf m w
+stepOf (Begin b) w = begunOf b w
+stepOf (Reply r) w = repliedOf r w
+stepOf (Change id c) w = changes id (changeBy c) w
+stepOf (Read r) w = reads (readOf r w) w

@@ -234,10 +234,26 @@ fn prepare(s: Session, bus: &mut [u64]) -> Session {
     start(s)
 }
 
+fn show_bytes(s: Session, rows: &[u64], area: &[u8], sequence: u64) {
+    let mut number = 0u16;
+    let bytes = status::completed_bytes(s, rows, area, id_of(sequence), &mut number);
+    if number != 0 {
+        show::refusal(b"bytes", number);
+        return;
+    }
+    show::bytes(b"bytes", bytes);
+}
+
+// The first request's report and its bytes.
+fn show_first(s: Session, rows: &[u64], area: &[u8]) {
+    show::reported(b"status", status::request_status(s, rows, id_of(0)));
+    show_bytes(s, rows, area, 0);
+}
+
 // 40 and 1 while a submission is in flight.
 fn ask_twice(s: Session, bus: &mut [u64], rows: &mut [u64], area: &mut [u8]) -> Session {
     let s = ask(s, bus, rows, area, 8);
-    show::reported(b"status", status::request_status(s, rows, id_of(0)));
+    show_first(s, rows, area);
     ask(s, bus, rows, area, 8)
 }
 
@@ -247,9 +263,12 @@ fn accept(s: Session, rows: &mut [u64], area: &mut [u8]) -> Session {
     take(s, rows, SubmitReply::Token(70))
 }
 
+// Once it is Pending there are no bytes.
 fn begin(s: Session, bus: &mut [u64], rows: &mut [u64], area: &mut [u8]) -> Session {
     let s = ask_twice(s, bus, rows, area);
-    accept(s, rows, area)
+    let s = accept(s, rows, area);
+    show_bytes(s, rows, area, 0);
+    s
 }
 
 // Pending with both flags: 42.
@@ -268,12 +287,13 @@ fn complete(s: Session, rows: &mut [u64], area: &mut [u8]) -> Session {
     take_poll(s, rows, area, completion(3, 13), b"abc")
 }
 
-// The bytes, 41, and 40 once the row is free.
+// 3 with no area, the bytes, 41, and 40 once the row is free.
 fn release(s: Session, rows: &mut [u64], area: &[u8]) -> Session {
-    show::bytes(b"bytes", status::completed_bytes(s, rows, area, id_of(0)));
+    show_bytes(s, rows, b"", 0);
+    show_bytes(s, rows, area, 0);
     let s = cancel(s, rows, 0);
     let s = reclaim(s, rows, 0);
-    show::reported(b"status", status::request_status(s, rows, id_of(0)));
+    show_first(s, rows, area);
     s
 }
 

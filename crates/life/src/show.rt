@@ -21,8 +21,12 @@ fn number(n: u64) {
 }
 
 fn refused(r: Refusal) {
+    refused_by(r.number);
+}
+
+fn refused_by(n: u16) {
     text(b" refused");
-    number(r.number as u64);
+    number(n as u64);
     text(b"\n");
 }
 
@@ -140,6 +144,12 @@ pub fn tally(name: &[u8], a: Tally) {
             text(b"\n");
         }
     }
+}
+
+// A refusal of which only the number is told.
+pub fn refusal(name: &[u8], n: u16) {
+    text(name);
+    refused_by(n);
 }
 
 pub fn bytes(name: &[u8], b: &[u8]) {

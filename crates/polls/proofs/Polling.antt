@@ -7,19 +7,23 @@ use lib.ListN.{getD}
 use Rattle.chain.specs.Lists.{foundIn}
 use Rattle.chain.specs.declared.Found.{Found}
 use Rattle.chain.specs.declared.Found.the-variants as found
-use Rattle.chain.proofs.Chain.{takes, passes, through, not-through}
+use Rattle.chain.proofs.Chain.{takes, passes, not-through}
 use Rattle.models.specs.Refusals.{refusalOf}
 use Rattle.models.specs.Requests.{isPending}
 use Rattle.models.specs.declared.Refusal.{Refusal}
 use Rattle.models.specs.declared.RequestId.{RequestId}
 use Rattle.models.specs.declared.RequestReport.{RequestReport}
+use Rattle.models.specs.declared.Verdict.{Verdict}
+use Rattle.models.specs.declared.Verdict.the-variants as verdict
 use Rattle.rows.specs.Table.{emptyRow}
 use Rattle.rows.specs.declared.Row.{Row}
 use Rattle.rules.specs.Rules.{reportOf}
 use Rattle.ledger.specs.Search.{isAt}
-use Rattle.session.specs.Session.{isBusy, isInitialized, withFlight}
+use Rattle.session.specs.Session.{isInitialized, withFlight}
+use Rattle.session.specs.Start.{readyOf}
 use Rattle.session.specs.declared.InFlight.the-variants as flight
 use Rattle.session.specs.declared.Session.{Session}
+use Rattle.session.proofs.Guarding.{guard-stop, guard-on}
 use Rattle.polls.specs.Poll.{pollRefused, pollRow, pollBy, pollOf}
 use Rattle.polls.specs.declared.PollAnswer.{PollAnswer}
 use Rattle.polls.specs.declared.PollAnswer.the-variants as poll
@@ -27,11 +31,6 @@ use Rattle.polls.specs.declared.Polled.{Polled}
 
 abbrev pub polledAs : PollAnswer → Session → Polled
 polledAs a s = record { answer = a; session = s }
-
--- a refusal by its number
-module _ (s : Session) (n : ℕ) (r : Refusal) (e : r ≡ refusalOf n) where
-  pub poll-number : pollRefused s r ≡ pollRefused s (refusalOf n)
-  poll-number = rw e
 
 -- the row of a poll
 module _ (s : Session) (row : Row) (id : RequestId) (p : Bool) (ep : p ≡ isPending (row .state)) where
@@ -49,22 +48,16 @@ module _ (s : Session) (row : Row) (id : RequestId) (p : Bool) (ep : p ≡ isPen
     row-asked next t e = passes Polled _ _ _ _ (not-through p _ false ep np) (passes Polled _ _ _ _ (not-through b _ false eb t) (rw e))
 
 -- a poll
-module _ (s : Session) (fits : Bool) (id : RequestId) (rows : List Row) (x : Polled) (b : Bool) (eb : b ≡ isBusy (s .«in_flight»)) where
-  pub poll-busy : b ≡ true → x ≡ pollRefused s (refusalOf 1) → x ≡ pollOf s fits id rows
+module _ (s : Session) (fits : Bool) (id : RequestId) (rows : List Row) (x : Polled) (v : Verdict) (ev : v ≡ readyOf s fits) where
+  pub poll-stop : (r : Refusal) → v ≡ verdict.Refused r → x ≡ pollRefused s r → x ≡ pollOf s fits id rows
   unfolding pollOf
-  poll-busy t e = takes Polled _ _ _ _ (through b _ true eb t) e
+  poll-stop r e ex = guard-stop Polled (pollRefused s) _ s fits x v ev r e ex
 
-  module _ (nb : b ≡ false) (f : Bool) (ef : f ≡ fits) where
-    pub poll-unfit : not f ≡ true → x ≡ pollRefused s (refusalOf 3) → x ≡ pollOf s fits id rows
-    unfolding pollOf
-    poll-unfit t e = passes Polled _ _ _ _ (through b _ false eb nb) (takes Polled _ _ _ _ (not-through f _ true ef t) e)
+  module _ (np : v ≡ verdict.Pass) (g : Found) (eg : g ≡ foundIn (isAt id) rows) where
+    pub poll-none : g ≡ found.Nothing → x ≡ pollRefused s (refusalOf 40) → x ≡ pollOf s fits id rows
+    unfolding pollOf pollBy
+    poll-none t e = guard-on Polled _ _ s fits x v ev np (e ∙ rw (sym eg ∙ t))
 
-    module _ (nf : not f ≡ false) (g : Found) (eg : g ≡ foundIn (isAt id) rows) where
-      pub poll-none : g ≡ found.Nothing → x ≡ pollRefused s (refusalOf 40) → x ≡ pollOf s fits id rows
-      unfolding pollOf pollBy
-      poll-none t e = passes Polled _ _ _ _ (through b _ false eb nb) (passes Polled _ _ _ _ (not-through f _ false ef nf) (e ∙ rw (sym eg ∙ t)))
-
-      pub poll-at : (i : ℕ) (row : Row) → g ≡ found.At i → row ≡ getD rows i emptyRow → x ≡ pollRow s row id → x ≡ pollOf s fits id rows
-      unfolding pollOf pollBy
-      poll-at i row t er e =
-          passes Polled _ _ _ _ (through b _ false eb nb) (passes Polled _ _ _ _ (not-through f _ false ef nf) (e ∙ rw (sym eg ∙ t, er)))
+    pub poll-at : (i : ℕ) (row : Row) → g ≡ found.At i → row ≡ getD rows i emptyRow → x ≡ pollRow s row id → x ≡ pollOf s fits id rows
+    unfolding pollOf pollBy
+    poll-at i row t er e = guard-on Polled _ _ s fits x v ev np (e ∙ rw (sym eg ∙ t, er))

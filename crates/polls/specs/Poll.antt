@@ -14,7 +14,8 @@ use Rattle.rows.specs.Table.{emptyRow}
 use Rattle.rows.specs.declared.Row.{Row}
 use Rattle.rules.specs.Rules.{reportOf}
 use Rattle.ledger.specs.Search.{isAt}
-use Rattle.session.specs.Session.{isBusy, isInitialized, withFlight}
+use Rattle.session.specs.Start.{guarded}
+use Rattle.session.specs.Session.{isInitialized, withFlight}
 use Rattle.session.specs.declared.InFlight.the-variants as flight
 use Rattle.session.specs.declared.Session.{Session}
 use Rattle.polls.specs.declared.PollAnswer.the-variants as poll
@@ -37,7 +38,4 @@ pollBy (found.At i) s id rows = pollRow s (getD rows i emptyRow) id
 
 -- 1, 3
 unfoldable pub pollOf : Session → Bool → RequestId → List Row → Polled
-pollOf s fits id rows =
-    pollRefused s (refusalOf 1) if isBusy (s .«in_flight») else
-    pollRefused s (refusalOf 3) if not fits else
-    pollBy (foundIn (isAt id) rows) s id rows
+pollOf s fits id rows = guarded s fits (pollRefused s) (pollBy (foundIn (isAt id) rows) s id rows)

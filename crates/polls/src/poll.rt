@@ -3,11 +3,13 @@ use crate::PollAnswer;
 use crate::Polled;
 use chain::Found;
 use ledger::search;
+use models::Refusal;
 use models::RequestId;
+use models::Verdict;
 use rows::Row;
 use session::InFlight;
 use session::Session;
-use session::sizes;
+use session::start;
 ghost use mathlib.Core.Path.{_≡_};
 ghost use lib.ListN.{length};
 ghost use Rattle.models.specs.Refusals.{refusalOf};
@@ -15,13 +17,19 @@ ghost use Rattle.rows.specs.Table.{rowsOf};
 ghost use Rattle.session.specs.Sizes.{rowsFit};
 ghost use Rattle.polls.specs.Poll.{pollRefused, pollRow, pollOf};
 
-fn poll_refused(session: Session, number: u16) -> Polled
-    ensures { λ r. ⌜ r ≡ pollRefused session (refusalOf number) ⌝ }
+fn refused(session: Session, refusal: Refusal) -> Polled
+    ensures { λ r. ⌜ r ≡ pollRefused session refusal ⌝ }
 {
     Polled {
-        answer: PollAnswer::Refused(models::refuse(number)),
+        answer: PollAnswer::Refused(refusal),
         session,
     }
+}
+
+fn refused_by(session: Session, number: u16) -> Polled
+    ensures { λ r. ⌜ r ≡ pollRefused session (refusalOf number) ⌝ }
+{
+    refused(session, models::refuse(number))
 }
 
 // A row that is not Pending is reported in any controller state; 28: not Initialized; else its token is to be asked for.
@@ -37,7 +45,7 @@ fn poll_row(session: Session, row: Row, id: RequestId) -> Polled
         };
     }
     if !session::is_initialized(controller) {
-        return poll_refused(session, 28);
+        return refused_by(session, 28);
     }
     Polled {
         answer: PollAnswer::Asked(row.token),
@@ -49,17 +57,16 @@ fn poll_row(session: Session, row: Row, id: RequestId) -> Polled
 pub fn poll_request(session: Session, rows: &[u64], id: RequestId) -> Polled
     ensures { λ r. ⌜ r ≡ pollOf session (rowsFit (session .«row_count») (session .«row_bytes») (length (now (rows .entry)))) id (rowsOf (now (rows .entry))) ⌝ }
 {
-    let flight = session.in_flight;
-    if session::is_busy(flight) {
-        return poll_refused(session, 1);
+    let verdict = start::rows_ready(session, rows.len());
+    match verdict {
+        Verdict::Refused(refusal) => refused(session, refusal),
+        Verdict::Pass => {
+            let found = search::find(rows, id);
+            let Found::At(i) = found else {
+                return refused_by(session, 40);
+            };
+            let row = rows::read_row(rows, i);
+            poll_row(session, row, id)
+        }
     }
-    if !sizes::rows_fit(session.row_count, session.row_bytes, rows.len()) {
-        return poll_refused(session, 3);
-    }
-    let found = search::find(rows, id);
-    let Found::At(i) = found else {
-        return poll_refused(session, 40);
-    };
-    let row = rows::read_row(rows, i);
-    poll_row(session, row, id)
 }

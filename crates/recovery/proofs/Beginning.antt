@@ -11,14 +11,19 @@ use Rattle.chain.specs.declared.Found.the-variants as found
 use Rattle.chain.proofs.Chain.{takes, passes}
 use Rattle.models.specs.Refusals.{refusalOf}
 use Rattle.models.specs.Requests.{deviceMayAccess}
+use Rattle.models.specs.declared.Refusal.{Refusal}
 use Rattle.models.specs.declared.RequestId.{RequestId}
+use Rattle.models.specs.declared.Verdict.{Verdict}
+use Rattle.models.specs.declared.Verdict.the-variants as verdict
 use Rattle.rows.specs.Table.{emptyRow, rowsOf}
 use Rattle.rows.specs.declared.Row.{Row}
 use Rattle.ledger.specs.Search.{isAt}
-use Rattle.session.specs.Session.{isBusy, mayRecover, withFlight}
+use Rattle.session.specs.Session.{mayRecover, withFlight}
+use Rattle.session.specs.Start.{readyOf}
 use Rattle.session.specs.declared.InFlight.the-variants as flight
 use Rattle.session.specs.declared.RecoveryKind.{RecoveryKind}
 use Rattle.session.specs.declared.Session.{Session}
+use Rattle.session.proofs.Guarding.{guard-stop, guard-on}
 use Rattle.scope.specs.Affected.{affectedOf, tokensOf}
 use Rattle.recovery.specs.Begin.{beginRefused, recoveryOf, begunAs, beginRow, beginBy, beginOf}
 use Rattle.recovery.specs.declared.Recovery.{Recovery}
@@ -54,21 +59,16 @@ module _ (s : Session) (r : Row) (id : RequestId) (k : RecoveryKind) (rows : Lis
     unfolding beginRow
     row-on q n eq e = passes Begun _ _ _ _ (rw eb at t) (passes Begun _ _ _ _ (rw em at n) (rw eq at e))
 
-module _ (s : Session) (fits : Bool) (id : RequestId) (k : RecoveryKind) (rows : List Row) (x : Begun) (b : Bool) (eb : b ≡ isBusy (s .«in_flight»)) where
-  pub begin-1 : b ≡ true → x ≡ beginRefused s (refusalOf 1) → x ≡ beginOf s fits id k rows
+module _ (s : Session) (fits : Bool) (id : RequestId) (k : RecoveryKind) (rows : List Row) (x : Begun) (v : Verdict) (ev : v ≡ readyOf s fits) where
+  pub begin-stop : (r : Refusal) → v ≡ verdict.Refused r → x ≡ beginRefused s r → x ≡ beginOf s fits id k rows
   unfolding beginOf
-  begin-1 t e = takes Begun _ _ _ _ (rw eb at t) e
+  begin-stop r e ex = guard-stop Begun (beginRefused s) _ s fits x v ev r e ex
 
-  module _ (t : b ≡ false) (f : Bool) (ef : f ≡ fits) where
-    pub begin-3 : not f ≡ true → x ≡ beginRefused s (refusalOf 3) → x ≡ beginOf s fits id k rows
-    unfolding beginOf
-    begin-3 n e = passes Begun _ _ _ _ (rw eb at t) (takes Begun _ _ _ _ (rw ef at n) e)
+  module _ (np : v ≡ verdict.Pass) (g : Found) (eg : g ≡ foundIn (isAt id) rows) where
+    pub begin-40 : g ≡ found.Nothing → x ≡ beginRefused s (refusalOf 40) → x ≡ beginOf s fits id k rows
+    unfolding beginOf beginBy
+    begin-40 h e = guard-on Begun _ _ s fits x v ev np (e ∙ rw (sym eg ∙ h))
 
-    module _ (n : not f ≡ false) (g : Found) (eg : g ≡ foundIn (isAt id) rows) where
-      pub begin-40 : g ≡ found.Nothing → x ≡ beginRefused s (refusalOf 40) → x ≡ beginOf s fits id k rows
-      unfolding beginOf beginBy
-      begin-40 h e = passes Begun _ _ _ _ (rw eb at t) (passes Begun _ _ _ _ (rw ef at n) (e ∙ rw (sym eg ∙ h)))
-
-      pub begin-on : (i : ℕ) (r : Row) → g ≡ found.At i → r ≡ getD rows i emptyRow → x ≡ beginRow s r id k rows → x ≡ beginOf s fits id k rows
-      unfolding beginOf beginBy
-      begin-on i r h er e = passes Begun _ _ _ _ (rw eb at t) (passes Begun _ _ _ _ (rw ef at n) (e ∙ rw (sym eg ∙ h, er)))
+    pub begin-on : (i : ℕ) (r : Row) → g ≡ found.At i → r ≡ getD rows i emptyRow → x ≡ beginRow s r id k rows → x ≡ beginOf s fits id k rows
+    unfolding beginOf beginBy
+    begin-on i r h er e = guard-on Begun _ _ s fits x v ev np (e ∙ rw (sym eg ∙ h, er))

@@ -59,9 +59,6 @@ pub refused-is : (s : Session) (r : Refusal) (n : RequestId) → n ≡ noId
     → _≡_ {A = Recovered} (record { answer = answer.Refused r; session = s; ids = record { completed = replicate 128 n; aborted = replicate 128 n } }) (recoveryRefused s r)
 refused-is s r n e = rw e
 
-pub refused-number : (s : Session) (n : ℕ) (r : Refusal) (x : Recovered) → r ≡ refusalOf n → x ≡ recoveryRefused s r → x ≡ recoveryRefused s (refusalOf n)
-refused-number s n r x e ex = ex ∙ rw e
-
 pub whole-is : (o : Outcome) (b : Bool) → b ≡ hasError (o .error) → (o .«restart_ready» && not b) ≡ isWhole o
 whole-is o b e = rw e
 

@@ -13,7 +13,8 @@ use Rattle.models.specs.declared.RequestId.{RequestId}
 use Rattle.rows.specs.Table.{emptyRow}
 use Rattle.rows.specs.declared.Row.{Row}
 use Rattle.ledger.specs.Search.{isAt}
-use Rattle.session.specs.Session.{isBusy, mayRecover, withFlight}
+use Rattle.session.specs.Start.{guarded}
+use Rattle.session.specs.Session.{mayRecover, withFlight}
 use Rattle.session.specs.declared.InFlight.the-variants as flight
 use Rattle.session.specs.declared.RecoveryKind.{RecoveryKind}
 use Rattle.session.specs.declared.Session.{Session}
@@ -51,7 +52,4 @@ beginBy (found.At i) s id kind rows = beginRow s (getD rows i emptyRow) id kind 
 
 -- 1, 3
 unfoldable pub beginOf : Session → Bool → RequestId → RecoveryKind → List Row → Begun
-beginOf s fits id kind rows =
-    beginRefused s (refusalOf 1) if isBusy (s .«in_flight») else
-    beginRefused s (refusalOf 3) if not fits else
-    beginBy (foundIn (isAt id) rows) s id kind rows
+beginOf s fits id kind rows = guarded s fits (beginRefused s) (beginBy (foundIn (isAt id) rows) s id kind rows)

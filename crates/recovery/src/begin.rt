@@ -4,13 +4,15 @@ use crate::Begun;
 use crate::Recovery;
 use chain::Found;
 use ledger::search;
+use models::Refusal;
 use models::RequestId;
+use models::Verdict;
 use rows::Row;
 use scope::affected;
 use session::InFlight;
 use session::RecoveryKind;
 use session::Session;
-use session::sizes;
+use session::start;
 ghost use mathlib.Core.Path.{_≡_};
 ghost use lib.ListN.{length};
 ghost use Rattle.models.specs.Refusals.{refusalOf};
@@ -19,15 +21,21 @@ ghost use Rattle.session.specs.Sizes.{rowsFit};
 ghost use Rattle.session.specs.declared.RecoveryKind.the-variants as RecoveryKind;
 ghost use Rattle.recovery.specs.Begin.{beginRefused, recoveryOf, begunAs, beginRow, beginOf};
 
-fn refused(session: Session, number: u16) -> Begun
-    ensures { λ r. ⌜ r ≡ beginRefused session (refusalOf number) ⌝ }
+fn refused(session: Session, refusal: Refusal) -> Begun
+    ensures { λ r. ⌜ r ≡ beginRefused session refusal ⌝ }
 {
     Begun {
-        answer: BeginAnswer::Refused(models::refuse(number)),
+        answer: BeginAnswer::Refused(refusal),
         session,
         tokens: [0; 128],
         count: 0,
     }
+}
+
+fn refused_by(session: Session, number: u16) -> Begun
+    ensures { λ r. ⌜ r ≡ beginRefused session (refusalOf number) ⌝ }
+{
+    refused(session, models::refuse(number))
 }
 
 fn recovery_of(id: RequestId, row: Row, kind: RecoveryKind) -> Recovery
@@ -68,10 +76,10 @@ fn begin_row(session: Session, rows: &[u64], row: Row, id: RequestId, kind: Reco
     let state = row.state;
     let controller = session.state;
     if !models::device_may_access(state) {
-        return refused(session, 43);
+        return refused_by(session, 43);
     }
     if !session::may_recover(controller) {
-        return refused(session, 44);
+        return refused_by(session, 44);
     }
     let recovery = recovery_of(id, row, kind);
     begin(session, rows, recovery)
@@ -81,19 +89,18 @@ fn begin_row(session: Session, rows: &[u64], row: Row, id: RequestId, kind: Reco
 fn begin_recovery(session: Session, rows: &[u64], id: RequestId, kind: RecoveryKind) -> Begun
     ensures { λ r. ⌜ r ≡ beginOf session (rowsFit (session .«row_count») (session .«row_bytes») (length (now (rows .entry)))) id kind (rowsOf (now (rows .entry))) ⌝ }
 {
-    let flight = session.in_flight;
-    if session::is_busy(flight) {
-        return refused(session, 1);
+    let verdict = start::rows_ready(session, rows.len());
+    match verdict {
+        Verdict::Refused(refusal) => refused(session, refusal),
+        Verdict::Pass => {
+            let found = search::find(rows, id);
+            let Found::At(i) = found else {
+                return refused_by(session, 40);
+            };
+            let row = rows::read_row(rows, i);
+            begin_row(session, rows, row, id, kind)
+        }
     }
-    if !sizes::rows_fit(session.row_count, session.row_bytes, rows.len()) {
-        return refused(session, 3);
-    }
-    let found = search::find(rows, id);
-    let Found::At(i) = found else {
-        return refused(session, 40);
-    };
-    let row = rows::read_row(rows, i);
-    begin_row(session, rows, row, id, kind)
 }
 
 pub fn abort_request(session: Session, rows: &[u64], target: RequestId) -> Begun

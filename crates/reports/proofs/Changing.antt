@@ -1,18 +1,19 @@
 -- One law for each way out of a change: its premises are the facts in hand there. Assumes nothing.
-use mathlib.Core.Bool.{Bool, true, false, not}
+use mathlib.Core.Bool.{Bool}
 use mathlib.Core.Path.{_≡_, _∙_}
-use Rattle.chain.proofs.Chain.{takes, passes, through, not-through}
-use Rattle.models.specs.Refusals.{refusalOf}
 use Rattle.models.specs.declared.Refusal.{Refusal}
 use Rattle.models.specs.declared.RequestId.{RequestId}
 use Rattle.models.specs.declared.RequestReport.{RequestReport}
+use Rattle.models.specs.declared.Verdict.{Verdict}
+use Rattle.models.specs.declared.Verdict.the-variants as verdict
 use Rattle.rows.specs.Store.{Store}
 use Rattle.ledger.specs.Apply.{appliedTo, applyOf}
 use Rattle.ledger.specs.declared.Applied.{Applied}
 use Rattle.ledger.specs.declared.Applied.the-variants as applied
 use Rattle.rules.specs.declared.Change.{Change}
-use Rattle.session.specs.Session.{isBusy}
+use Rattle.session.specs.Start.{readyOf}
 use Rattle.session.specs.declared.Session.{Session}
+use Rattle.session.proofs.Guarding.{guard-stop, guard-on}
 use Rattle.reports.specs.Answers.{ReportedTo, reportedTo, reportRefused}
 use Rattle.reports.specs.Change.{reportedBy, changeOf}
 use Rattle.reports.specs.declared.Reported.{Reported}
@@ -33,17 +34,12 @@ module _ (a : Applied) (s : Session) where
   reported-done x e = rw e
 
 -- a change
-module _ (s : Session) (fits : Bool) (id : RequestId) (c : Change) (store : Store) (x : Reported) (b : Bool) (eb : b ≡ isBusy (s .«in_flight»)) where
-  pub change-busy : b ≡ true → x ≡ reportRefused s (refusalOf 1) → reportedTo x store ≡ changeOf s fits id c store
+module _ (s : Session) (fits : Bool) (id : RequestId) (c : Change) (store : Store) (x : Reported) (v : Verdict) (ev : v ≡ readyOf s fits) where
+  pub change-stop : (r : Refusal) → v ≡ verdict.Refused r → x ≡ reportRefused s r → reportedTo x store ≡ changeOf s fits id c store
   unfolding changeOf
-  change-busy t e = takes ReportedTo _ _ _ _ (through b _ true eb t) (rw e)
+  change-stop r e ex = guard-stop ReportedTo (λ r. reportedTo (reportRefused s r) store) _ s fits _ v ev r e (rw ex)
 
-  module _ (nb : b ≡ false) (f : Bool) (ef : f ≡ fits) where
-    pub change-unfit : not f ≡ true → x ≡ reportRefused s (refusalOf 3) → reportedTo x store ≡ changeOf s fits id c store
-    unfolding changeOf
-    change-unfit t e = passes ReportedTo _ _ _ _ (through b _ false eb nb) (takes ReportedTo _ _ _ _ (not-through f _ true ef t) (rw e))
-
-    pub change-on : (a : Applied) (after : Store) → not f ≡ false → appliedTo a after ≡ applyOf id c store → x ≡ reportedBy a s
-        → reportedTo x after ≡ changeOf s fits id c store
-    unfolding changeOf
-    change-on a after t ea e = passes ReportedTo _ _ _ _ (through b _ false eb nb) (passes ReportedTo _ _ _ _ (not-through f _ false ef t) (rw (e, ← ea)))
+  pub change-on : (a : Applied) (after : Store) → v ≡ verdict.Pass → appliedTo a after ≡ applyOf id c store → x ≡ reportedBy a s
+      → reportedTo x after ≡ changeOf s fits id c store
+  unfolding changeOf
+  change-on a after e ea ex = guard-on ReportedTo _ _ s fits _ v ev e (rw (ex, ← ea))

@@ -26,14 +26,17 @@ use Rattle.rows.specs.declared.Row.{Row}
 use Rattle.rules.specs.Rules.{reportOf}
 use Rattle.ledger.specs.Search.{isAt}
 use Rattle.ledger.specs.Tally.{heldCount, heldBytes}
+use Rattle.ledger.proofs.Placing.{found-in}
 use Rattle.session.specs.Sizes.{rowsFit, areaFits}
 use Rattle.session.specs.declared.InFlight.{InFlight}
 use Rattle.session.specs.declared.InFlight.the-variants as flight
 use Rattle.session.specs.declared.Session.{Session}
-use Rattle.reports.specs.Status.{isSubmitting, statusBy, statusOf, isShown, comesAfter, beats, better, bestFrom, nextOf, shownCount, completedLength, part, partBy, completedPart, completedBytes, heldCountOf, heldBytesOf}
+use Rattle.reports.specs.Status.{isSubmitting, shownAt, statusBy, statusOf, isShown, comesAfter, beats, better, bestFrom, nextOf, shownCount, completedLength, part, partBy, completedPart, partOf, partNumber, bytesOf, heldCountOf, heldBytesOf}
 use Rattle.reports.specs.declared.OptionId.{OptionId}
 use Rattle.reports.specs.declared.OptionId.the-variants as option
 use Rattle.reports.specs.declared.Part.{Part}
+use Rattle.reports.specs.declared.PartAnswer.{PartAnswer}
+use Rattle.reports.specs.declared.PartAnswer.the-variants as bytes
 use Rattle.reports.specs.declared.ReportAnswer.{ReportAnswer}
 use Rattle.reports.specs.declared.ReportAnswer.the-variants as report
 use Rattle.reports.specs.declared.NextReport.{NextReport}
@@ -46,28 +49,41 @@ use Rattle.reports.proofs.Placed.{part-end}
 pub submitting-own : (f : InFlight) (id own : RequestId) (b : Bool) → f ≡ flight.Submission own → b ≡ sameRequest own id → b ≡ isSubmitting f id
 submitting-own f id own b e eb = eb ∙ rw e
 
+-- the row of an id that has a report
+module _ (f : InFlight) (id : RequestId) (rows : List Row) where
+  module _ (b : Bool) (eb : b ≡ isSubmitting f id) where
+    pub shown-none : b ≡ true → found.Nothing ≡ shownAt f id rows
+    unfolding shownAt
+    shown-none t = takes Found _ _ _ _ (through b _ true eb t) refl
+
+    pub shown-find : (g : Found) → b ≡ false → g ≡ foundIn (isAt id) rows → g ≡ shownAt f id rows
+    unfolding shownAt
+    shown-find g t eg = passes Found _ _ _ _ (through b _ false eb t) eg
+
+  shown-by : (b : Bool) (i : ℕ) → (found.Nothing if b else foundIn (isAt id) rows) ≡ found.At i → i < length rows
+  unfolding _if_else_
+  shown-by true i e = let z : _≡_ {A = ℕ} 0 1 = cc in absurd (omega arith)
+  shown-by false i e = found-in (isAt id) rows _ i refl e
+
+  pub shown-in : (g : Found) (i : ℕ) → g ≡ shownAt f id rows → g ≡ found.At i → i < length rows
+  unfolding shownAt
+  shown-in g i eg e = shown-by (isSubmitting f id) i (sym eg ∙ e)
+
 -- a request's status
 module _ (s : Session) (fits : Bool) (id : RequestId) (rows : List Row) (f : Bool) (ef : f ≡ fits) where
   pub status-unfit : (r : Refusal) → not f ≡ true → r ≡ refusalOf 3 → report.Refused r ≡ statusOf s fits id rows
   unfolding statusOf
   status-unfit r t e = takes ReportAnswer _ _ _ _ (not-through f _ true ef t) (rw e)
 
-  module _ (nf : not f ≡ false) (b : Bool) (eb : b ≡ isSubmitting (s .«in_flight») id) where
-    pub status-open : (r : Refusal) → b ≡ true → r ≡ refusalOf 40 → report.Refused r ≡ statusOf s fits id rows
-    unfolding statusOf
-    status-open r t e = passes ReportAnswer _ _ _ _ (not-through f _ false ef nf) (takes ReportAnswer _ _ _ _ (through b _ true eb t) (rw e))
+  module _ (nf : not f ≡ false) (g : Found) (eg : g ≡ shownAt (s .«in_flight») id rows) where
+    pub status-none : (r : Refusal) → g ≡ found.Nothing → r ≡ refusalOf 40 → report.Refused r ≡ statusOf s fits id rows
+    unfolding statusOf statusBy
+    status-none r t e = passes ReportAnswer _ _ _ _ (not-through f _ false ef nf) (rw (sym eg ∙ t, e))
 
-    module _ (nb : b ≡ false) (g : Found) (eg : g ≡ foundIn (isAt id) rows) where
-      pub status-none : (r : Refusal) → g ≡ found.Nothing → r ≡ refusalOf 40 → report.Refused r ≡ statusOf s fits id rows
-      unfolding statusOf statusBy
-      status-none r t e =
-          passes ReportAnswer _ _ _ _ (not-through f _ false ef nf) (passes ReportAnswer _ _ _ _ (through b _ false eb nb) (rw (sym eg ∙ t, e)))
-
-      pub status-at : (i : ℕ) (row : Row) (x : RequestReport) → g ≡ found.At i → row ≡ getD rows i emptyRow → x ≡ reportOf row
-          → report.Report x ≡ statusOf s fits id rows
-      unfolding statusOf statusBy
-      status-at i row x t er e =
-          passes ReportAnswer _ _ _ _ (not-through f _ false ef nf) (passes ReportAnswer _ _ _ _ (through b _ false eb nb) (rw (sym eg ∙ t, e, er)))
+    pub status-at : (i : ℕ) (row : Row) (x : RequestReport) → g ≡ found.At i → row ≡ getD rows i emptyRow → x ≡ reportOf row
+        → report.Report x ≡ statusOf s fits id rows
+    unfolding statusOf statusBy
+    status-at i row x t er e = passes ReportAnswer _ _ _ _ (not-through f _ false ef nf) (rw (sym eg ∙ t, e, er))
 
 -- the order of reports
 pub after-some : (o : OptionId) (id own : RequestId) (b : Bool) → o ≡ option.Some own → b ≡ requestBefore own id → b ≡ comesAfter o id
@@ -181,43 +197,54 @@ module _ (fits : Bool) (rows : List Row) (f : Bool) (ef : f ≡ fits) where
 
 -- where the bytes of a Completed request stand
 module _ (s : Session) (p q : Bool) (id : RequestId) (rows : List Row) (a b : Bool) (ea : a ≡ p) (eb : b ≡ q) where
-  pub part-unfit : not (a && b) ≡ true → part 0 0 ≡ completedPart s (p && q) id rows
+  pub part-unfit : (r : Refusal) → not (a && b) ≡ true → r ≡ refusalOf 3 → bytes.Refused r ≡ completedPart s (p && q) id rows
   unfolding completedPart
-  part-unfit t = takes Part _ _ _ _ (rw (ea, eb) at t) refl
+  part-unfit r t e = takes PartAnswer _ _ _ _ (rw (ea, eb) at t) (rw e)
 
-  module _ (t : not (a && b) ≡ false) (g : Found) (eg : g ≡ foundIn (isAt id) rows) where
-    pub part-none : g ≡ found.Nothing → part 0 0 ≡ completedPart s (p && q) id rows
+  module _ (t : not (a && b) ≡ false) (g : Found) (eg : g ≡ shownAt (s .«in_flight») id rows) where
+    pub part-none : (r : Refusal) → g ≡ found.Nothing → r ≡ refusalOf 40 → bytes.Refused r ≡ completedPart s (p && q) id rows
     unfolding completedPart partBy
-    part-none e = passes Part _ _ _ _ (rw (ea, eb) at t) (rw (sym eg ∙ e))
+    part-none r e er = passes PartAnswer _ _ _ _ (rw (ea, eb) at t) (rw (sym eg ∙ e, er))
 
     pub part-at : (i len n : ℕ) (row : Row) → g ≡ found.At i → row ≡ getD rows i emptyRow → len ≡ completedLength (row .state) → n ≡ min len (s .«row_bytes»)
-        → part (i * s .«row_bytes») n ≡ completedPart s (p && q) id rows
+        → bytes.Part (part (i * s .«row_bytes») n) ≡ completedPart s (p && q) id rows
     unfolding completedPart partBy
-    part-at i len n row e er el en = passes Part _ _ _ _ (rw (ea, eb) at t) (rw (sym eg ∙ e, en, el, er))
+    part-at i len n row e er el en = passes PartAnswer _ _ _ _ (rw (ea, eb) at t) (rw (sym eg ∙ e, en, el, er))
+
+pub part-empty : (a : PartAnswer) (r : Refusal) → a ≡ bytes.Refused r → part 0 0 ≡ partOf a
+part-empty a r e = rw e
 
 -- it lies inside the area
 module _ (s : Session) (id : RequestId) (w area : List ℕ) where
-  part-by : (g : Found) → g ≡ foundIn (isAt id) (rowsOf w)
-      → not (rowsFit (s .«row_count») (s .«row_bytes») (length w) && areaFits (s .«row_count») (s .«row_bytes») (length area)) ≡ false
-      → partBy g (s .«row_bytes») (rowsOf w) .start + partBy g (s .«row_bytes») (rowsOf w) .length ≤ length area
+  abbrev Fits-in : Bool
+  Fits-in = rowsFit (s .«row_count») (s .«row_bytes») (length w) && areaFits (s .«row_count») (s .«row_bytes») (length area)
+
+  abbrev Inside : PartAnswer → Type 0
+  Inside a = partOf a .start + partOf a .length ≤ length area
+
+  part-by : (g : Found) → g ≡ shownAt (s .«in_flight») id (rowsOf w) → not Fits-in ≡ false → Inside (partBy g (s .«row_bytes») (rowsOf w))
   unfolding partBy
   part-by found.Nothing eg t = omega arith
-  part-by (found.At i) eg t = part-end (s .«row_count») (s .«row_bytes») w (length area) _ _ refl refl t (isAt id) (found.At i) i eg refl (completedLength (getD (rowsOf w) i emptyRow .state)) _ refl
+  part-by (found.At i) eg t =
+      part-end (s .«row_count») (s .«row_bytes») w (length area) _ _ refl refl t i (shown-in (s .«in_flight») id (rowsOf w) _ i eg refl)
+      (completedLength (getD (rowsOf w) i emptyRow .state)) _ refl
 
-  part-fit : (fits : Bool) → fits ≡ (rowsFit (s .«row_count») (s .«row_bytes») (length w) && areaFits (s .«row_count») (s .«row_bytes») (length area))
-      → completedPart s fits id (rowsOf w) .start + completedPart s fits id (rowsOf w) .length ≤ length area
+  part-fit : (fits : Bool) → fits ≡ Fits-in → Inside (completedPart s fits id (rowsOf w))
   unfolding completedPart _if_else_
-  part-fit true e = part-by (foundIn (isAt id) (rowsOf w)) refl (ap not (sym e))
+  part-fit true e = part-by (shownAt (s .«in_flight») id (rowsOf w)) refl (ap not (sym e))
   part-fit false e = omega arith
 
-  module _ (o : Part) (eo : o ≡ completedPart s (rowsFit (s .«row_count») (s .«row_bytes») (length w) && areaFits (s .«row_count») (s .«row_bytes») (length area)) id (rowsOf w)) where
+  module _ (a : PartAnswer) (o : Part) (ea : a ≡ completedPart s Fits-in id (rowsOf w)) (eo : o ≡ partOf a) where
     pub part-inside : o .start + o .length ≤ length area
-    part-inside = rw eo (part-fit _ refl)
+    part-inside = rw (eo, ea) (part-fit _ refl)
 
     pub part-fits : Fits w64 (length area) → Fits w64 (o .start + o .length)
     part-fits f = omega (arith, f, part-inside)
 
-    pub part-of : take (o .start + o .length - o .start) (drop (o .start) area)
-        ≡ completedBytes s (rowsFit (s .«row_count») (s .«row_bytes») (length w) && areaFits (s .«row_count») (s .«row_bytes») (length area)) id (rowsOf w) area
-    unfolding completedBytes
-    part-of = let z : o .start + o .length - o .start ≡ o .length = omega arith in rw (z, eo)
+    pub part-bytes : take (o .start + o .length - o .start) (drop (o .start) area) ≡ bytesOf (completedPart s Fits-in id (rowsOf w)) area
+    unfolding bytesOf
+    part-bytes = let z : o .start + o .length - o .start ≡ o .length = omega arith in rw (z, eo, ea)
+
+  pub part-number : (a : PartAnswer) (n : ℕ) → a ≡ completedPart s Fits-in id (rowsOf w) → n ≡ partNumber a
+      → n ≡ partNumber (completedPart s Fits-in id (rowsOf w))
+  part-number a n ea en = en ∙ rw ea

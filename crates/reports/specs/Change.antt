@@ -1,14 +1,12 @@
 -- Cancel, timeout and reclaim (document 01, the place ledger of its table). Assumes nothing.
-use mathlib.Core.Bool.{Bool, not}
-use Rattle.chain.specs.Chain.{_if_else_}
-use Rattle.models.specs.Refusals.{refusalOf}
+use mathlib.Core.Bool.{Bool}
 use Rattle.models.specs.declared.RequestId.{RequestId}
 use Rattle.rows.specs.Store.{Store}
 use Rattle.ledger.specs.Apply.{applyOf}
 use Rattle.ledger.specs.declared.Applied.{Applied}
 use Rattle.ledger.specs.declared.Applied.the-variants as applied
 use Rattle.rules.specs.declared.Change.{Change}
-use Rattle.session.specs.Session.{isBusy}
+use Rattle.session.specs.Start.{guarded}
 use Rattle.session.specs.declared.Session.{Session}
 use Rattle.reports.specs.Answers.{ReportedTo, reportedTo, reportRefused}
 use Rattle.reports.specs.declared.Reported.{Reported}
@@ -21,6 +19,5 @@ reportedBy (applied.Done x) s = record { answer = report.Report x; session = s }
 -- 1, 3, then the ledger's 40, and 41 or 42
 unfoldable pub changeOf : Session → Bool → RequestId → Change → Store → ReportedTo
 changeOf s fits id c store =
-    reportedTo (reportRefused s (refusalOf 1)) store if isBusy (s .«in_flight») else
-    reportedTo (reportRefused s (refusalOf 3)) store if not fits else
-    reportedTo (reportedBy (applyOf id c store .answer) s) (applyOf id c store .store)
+    guarded s fits (λ r. reportedTo (reportRefused s r) store)
+    (reportedTo (reportedBy (applyOf id c store .answer) s) (applyOf id c store .store))

@@ -23,6 +23,8 @@ use Rattle.session.specs.declared.Session.{Session}
 use Rattle.reports.specs.declared.OptionId.{OptionId}
 use Rattle.reports.specs.declared.OptionId.the-variants as option
 use Rattle.reports.specs.declared.Part.{Part}
+use Rattle.reports.specs.declared.PartAnswer.{PartAnswer}
+use Rattle.reports.specs.declared.PartAnswer.the-variants as bytes
 use Rattle.reports.specs.declared.ReportAnswer.{ReportAnswer}
 use Rattle.reports.specs.declared.ReportAnswer.the-variants as report
 use Rattle.reports.specs.declared.NextReport.{NextReport}
@@ -37,17 +39,18 @@ isSubmitting (flight.Submission own) id = sameRequest own id
 isSubmitting (flight.Poll own) id = false
 isSubmitting (flight.Recovery target device endpoint kind) id = false
 
+-- the row of an id that has a report
+unfoldable pub shownAt : InFlight → RequestId → List Row → Found
+shownAt f id rows = found.Nothing if isSubmitting f id else foundIn (isAt id) rows
+
 -- 40
 unfoldable pub statusBy : Found → List Row → ReportAnswer
 statusBy found.Nothing rows = report.Refused (refusalOf 40)
 statusBy (found.At i) rows = report.Report (reportOf (getD rows i emptyRow))
 
--- 3, 40
+-- 3
 unfoldable pub statusOf : Session → Bool → RequestId → List Row → ReportAnswer
-statusOf s fits id rows =
-    report.Refused (refusalOf 3) if not fits else
-    report.Refused (refusalOf 40) if isSubmitting (s .«in_flight») id else
-    statusBy (foundIn (isAt id) rows) rows
+statusOf s fits id rows = report.Refused (refusalOf 3) if not fits else statusBy (shownAt (s .«in_flight») id rows) rows
 
 -- a request that has a report
 unfoldable pub isShown : InFlight → Row → Bool
@@ -88,16 +91,28 @@ completedLength Aborted = 0
 abbrev pub part : ℕ → ℕ → Part
 part start length = record { start = start; length = length }
 
-unfoldable pub partBy : Found → ℕ → List Row → Part
-partBy found.Nothing room rows = part 0 0
-partBy (found.At i) room rows = part (i * room) (min (completedLength (getD rows i emptyRow .state)) room)
+-- 40; the first actual-length bytes of the id's row, cut at its end, and none unless it is Completed now
+unfoldable pub partBy : Found → ℕ → List Row → PartAnswer
+partBy found.Nothing room rows = bytes.Refused (refusalOf 40)
+partBy (found.At i) room rows = bytes.Part (part (i * room) (min (completedLength (getD rows i emptyRow .state)) room))
 
--- the first actual-length bytes of the id's row, cut at its end, and none unless it is Completed now
-unfoldable pub completedPart : Session → Bool → RequestId → List Row → Part
-completedPart s fits id rows = part 0 0 if not fits else partBy (foundIn (isAt id) rows) (s .«row_bytes») rows
+-- 3
+unfoldable pub completedPart : Session → Bool → RequestId → List Row → PartAnswer
+completedPart s fits id rows =
+    bytes.Refused (refusalOf 3) if not fits else
+    partBy (shownAt (s .«in_flight») id rows) (s .«row_bytes») rows
 
-unfoldable pub completedBytes : Session → Bool → RequestId → List Row → List ℕ → List ℕ
-completedBytes s fits id rows area = take (completedPart s fits id rows .length) (drop (completedPart s fits id rows .start) area)
+-- the lent form: no bytes where it is refused, and the refusal's number, or 0
+abbrev pub partOf : PartAnswer → Part
+partOf (bytes.Refused r) = part 0 0
+partOf (bytes.Part p) = p
+
+abbrev pub partNumber : PartAnswer → ℕ
+partNumber (bytes.Refused r) = r .number
+partNumber (bytes.Part p) = 0
+
+unfoldable pub bytesOf : PartAnswer → List ℕ → List ℕ
+bytesOf a area = take (partOf a .length) (drop (partOf a .start) area)
 
 unfoldable pub heldCountOf : Bool → List Row → Tally
 heldCountOf fits rows = tally.Refused (refusalOf 3) if not fits else tally.Number (heldCount 16 rows)

@@ -4,9 +4,10 @@ use crate::Reported;
 use crate::answers;
 use ledger::Applied;
 use models::RequestId;
+use models::Verdict;
 use rules::Change;
 use session::Session;
-use session::sizes;
+use session::start;
 ghost use mathlib.Core.Path.{_≡_};
 ghost use lib.ListN.{length};
 ghost use Rattle.rows.specs.Store.{storeOf};
@@ -30,15 +31,14 @@ fn reported(applied: Applied, session: Session) -> Reported
 fn change_request(session: Session, rows: &mut [u64], id: RequestId, change: Change) -> Reported
     ensures { λ r. ⌜ reportedTo r (storeOf (now (rows .exit))) ≡ changeOf session (rowsFit (session .«row_count») (session .«row_bytes») (length (now (rows .entry)))) id change (storeOf (now (rows .entry))) ⌝ }
 {
-    let flight = session.in_flight;
-    if session::is_busy(flight) {
-        return answers::refused_by(session, 1);
+    let verdict = start::rows_ready(session, rows.len());
+    match verdict {
+        Verdict::Refused(refusal) => answers::refused(session, refusal),
+        Verdict::Pass => {
+            let applied = ledger::apply(rows, id, change);
+            reported(applied, session)
+        }
     }
-    if !sizes::rows_fit(session.row_count, session.row_bytes, rows.len()) {
-        return answers::refused_by(session, 3);
-    }
-    let applied = ledger::apply(rows, id, change);
-    reported(applied, session)
 }
 
 pub fn logical_cancel_request(session: Session, rows: &mut [u64], id: RequestId) -> Reported

@@ -42,3 +42,9 @@ pub struct Part {
     pub start: u64,
     pub length: u64,
 }
+
+// A part, or the refusal.
+pub enum PartAnswer {
+    Refused(Refusal),
+    Part(Part),
+}

@@ -2,6 +2,7 @@
 use crate::NextReport;
 use crate::OptionId;
 use crate::Part;
+use crate::PartAnswer;
 use crate::ReportAnswer;
 use crate::Tally;
 use chain::Found;
@@ -21,7 +22,7 @@ ghost use Rattle.chain.specs.Lists.{count};
 ghost use Rattle.reports.specs.declared.NextReport.the-variants as NextReport;
 ghost use Prim.Native.Nat.{_+_, _<_, min};
 ghost use Rattle.session.specs.Sizes.{rowsFit, areaFits};
-ghost use Rattle.reports.specs.Status.{isSubmitting, statusOf, isShown, comesAfter, beats, better, bestFrom, nextOf, shownCount, completedLength, completedPart, completedBytes, heldCountOf, heldBytesOf};
+ghost use Rattle.reports.specs.Status.{isSubmitting, shownAt, statusOf, isShown, comesAfter, beats, better, bestFrom, nextOf, shownCount, completedLength, completedPart, partOf, partNumber, bytesOf, heldCountOf, heldBytesOf};
 
 // The id's submission is in flight.
 fn is_submitting(flight: InFlight, id: RequestId) -> bool
@@ -35,6 +36,16 @@ fn is_submitting(flight: InFlight, id: RequestId) -> bool
     }
 }
 
+// The row of an id that has a report.
+fn find_shown(rows: &[u64], flight: InFlight, id: RequestId) -> Found
+    ensures { λ r. ⌜ r ≡ shownAt flight id (rowsOf (now (rows .entry))) ⌝ }
+{
+    if is_submitting(flight, id) {
+        return Found::Nothing;
+    }
+    search::find(rows, id)
+}
+
 // 3; 40: no row has the id, or its submission is in flight.
 pub fn request_status(session: Session, rows: &[u64], id: RequestId) -> ReportAnswer
     ensures { λ r. ⌜ r ≡ statusOf session (rowsFit (session .«row_count») (session .«row_bytes») (length (now (rows .entry)))) id (rowsOf (now (rows .entry))) ⌝ }
@@ -43,10 +54,7 @@ pub fn request_status(session: Session, rows: &[u64], id: RequestId) -> ReportAn
     if !sizes::rows_fit(session.row_count, session.row_bytes, rows.len()) {
         return ReportAnswer::Refused(models::refuse(3));
     }
-    if is_submitting(flight, id) {
-        return ReportAnswer::Refused(models::refuse(40));
-    }
-    let found = search::find(rows, id);
+    let found = find_shown(rows, flight, id);
     let Found::At(i) = found else {
         return ReportAnswer::Refused(models::refuse(40));
     };
@@ -173,20 +181,9 @@ fn completed_length(state: RequestState) -> u64
     ensures { λ r. ⌜ r ≡ completedLength state ⌝ }
 {
     match state {
-        RequestState::Pending {
-            logical_cancel: _,
-            timed_out: _,
-        } => 0,
-        RequestState::Completed {
-            actual_length,
-            completion_code: _,
-            logical_cancel: _,
-        } => actual_length,
-        RequestState::Failed {
-            error: _,
-            completion_code: _,
-            quiescent: _,
-        } => 0,
+        RequestState::Pending { .. } => 0,
+        RequestState::Completed { actual_length, .. } => actual_length,
+        RequestState::Failed { .. } => 0,
         RequestState::Aborted => 0,
     }
 }
@@ -200,42 +197,64 @@ fn cut(length: u64, room: u64) -> u64
     room
 }
 
-// Where the bytes of a request that is Completed now stand; an empty part otherwise, so that no bytes of a held row ever come back.
-pub fn completed_part(session: Session, rows: &[u64], bytes: usize, id: RequestId) -> Part
+// 3; 40 as `request_status`; else where the bytes of a request that is Completed now stand, and an empty part of any other.
+pub fn completed_part(session: Session, rows: &[u64], bytes: usize, id: RequestId) -> PartAnswer
     ensures { λ r. ⌜ r ≡ completedPart session (rowsFit (session .«row_count») (session .«row_bytes») (length (now (rows .entry))) && areaFits (session .«row_count») (session .«row_bytes») bytes) id (rowsOf (now (rows .entry))) ⌝ }
 {
+    let flight = session.in_flight;
     let rows_fit = sizes::rows_fit(session.row_count, session.row_bytes, rows.len());
     let area_fits = sizes::area_fits(session.row_count, session.row_bytes, bytes);
-    let none = Part {
-        start: 0,
-        length: 0,
-    };
     if !(rows_fit & area_fits) {
-        return none;
+        return PartAnswer::Refused(models::refuse(3));
     }
-    let found = search::find(rows, id);
+    let found = find_shown(rows, flight, id);
     let Found::At(i) = found else {
-        return none;
+        return PartAnswer::Refused(models::refuse(40));
     };
     let row = rows::read_row(rows, i);
     let state = row.state;
     let room = session.row_bytes;
-    Part {
-        start: i as u64 * room,
-        length: cut(completed_length(state), room),
+    let start = i as u64 * room;
+    let length = cut(completed_length(state), room);
+    PartAnswer::Part(Part { start, length })
+}
+
+// An empty part where it is refused.
+fn part_of(answer: PartAnswer) -> Part
+    ensures { λ r. ⌜ r ≡ partOf answer ⌝ }
+{
+    match answer {
+        PartAnswer::Refused(_) => Part {
+            start: 0,
+            length: 0,
+        },
+        PartAnswer::Part(part) => part,
     }
 }
 
-// The bytes of a request that is Completed now, as a part of the area.
+// The refusal's number, or 0.
+fn number_of(answer: PartAnswer) -> u16
+    ensures { λ r. ⌜ r ≡ partNumber answer ⌝ }
+{
+    match answer {
+        PartAnswer::Refused(refusal) => refusal.number,
+        PartAnswer::Part(_) => 0,
+    }
+}
+
+// The bytes as a part of the area, none where it is refused; `number` gets the refusal's number, or 0.
 pub fn completed_bytes<'a>(
     session: Session,
     rows: &[u64],
     area: &'a [u8],
     id: RequestId,
+    number: &mut u16,
 ) -> &'a [u8]
-    ensures { λ r. ⌜ now r ≡ completedBytes session (rowsFit (session .«row_count») (session .«row_bytes») (length (now (rows .entry))) && areaFits (session .«row_count») (session .«row_bytes») (length (now (area .entry)))) id (rowsOf (now (rows .entry))) (now (area .entry)) ⌝ }
+    ensures { λ r. ⌜ (now r ≡ bytesOf (completedPart session (rowsFit (session .«row_count») (session .«row_bytes») (length (now (rows .entry))) && areaFits (session .«row_count») (session .«row_bytes») (length (now (area .entry)))) id (rowsOf (now (rows .entry)))) (now (area .entry))) × (now (number .exit) ≡ partNumber (completedPart session (rowsFit (session .«row_count») (session .«row_bytes») (length (now (rows .entry))) && areaFits (session .«row_count») (session .«row_bytes») (length (now (area .entry)))) id (rowsOf (now (rows .entry))))) ⌝ }
 {
-    let part = completed_part(session, rows, area.len(), id);
+    let answer = completed_part(session, rows, area.len(), id);
+    *number = number_of(answer);
+    let part = part_of(answer);
     let at = part.start as usize;
     let end = at + part.length as usize;
     &area[at..end]

@@ -17,15 +17,17 @@ use Rattle.models.specs.declared.Verdict.the-variants as verdict
 use Rattle.rows.specs.Store.{Store, emptied}
 use Rattle.bus.specs.Tables.{Bus, cleared}
 use Rattle.bus.specs.Ports.{VerdictTo, verdictTo}
-use Rattle.session.specs.Session.{isClosed, isBusy, raised, withState, marked}
-use Rattle.session.specs.Lifecycle.{refusedBy, passed, newSession, openedTo, OpenedTo, openOf, acquiredBy, initializedBy, closedSession, calledTo, CalledTo, closedBy, freshBy, closeOf}
+use Rattle.session.specs.Session.{isClosed, raised, withState, marked}
+use Rattle.session.specs.Lifecycle.{callRefused, passed, newSession, openedTo, OpenedTo, openOf, acquiredBy, initializedBy, closedSession, calledTo, CalledTo, closedBy, freshBy, closeOf}
 use Rattle.session.specs.Place.{placed}
+use Rattle.session.specs.Start.{readyOf}
 use Rattle.session.specs.declared.Called.{Called}
 use Rattle.session.specs.declared.Session.{Session}
 use Rattle.session.specs.declared.lifecycle.Opening.{Opening}
 use Rattle.session.specs.declared.lifecycle.Opened.the-variants as opened
 use Rattle.session.specs.declared.lifecycle.AcquireReply.{AcquireReply}
 use Rattle.session.specs.declared.lifecycle.AcquireReply.the-variants as acquire
+use Rattle.session.proofs.Guarding.{guard-stop, guard-on}
 
 -- an opening
 module _ (f fits : Bool) (ef : f ≡ fits) (o : Opening) (s : Store) (b : Bus) where
@@ -47,11 +49,11 @@ module _ (s : Session) (x : Called) where
 
   module _ (reply : AcquireReply) (e : OperationError) (retained : Bool) (r : Refusal) (er : reply ≡ acquire.Failed e retained) (ee : r ≡ fromBackend 45 e) where
     pub acquired-kept : (v : OptionU64) (next : Session) → retained ≡ true → v ≡ raised (s .«recovery_revision») → next ≡ withState s RecoveryRequired v
-        → x ≡ refusedBy next r → x ≡ acquiredBy reply s
+        → x ≡ callRefused next r → x ≡ acquiredBy reply s
     unfolding acquiredBy
     acquired-kept v next t ev en ex = rw er (takes Called _ _ _ _ t (ex ∙ rw (en, ev, ee)))
 
-    pub acquired-left : retained ≡ false → x ≡ refusedBy s r → x ≡ acquiredBy reply s
+    pub acquired-left : retained ≡ false → x ≡ callRefused s r → x ≡ acquiredBy reply s
     unfolding acquiredBy
     acquired-left t ex = rw er (passes Called _ _ _ _ t (ex ∙ rw ee))
 
@@ -66,7 +68,7 @@ module _ (s : Session) (x : Called) where
     unfolding closedBy
     closed-pass fresh next store after e ea en ex = rw (ex, e, en, ea)
 
-    module _ (e : OperationError) (m : Session) (r : Refusal) (er : reply ≡ error.Some e) (em : m ≡ marked s) (ee : r ≡ fromBackend 45 e) (ex : x ≡ refusedBy m r) where
+    module _ (e : OperationError) (m : Session) (r : Refusal) (er : reply ≡ error.Some e) (em : m ≡ marked s) (ee : r ≡ fromBackend 45 e) (ex : x ≡ callRefused m r) where
       pub initialized-failed : x ≡ initializedBy reply s
       unfolding initializedBy
       initialized-failed = ex ∙ rw (er, em, ee)
@@ -76,49 +78,39 @@ module _ (s : Session) (x : Called) where
       closed-failed fresh store = rw (ex, er, em, ee)
 
 -- a close
-module _ (s : Session) (fits : Bool) (fresh : OptionU64) (reply : OptionError) (store : Store) (x : Called) (b : Bool) (eb : b ≡ isBusy (s .«in_flight»)) where
-  pub close-busy : b ≡ true → x ≡ refusedBy s (refusalOf 1) → calledTo x store ≡ closeOf s fits fresh reply store
+module _ (s : Session) (fits : Bool) (fresh : OptionU64) (reply : OptionError) (store : Store) (x : Called) (v : Verdict) (ev : v ≡ readyOf s fits) where
+  pub close-stop : (r : Refusal) → v ≡ verdict.Refused r → x ≡ callRefused s r → calledTo x store ≡ closeOf s fits fresh reply store
   unfolding closeOf
-  close-busy t ex = takes CalledTo _ _ _ _ (through b _ true eb t) (rw ex)
+  close-stop r e ex = guard-stop CalledTo (λ r. calledTo (callRefused s r) store) _ s fits _ v ev r e (rw ex)
 
-  module _ (nb : b ≡ false) (f : Bool) (ef : f ≡ fits) where
-    pub close-unfit : not f ≡ true → x ≡ refusedBy s (refusalOf 3) → calledTo x store ≡ closeOf s fits fresh reply store
+  module _ (np : v ≡ verdict.Pass) (k : Bool) (ek : k ≡ isClosed (s .state)) where
+    passed-start : (y : CalledTo) → y ≡ (calledTo (passed s) store if isClosed (s .state) else freshBy fresh s reply store)
+        → y ≡ closeOf s fits fresh reply store
     unfolding closeOf
-    close-unfit t ex = passes CalledTo _ _ _ _ (through b _ false eb nb) (takes CalledTo _ _ _ _ (not-through f _ true ef t) (rw ex))
+    passed-start y e = guard-on CalledTo _ _ s fits y v ev np e
 
-    module _ (nf : not f ≡ false) (k : Bool) (ek : k ≡ isClosed (s .state)) where
-      passed-sizes : (y : CalledTo) → y ≡ (calledTo (passed s) store if isClosed (s .state) else freshBy fresh s reply store)
-          → y ≡ closeOf s fits fresh reply store
-      unfolding closeOf
-      passed-sizes y e = passes CalledTo _ _ _ _ (through b _ false eb nb) (passes CalledTo _ _ _ _ (not-through f _ false ef nf) e)
+    pub close-closed : k ≡ true → x ≡ passed s → calledTo x store ≡ closeOf s fits fresh reply store
+    close-closed t ex = passed-start _ (takes CalledTo _ _ _ _ (through k _ true ek t) (rw ex))
 
-      pub close-closed : k ≡ true → x ≡ passed s → calledTo x store ≡ closeOf s fits fresh reply store
-      close-closed t ex = passed-sizes _ (takes CalledTo _ _ _ _ (through k _ true ek t) (rw ex))
+    module _ (nk : k ≡ false) where
+      pub close-none : fresh ≡ u64.None → x ≡ callRefused s (refusalOf 52) → calledTo x store ≡ closeOf s fits fresh reply store
+      unfolding freshBy
+      close-none e ex = passed-start _ (passes CalledTo _ _ _ _ (through k _ false ek nk) (rw (e, ex)))
 
-      module _ (nk : k ≡ false) where
-        pub close-none : fresh ≡ u64.None → x ≡ refusedBy s (refusalOf 52) → calledTo x store ≡ closeOf s fits fresh reply store
-        unfolding freshBy
-        close-none e ex = passed-sizes _ (passes CalledTo _ _ _ _ (through k _ false ek nk) (rw (e, ex)))
-
-        pub close-on : (n : ℕ) (after : Store) → fresh ≡ u64.Some n → calledTo x after ≡ closedBy reply s n store
-            → calledTo x after ≡ closeOf s fits fresh reply store
-        unfolding freshBy
-        close-on n after e h = passed-sizes _ (passes CalledTo _ _ _ _ (through k _ false ek nk) (h ∙ rw e))
+      pub close-on : (n : ℕ) (after : Store) → fresh ≡ u64.Some n → calledTo x after ≡ closedBy reply s n store
+          → calledTo x after ≡ closeOf s fits fresh reply store
+      unfolding freshBy
+      close-on n after e h = passed-start _ (passes CalledTo _ _ _ _ (through k _ false ek nk) (h ∙ rw e))
 
 -- a placing call
-module _ (s : Session) (fits : Bool) (b : Bus) (done : VerdictTo) (t : Bool) (et : t ≡ isBusy (s .«in_flight»)) where
-  pub place-busy : (x : Verdict) → t ≡ true → x ≡ verdict.Refused (refusalOf 1) → verdictTo x b ≡ placed s fits b done
+module _ (s : Session) (fits : Bool) (b : Bus) (done : VerdictTo) (v : Verdict) (ev : v ≡ readyOf s fits) where
+  pub place-stop : (r : Refusal) → v ≡ verdict.Refused r → verdictTo v b ≡ placed s fits b done
   unfolding placed
-  place-busy x e ex = takes VerdictTo _ _ _ _ (through t _ true et e) (rw ex)
+  place-stop r e = guard-stop VerdictTo (λ r. verdictTo (verdict.Refused r) b) done s fits _ v ev r e (rw e)
 
-  module _ (nt : t ≡ false) (f : Bool) (ef : f ≡ fits) where
-    pub place-unfit : (x : Verdict) → not f ≡ true → x ≡ verdict.Refused (refusalOf 3) → verdictTo x b ≡ placed s fits b done
-    unfolding placed
-    place-unfit x n ex = passes VerdictTo _ _ _ _ (through t _ false et nt) (takes VerdictTo _ _ _ _ (not-through f _ true ef n) (rw ex))
-
-    pub place-on : (y : VerdictTo) → not f ≡ false → y ≡ done → y ≡ placed s fits b done
-    unfolding placed
-    place-on y n e = passes VerdictTo _ _ _ _ (through t _ false et nt) (passes VerdictTo _ _ _ _ (not-through f _ false ef n) e)
+  pub place-on : (y : VerdictTo) → v ≡ verdict.Pass → y ≡ done → y ≡ placed s fits b done
+  unfolding placed
+  place-on y e ey = guard-on VerdictTo _ done s fits y v ev e ey
 
 -- what passes is the bus after it
 pub pass-to : (after next : Bus) → after ≡ next → verdictTo verdict.Pass after ≡ verdictTo verdict.Pass next

@@ -78,9 +78,6 @@ module _ (count bytes area : ℕ) (f : Bool) (e : f ≡ areaFits count bytes are
     pub place-small : i * bytes ≤ 67108864
     place-small = let s = fit-area in omega (arith, record-in bytes count i h, product-small count bytes (s .1) (s .3))
 
-pub fit-bus : (words : ℕ) (f : Bool) → f ≡ busFits words → not f ≡ false → words ≡ busWords
-fit-bus words f e n = eqb-true _ _ (fits-told f _ e n)
-
 pub fit-open : (o : Opening) (words area bus : ℕ) (f : Bool) → f ≡ openFits o words area bus → not f ≡ false → bus ≡ busWords
 unfolding openFits
 fit-open o words area bus f e n =

@@ -16,6 +16,7 @@ use Rattle.models.specs.declared.Verdict.the-variants as verdict
 use Rattle.rows.specs.Store.{Store, emptied}
 use Rattle.bus.specs.Tables.{Bus, cleared}
 use Rattle.session.specs.Session.{isClosed, isAcquired, isBusy, raised, withState, marked}
+use Rattle.session.specs.Start.{guarded}
 use Rattle.session.specs.declared.Called.{Called}
 use Rattle.session.specs.declared.Session.{Session}
 use Rattle.session.specs.declared.OptionStall.the-variants as stall
@@ -26,8 +27,8 @@ use Rattle.session.specs.declared.lifecycle.Opened.the-variants as opene
 use Rattle.session.specs.declared.lifecycle.AcquireReply.{AcquireReply}
 use Rattle.session.specs.declared.lifecycle.AcquireReply.the-variants as acquire
 
-abbrev pub refusedBy : Session → Refusal → Called
-refusedBy s r = record { answer = verdict.Refused r; session = s }
+abbrev pub callRefused : Session → Refusal → Called
+callRefused s r = record { answer = verdict.Refused r; session = s }
 
 abbrev pub passed : Session → Called
 passed s = record { answer = verdict.Pass; session = s }
@@ -67,24 +68,24 @@ openOf fits o s b = openedTo (opened.Refused (refusalOf 3)) s b if not fits else
 unfoldable pub acquiredBy : AcquireReply → Session → Called
 acquiredBy acquire.Acquired s = passed (withState s AcquiredUnknown (s .«recovery_revision»))
 acquiredBy (acquire.Failed e retained) s =
-    refusedBy (withState s RecoveryRequired (raised (s .«recovery_revision»))) (fromBackend 45 e) if retained else
-    refusedBy s (fromBackend 45 e)
+    callRefused (withState s RecoveryRequired (raised (s .«recovery_revision»))) (fromBackend 45 e) if retained else
+    callRefused s (fromBackend 45 e)
 
 unfoldable pub acquireOf : Session → AcquireReply → Called
 acquireOf s reply =
-    refusedBy s (refusalOf 1) if isBusy (s .«in_flight») else
-    refusedBy s (refusalOf 50) if not (isClosed (s .state)) else
+    callRefused s (refusalOf 1) if isBusy (s .«in_flight») else
+    callRefused s (refusalOf 50) if not (isClosed (s .state)) else
     acquiredBy reply s
 
 -- a failed initialise marks
 unfoldable pub initializedBy : OptionError → Session → Called
 initializedBy error.None s = passed (withState s Initialized (s .«recovery_revision»))
-initializedBy (error.Some e) s = refusedBy (marked s) (fromBackend 45 e)
+initializedBy (error.Some e) s = callRefused (marked s) (fromBackend 45 e)
 
 unfoldable pub initializeOf : Session → OptionError → Called
 initializeOf s reply =
-    refusedBy s (refusalOf 1) if isBusy (s .«in_flight») else
-    refusedBy s (refusalOf 51) if not (isAcquired (s .state)) else
+    callRefused s (refusalOf 1) if isBusy (s .«in_flight») else
+    callRefused s (refusalOf 51) if not (isAcquired (s .state)) else
     initializedBy reply s
 
 -- a new ledger at sequence 0; the revision and the stall stay
@@ -112,18 +113,16 @@ calledTo c s = record { result = c; store = s }
 
 -- a backend error leaves a recovery mark
 unfoldable pub closedBy : OptionError → Session → ℕ → Store → CalledTo
-closedBy (error.Some e) s fresh store = calledTo (refusedBy (marked s) (fromBackend 45 e)) store
+closedBy (error.Some e) s fresh store = calledTo (callRefused (marked s) (fromBackend 45 e)) store
 closedBy error.None s fresh store = calledTo (passed (closedSession s fresh)) (emptied store)
 
 -- no fresh number is 52
 unfoldable pub freshBy : OptionU64 → Session → OptionError → Store → CalledTo
-freshBy u64.None s reply store = calledTo (refusedBy s (refusalOf 52)) store
+freshBy u64.None s reply store = calledTo (callRefused s (refusalOf 52)) store
 freshBy (u64.Some fresh) s reply store = closedBy reply s fresh store
 
--- Closed succeeds unchanged
+-- 1, 3; Closed succeeds unchanged
 unfoldable pub closeOf : Session → Bool → OptionU64 → OptionError → Store → CalledTo
 closeOf s fits fresh reply store =
-    calledTo (refusedBy s (refusalOf 1)) store if isBusy (s .«in_flight») else
-    calledTo (refusedBy s (refusalOf 3)) store if not fits else
-    calledTo (passed s) store if isClosed (s .state) else
-    freshBy fresh s reply store
+    guarded s fits (λ r. calledTo (callRefused s r) store)
+    (calledTo (passed s) store if isClosed (s .state) else freshBy fresh s reply store)

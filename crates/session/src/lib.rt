@@ -11,6 +11,7 @@ ghost use Rattle.session.specs.Session.{isClosed, isAcquired, isInitiali
 pub mod lifecycle;
 pub mod place;
 pub mod sizes;
+pub mod start;
 
 // What a poll found that a reset of the same endpoint may undo: document 01's stall note.
 pub struct RecoverableStall {
@@ -133,62 +134,28 @@ fn raise(revision: OptionU64) -> OptionU64
 pub fn with_state(session: Session, state: ControllerState, recovery_revision: OptionU64) -> Session
     ensures { λ r. ⌜ r ≡ withState session state «recovery_revision» ⌝ }
 {
-    let ports = session.ports;
-    let recoverable_stall = session.recoverable_stall;
-    let in_flight = session.in_flight;
     Session {
-        number: session.number,
-        generation: session.generation,
-        next_sequence: session.next_sequence,
-        ports,
         state,
         recovery_revision,
-        recoverable_stall,
-        in_flight,
-        row_count: session.row_count,
-        row_bytes: session.row_bytes,
+        ..session
     }
 }
 
 pub fn with_flight(session: Session, in_flight: InFlight) -> Session
     ensures { λ r. ⌜ r ≡ withFlight session «in_flight» ⌝ }
 {
-    let ports = session.ports;
-    let state = session.state;
-    let recovery_revision = session.recovery_revision;
-    let recoverable_stall = session.recoverable_stall;
     Session {
-        number: session.number,
-        generation: session.generation,
-        next_sequence: session.next_sequence,
-        ports,
-        state,
-        recovery_revision,
-        recoverable_stall,
         in_flight,
-        row_count: session.row_count,
-        row_bytes: session.row_bytes,
+        ..session
     }
 }
 
 pub fn with_stall(session: Session, recoverable_stall: OptionStall) -> Session
     ensures { λ r. ⌜ r ≡ withStall session «recoverable_stall» ⌝ }
 {
-    let ports = session.ports;
-    let state = session.state;
-    let recovery_revision = session.recovery_revision;
-    let in_flight = session.in_flight;
     Session {
-        number: session.number,
-        generation: session.generation,
-        next_sequence: session.next_sequence,
-        ports,
-        state,
-        recovery_revision,
         recoverable_stall,
-        in_flight,
-        row_count: session.row_count,
-        row_bytes: session.row_bytes,
+        ..session
     }
 }
 
@@ -196,9 +163,11 @@ pub fn with_stall(session: Session, recoverable_stall: OptionStall) -> Session
 pub fn spend(session: Session, next_sequence: u64, id: RequestId) -> Session
     ensures { λ r. ⌜ r ≡ spent session «next_sequence» id ⌝ }
 {
-    let mut next = with_flight(session, InFlight::Submission(id));
-    next.next_sequence = next_sequence;
-    next
+    Session {
+        next_sequence,
+        in_flight: InFlight::Submission(id),
+        ..session
+    }
 }
 
 // A recovery mark: unless Closed, RecoveryRequired with the revision raised.

@@ -9,6 +9,7 @@ use crate::is_closed;
 use crate::mark;
 use crate::raise;
 use crate::sizes;
+use crate::start;
 use crate::with_state;
 use models::ControllerState;
 use models::OperationError;
@@ -24,7 +25,7 @@ ghost use Rattle.models.specs.Refusals.{refusalOf};
 ghost use Rattle.rows.specs.Store.{storeOf};
 ghost use Rattle.bus.specs.Tables.{busOf};
 ghost use Rattle.session.specs.Sizes.{rowsFit, openFits};
-ghost use Rattle.session.specs.Lifecycle.{refusedBy, passed, portsOf, newSession, openedTo, openOf, acquiredBy, acquireOf, initializedBy, initializeOf, closedSession, calledTo, closedBy, closeOf};
+ghost use Rattle.session.specs.Lifecycle.{callRefused, passed, portsOf, newSession, openedTo, openOf, acquiredBy, acquireOf, initializedBy, initializeOf, closedSession, calledTo, closedBy, closeOf};
 
 // What an opening sets.
 pub struct Opening {
@@ -48,8 +49,8 @@ pub enum AcquireReply {
     Failed(OperationError, bool),
 }
 
-fn refused_by(session: Session, refusal: Refusal) -> Called
-    ensures { λ r. ⌜ r ≡ refusedBy session refusal ⌝ }
+fn refused(session: Session, refusal: Refusal) -> Called
+    ensures { λ r. ⌜ r ≡ callRefused session refusal ⌝ }
 {
     Called {
         answer: Verdict::Refused(refusal),
@@ -57,10 +58,10 @@ fn refused_by(session: Session, refusal: Refusal) -> Called
     }
 }
 
-fn refused(session: Session, number: u16) -> Called
-    ensures { λ r. ⌜ r ≡ refusedBy session (refusalOf number) ⌝ }
+fn refused_by(session: Session, number: u16) -> Called
+    ensures { λ r. ⌜ r ≡ callRefused session (refusalOf number) ⌝ }
 {
-    refused_by(session, models::refuse(number))
+    refused(session, models::refuse(number))
 }
 
 fn pass(session: Session) -> Called
@@ -139,9 +140,9 @@ fn acquired(session: Session, reply: AcquireReply) -> Called
             let refusal = models::refuse_backend(45, error);
             if retained {
                 let next = with_state(session, ControllerState::RecoveryRequired, raise(revision));
-                return refused_by(next, refusal);
+                return refused(next, refusal);
             }
-            refused_by(session, refusal)
+            refused(session, refusal)
         }
     }
 }
@@ -153,10 +154,10 @@ pub fn acquire(session: Session, reply: AcquireReply) -> Called
     let flight = session.in_flight;
     let state = session.state;
     if is_busy(flight) {
-        return refused(session, 1);
+        return refused_by(session, 1);
     }
     if !is_closed(state) {
-        return refused(session, 50);
+        return refused_by(session, 50);
     }
     acquired(session, reply)
 }
@@ -168,7 +169,7 @@ fn initialized(session: Session, reply: OptionError) -> Called
     let revision = session.recovery_revision;
     match reply {
         OptionError::None => pass(with_state(session, ControllerState::Initialized, revision)),
-        OptionError::Some(error) => refused_by(mark(session), models::refuse_backend(45, error)),
+        OptionError::Some(error) => refused(mark(session), models::refuse_backend(45, error)),
     }
 }
 
@@ -179,10 +180,10 @@ pub fn initialize(session: Session, reply: OptionError) -> Called
     let flight = session.in_flight;
     let state = session.state;
     if is_busy(flight) {
-        return refused(session, 1);
+        return refused_by(session, 1);
     }
     if !is_acquired(state) {
-        return refused(session, 51);
+        return refused_by(session, 51);
     }
     initialized(session, reply)
 }
@@ -190,20 +191,13 @@ pub fn initialize(session: Session, reply: OptionError) -> Called
 fn closed_session(session: Session, fresh: u64) -> Session
     ensures { λ r. ⌜ r ≡ closedSession session fresh ⌝ }
 {
-    let ports = session.ports;
-    let recovery_revision = session.recovery_revision;
-    let recoverable_stall = session.recoverable_stall;
     Session {
         number: fresh,
         generation: 0,
         next_sequence: 0,
-        ports,
         state: ControllerState::Closed,
-        recovery_revision,
-        recoverable_stall,
         in_flight: InFlight::Nothing,
-        row_count: session.row_count,
-        row_bytes: session.row_bytes,
+        ..session
     }
 }
 
@@ -212,7 +206,7 @@ fn closed(session: Session, rows: &mut [u64], fresh: u64, reply: OptionError) ->
     ensures { λ r. ⌜ calledTo r (storeOf (now (rows .exit))) ≡ closedBy reply session fresh (storeOf (now (rows .entry))) ⌝ }
 {
     match reply {
-        OptionError::Some(error) => refused_by(mark(session), models::refuse_backend(45, error)),
+        OptionError::Some(error) => refused(mark(session), models::refuse_backend(45, error)),
         OptionError::None => {
             rows::clear_rows(rows);
             pass(closed_session(session, fresh))
@@ -224,19 +218,18 @@ fn closed(session: Session, rows: &mut [u64], fresh: u64, reply: OptionError) ->
 pub fn close(session: Session, rows: &mut [u64], fresh: OptionU64, reply: OptionError) -> Called
     ensures { λ r. ⌜ calledTo r (storeOf (now (rows .exit))) ≡ closeOf session (rowsFit (session .«row_count») (session .«row_bytes») (length (now (rows .entry)))) fresh reply (storeOf (now (rows .entry))) ⌝ }
 {
-    let flight = session.in_flight;
     let state = session.state;
-    if is_busy(flight) {
-        return refused(session, 1);
+    let verdict = start::rows_ready(session, rows.len());
+    match verdict {
+        Verdict::Refused(refusal) => refused(session, refusal),
+        Verdict::Pass => {
+            if is_closed(state) {
+                return pass(session);
+            }
+            let OptionU64::Some(number) = fresh else {
+                return refused_by(session, 52);
+            };
+            closed(session, rows, number, reply)
+        }
     }
-    if !sizes::rows_fit(session.row_count, session.row_bytes, rows.len()) {
-        return refused(session, 3);
-    }
-    if is_closed(state) {
-        return pass(session);
-    }
-    let OptionU64::Some(number) = fresh else {
-        return refused(session, 52);
-    };
-    closed(session, rows, number, reply)
 }

@@ -1,10 +1,10 @@
 -- What the checks and the sizes say of a submission that goes on: its request fits its row, and its row the area. Assumes nothing.
-use Prim.Native.Nat.{ℕ, _+_, _*_, _≤_}
-use mathlib.Core.Bool.{Bool, true, not, _&&_}
+use Prim.Native.Nat.{ℕ, _+_, _*_, _<_, _≤_}
+use mathlib.Core.Bool.{true, not, _&&_}
 use mathlib.Core.List.{List}
 use mathlib.Core.Path.{_≡_, refl, sym, ap, _∙_}
 use native.Mathlib.Omega.{arith}
-use borrow.Author.Tests.{eqb-true, not-false}
+use borrow.Author.Tests.{eqb-true}
 use lib.ListN.{length}
 use mir.Syntax.{w64}
 use mir.Val.{Fits}
@@ -14,10 +14,9 @@ use Rattle.chain.proofs.Chain.{both}
 use Rattle.models.specs.declared.ControlPlan.{ControlPlan}
 use Rattle.models.specs.declared.RequestMetadata.{RequestMetadata}
 use Rattle.models.specs.declared.RequestSpec.{RequestSpec}
-use Rattle.models.specs.declared.Verdict.{Verdict}
-use Rattle.models.specs.declared.Verdict.the-variants as verdict
 use Rattle.rows.specs.Table.{rowsOf}
 use Rattle.ledger.specs.Search.{isFree}
+use Rattle.ledger.proofs.Placing.{found-in}
 use Rattle.bus.specs.Layout.{busWords}
 use Rattle.checks.specs.Prepare.{prepared}
 use Rattle.checks.specs.Plan.{planned}
@@ -26,11 +25,11 @@ use Rattle.checks.specs.declared.prepare.Prepared.the-variants as prepare
 use Rattle.checks.specs.declared.plan.Planned.{Planned}
 use Rattle.checks.specs.declared.plan.Planned.the-variants as plan
 use Rattle.checks.specs.declared.plan.ValidatedControlPlan.{ValidatedControlPlan}
-use Rattle.checks.proofs.Passed.{fails, rest, ready-fits, planned-fits}
+use Rattle.checks.proofs.Passed.{ready-fits, planned-fits}
 use Rattle.session.specs.Sizes.{rowsFit, areaFits, busFits}
 use Rattle.session.specs.declared.Session.{Session}
 use Rattle.submissions.specs.Begin.{roomIn}
-use Rattle.submissions.specs.Submit.{storeFits, readyOf}
+use Rattle.submissions.specs.Submit.{storeFits}
 use Rattle.submissions.proofs.Beginning.{found-free}
 use Rattle.reports.proofs.Placed.{place-fits, place-in}
 
@@ -59,13 +58,11 @@ module _ (s : Session) (l area bus : List ℕ) (e : storeFits s (length l) (leng
   bus-fits = eqb-true _ _ (told .1)
 
   module _ (f : Found) (i : ℕ) (ef : f ≡ roomIn (rowsOf l)) (fi : f ≡ found.At i) where
+    below : i < length (rowsOf l)
+    below = found-in isFree (rowsOf l) _ i refl (found-free (rowsOf l) i (sym ef ∙ fi))
+
     pub room-fits : Fits w64 (i * s .«row_bytes»)
-    room-fits = place-fits _ _ l (length area) _ _ refl refl (ap not (told .0)) isFree _ i refl (found-free (rowsOf l) i (sym ef ∙ fi))
+    room-fits = place-fits _ _ l (length area) _ _ refl refl (ap not (told .0)) i below
 
     pub room-place : i * s .«row_bytes» + s .«row_bytes» ≤ length area
-    room-place = place-in _ _ l (length area) _ _ refl refl (ap not (told .0)) isFree _ i refl (found-free (rowsOf l) i (sym ef ∙ fi))
-
--- a session that is ready has slices of its sizes
-pub ready-sizes : (s : Session) (fits : Bool) (v : Verdict) → v ≡ readyOf s fits → v ≡ verdict.Pass → fits ≡ true
-unfolding readyOf
-ready-sizes s fits v ev e = not-false fits (fails _ _ _ (rest _ _ _ (sym ev ∙ e)))
+    room-place = place-in _ _ l (length area) _ _ refl refl (ap not (told .0)) i below

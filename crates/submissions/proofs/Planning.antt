@@ -21,9 +21,10 @@ use Rattle.checks.specs.Plan.{planned}
 use Rattle.checks.specs.declared.plan.Planned.{Planned}
 use Rattle.checks.specs.declared.plan.Planned.the-variants as plan
 use Rattle.checks.specs.declared.plan.ValidatedControlPlan.{ValidatedControlPlan}
+use Rattle.session.specs.Start.{readyOf}
 use Rattle.session.specs.declared.Session.{Session}
 use Rattle.submissions.specs.Begin.{roomIn, TargetTo, targetTo, targetOf}
-use Rattle.submissions.specs.Submit.{readyOf, PlanTo, planTo, planRefused, planStarted, plannedTo, plannedBy, planRoomBy, planBy, submitPlanOf}
+use Rattle.submissions.specs.Submit.{PlanTo, planTo, planRefused, planStarted, plannedTo, plannedBy, planRoomBy, planBy, submitPlanOf}
 use Rattle.submissions.specs.declared.PlanSubmitted.{PlanSubmitted}
 use Rattle.submissions.specs.declared.PlanAnswer.the-variants as planAnswer
 use Rattle.submissions.specs.declared.begin.Start.{Start}

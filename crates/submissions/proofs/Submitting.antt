@@ -1,12 +1,11 @@
 -- One law for each way out of a request's submission: its premises are the facts in hand there. Assumes nothing.
 use Prim.Native.Nat.{ℕ, _*_}
-use mathlib.Core.Bool.{Bool, true, false, not, _&&_}
+use mathlib.Core.Bool.{Bool, _&&_}
 use mathlib.Core.List.{List}
-use mathlib.Core.Path.{_≡_, refl, sym, ap, _∙_}
+use mathlib.Core.Path.{_≡_, ap, _∙_}
 use lib.ListN.{length}
 use Rattle.chain.specs.declared.Found.{Found}
 use Rattle.chain.specs.declared.Found.the-variants as found
-use Rattle.chain.proofs.Chain.{takes, passes, through}
 use Rattle.models.specs.Refusals.{refusalOf}
 use Rattle.models.specs.declared.PortReading.{PortReading}
 use Rattle.models.specs.declared.Refusal.{Refusal}
@@ -23,11 +22,11 @@ use Rattle.checks.specs.Packets.{packetsChecked}
 use Rattle.checks.specs.Prepare.{prepared}
 use Rattle.checks.specs.declared.prepare.Prepared.{Prepared}
 use Rattle.checks.specs.declared.prepare.Prepared.the-variants as prepare
-use Rattle.session.specs.Session.{isBusy}
 use Rattle.session.specs.Sizes.{rowsFit, areaFits, busFits}
+use Rattle.session.specs.Start.{readyOf}
 use Rattle.session.specs.declared.Session.{Session}
 use Rattle.submissions.specs.Begin.{roomIn, TargetTo, targetTo, targetOf}
-use Rattle.submissions.specs.Submit.{storeFits, readyOf, SubmitTo, submitTo, submitRefused, submittedBy, submittedTo, preparedBy, roomBy, packetsBy, submitBy, submitOf}
+use Rattle.submissions.specs.Submit.{storeFits, SubmitTo, submitTo, submitRefused, submittedBy, submittedTo, preparedBy, roomBy, packetsBy, submitBy, submitOf}
 use Rattle.submissions.specs.declared.Submitted.{Submitted}
 use Rattle.submissions.specs.declared.SubmitAnswer.the-variants as submit
 use Rattle.submissions.specs.declared.begin.Start.{Start}
@@ -35,23 +34,10 @@ use Rattle.submissions.specs.declared.begin.Start.the-variants as start
 use Rattle.submissions.specs.declared.begin.Started.{Started}
 
 -- 1, 3
-module _ (s : Session) (words area bus : ℕ) (b : Bool) (eb : b ≡ isBusy (s .«in_flight»)) where
-  pub ready-busy : (r : Refusal) → b ≡ true → r ≡ refusalOf 1 → verdict.Refused r ≡ readyOf s (storeFits s words area bus)
-  unfolding readyOf
-  ready-busy r t er = takes Verdict _ _ _ _ (through b _ true eb t) (ap verdict.Refused er)
-
-  module _ (nb : b ≡ false) (rows parts tables : Bool) (er : rows ≡ rowsFit (s .«row_count») (s .«row_bytes») words) (ea : parts ≡ areaFits (s .«row_count») (s .«row_bytes») area) (et : tables ≡ busFits bus) where
-    fits-is : (rows && parts && tables) ≡ storeFits s words area bus
-    fits-is = rw (er, ea, et)
-
-    pub ready-unfit : (r : Refusal) → not (rows && parts && tables) ≡ true → r ≡ refusalOf 3 → verdict.Refused r ≡ readyOf s (storeFits s words area bus)
-    unfolding readyOf
-    ready-unfit r t e =
-        passes Verdict _ _ _ _ (through b _ false eb nb) (takes Verdict _ _ _ _ (ap not (sym fits-is) ∙ t) (ap verdict.Refused e))
-
-    pub ready-pass : not (rows && parts && tables) ≡ false → verdict.Pass ≡ readyOf s (storeFits s words area bus)
-    unfolding readyOf
-    ready-pass t = passes Verdict _ _ _ _ (through b _ false eb nb) (passes Verdict _ _ _ _ (ap not (sym fits-is) ∙ t) refl)
+pub ready-is : (s : Session) (words area bus : ℕ) (rows parts tables : Bool) (v : Verdict) → rows ≡ rowsFit (s .«row_count») (s .«row_bytes») words
+    → parts ≡ areaFits (s .«row_count») (s .«row_bytes») area → tables ≡ busFits bus → v ≡ readyOf s (rows && parts && tables)
+    → v ≡ readyOf s (storeFits s words area bus)
+ready-is s words area bus rows parts tables v er ea et ev = ev ∙ rw (er, ea, et)
 
 -- what the backend is given
 module _ (a : Start) (s : Session) (m : RequestMetadata) (given : Bool) where

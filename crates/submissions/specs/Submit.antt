@@ -1,9 +1,8 @@
 -- Submissions (document 01, "Added by design" and "Request row"). Assumes nothing.
 use Prim.Native.Nat.{ℕ, _*_}
-use mathlib.Core.Bool.{Bool, not, _&&_}
+use mathlib.Core.Bool.{Bool, _&&_}
 use mathlib.Core.List.{List}
 use lib.ListN.{length}
-use Rattle.chain.specs.Chain.{_if_else_}
 use Rattle.chain.specs.declared.Found.{Found}
 use Rattle.chain.specs.declared.Found.the-variants as found
 use Rattle.models.specs.Refusals.{refusalOf}
@@ -24,8 +23,8 @@ use Rattle.checks.specs.declared.prepare.Prepared.the-variants as prepare
 use Rattle.checks.specs.declared.plan.Planned.{Planned}
 use Rattle.checks.specs.declared.plan.Planned.the-variants as plan
 use Rattle.checks.specs.declared.plan.ValidatedControlPlan.{ValidatedControlPlan}
-use Rattle.session.specs.Session.{isBusy}
 use Rattle.session.specs.Sizes.{rowsFit, areaFits, busFits}
+use Rattle.session.specs.Start.{readyOf}
 use Rattle.session.specs.declared.Session.{Session}
 use Rattle.submissions.specs.Begin.{TargetTo, targetOf, roomIn}
 use Rattle.submissions.specs.declared.Submission.{Submission}
@@ -39,13 +38,6 @@ use Rattle.submissions.specs.declared.begin.Start.the-variants as start
 -- whether rows, area and bus have the sizes that the session records
 abbrev pub storeFits : Session → ℕ → ℕ → ℕ → Bool
 storeFits s words area bus = rowsFit (s .«row_count») (s .«row_bytes») words && areaFits (s .«row_count») (s .«row_bytes») area && busFits bus
-
--- 1, 3
-unfoldable pub readyOf : Session → Bool → Verdict
-readyOf s fits =
-    verdict.Refused (refusalOf 1) if isBusy (s .«in_flight») else
-    verdict.Refused (refusalOf 3) if not fits else
-    verdict.Pass
 
 -- an answer with its session, and the bus, the store and the area after it
 pub record SubmitTo : Type 0 where

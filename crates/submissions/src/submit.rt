@@ -23,6 +23,7 @@ use models::RequestSpec;
 use models::Verdict;
 use session::Session;
 use session::sizes;
+use session::start;
 ghost use mathlib.Core.Path.{_≡_};
 ghost use mathlib.Core.Bool.{true};
 ghost use Prim.Native.Nat.{_*_, _+_, _<_, _≤_};
@@ -34,24 +35,18 @@ ghost use Rattle.bus.specs.Tables.{busOf};
 ghost use Rattle.checks.specs.Packets.{packetsChecked};
 ghost use Rattle.checks.specs.Prepare.{prepared};
 ghost use Rattle.checks.specs.Plan.{planned};
+ghost use Rattle.session.specs.Start.{readyOf};
 ghost use Rattle.submissions.specs.Begin.{roomIn};
-ghost use Rattle.submissions.specs.Submit.{storeFits, readyOf, submitRefused, submittedBy, submitTo, preparedBy, roomBy, packetsBy, submitOf, planRefused, planStarted, planTo, plannedBy, planRoomBy, submitPlanOf};
+ghost use Rattle.submissions.specs.Submit.{storeFits, submitRefused, submittedBy, submitTo, preparedBy, roomBy, packetsBy, submitOf, planRefused, planStarted, planTo, plannedBy, planRoomBy, submitPlanOf};
 
 // 1; 3: rows, area or bus are of another size than the session records.
 fn ready(session: Session, words: usize, bytes: usize, bus_words: usize) -> Verdict
     ensures { λ r. ⌜ r ≡ readyOf session (storeFits session words bytes «bus_words») ⌝ }
 {
-    let flight = session.in_flight;
-    if session::is_busy(flight) {
-        return Verdict::Refused(models::refuse(1));
-    }
     let rows_fit = sizes::rows_fit(session.row_count, session.row_bytes, words);
     let area_fits = sizes::area_fits(session.row_count, session.row_bytes, bytes);
     let bus_fits = sizes::bus_fits(bus_words);
-    if !(rows_fit & area_fits & bus_fits) {
-        return Verdict::Refused(models::refuse(3));
-    }
-    Verdict::Pass
+    start::ready(session, rows_fit & area_fits & bus_fits)
 }
 
 fn submit_refused(session: Session, refusal: Refusal) -> Submitted

@@ -1,6 +1,6 @@
 use Rattle.ledger.proofs.Placing.{found-in}
 use Rattle.polls.proofs.Finishing.{finish-unfit, finish-none, finish-found}
-use Rattle.reports.proofs.Placed.{place-fits, place-in}
+use Rattle.reports.proofs.Placed.{place-fits, found-place}
 use Rattle.rows.specs.Store.{storeOf}
 use borrow.Author.Needs.{needs}
 use Rattle.polls.proofs.finish.finish_found.Statement.{statement}
@@ -15,10 +15,10 @@ unfolding storeOf
 returns-2 c = search finish-none
 
 mul-at : tie.Need-mul-at
-mul-at c = search place-fits
+mul-at c = search (place-fits, found-in)
 
 finish-at-requires : tie.Need-finish-at-requires
-finish-at-requires c κs = (search found-in, search place-in)
+finish-at-requires c κs = (search found-in, search found-place)
 
 returns-3 : tie.Need-returns-3
 unfolding storeOf

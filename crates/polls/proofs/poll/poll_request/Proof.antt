@@ -1,39 +1,35 @@
-use Rattle.polls.proofs.Polling.{poll-busy, poll-unfit, poll-none, poll-at}
+use Rattle.polls.proofs.Polling.{poll-stop, poll-none, poll-at}
 use Rattle.ledger.proofs.Placing.{found-in}
 use borrow.Author.Needs.{needs}
 use Rattle.polls.proofs.poll.poll_request.Statement.{statement}
 use Rattle.polls.proofs.poll.poll_request.Tie as tie
 
 returns : tie.Need-returns
-returns c = search poll-busy
-
-returns-2 : tie.Need-returns-2
-returns-2 c = search poll-unfit
-
-returns-3 : tie.Need-returns-3
-returns-3 c = search poll-none
+returns c = search poll-none
 
 read-row-requires : tie.Need-read-row-requires
 read-row-requires c κs = search found-in
 
-returns-4 : tie.Need-returns-4
-returns-4 c = search poll-at
+returns-2 : tie.Need-returns-2
+returns-2 c = search poll-stop
+
+returns-3 : tie.Need-returns-3
+returns-3 c = search poll-at
 
 pub poll-request-spec : {M : Type 1} → statement M
 poll-request-spec =
     tie.close
     (tie.spec
     (λ c κs. search needs)
+    (λ c. search needs)
+    (λ c κs. search needs)
+    (λ c. search needs)
+    (λ c κs. search needs)
+    (λ c. search needs)
+    (λ c. search needs)
     (λ c κs. search needs)
     returns
-    (λ c κs. search needs)
-    (λ c κs. search needs)
-    returns-2
-    (λ c κs. search needs)
-    (λ c. search needs)
-    (λ c. search needs)
-    (λ c κs. search needs)
-    returns-3
     read-row-requires
     (λ c κs. search needs)
-    returns-4)
+    returns-2
+    returns-3)

@@ -1,5 +1,5 @@
 use borrow.Author.Needs.{needs}
-use Rattle.recovery.proofs.Beginning.{begin-1, begin-3, begin-40, begin-on}
+use Rattle.recovery.proofs.Beginning.{begin-stop, begin-40, begin-on}
 use Rattle.ledger.proofs.Placing.{found-in}
 use Rattle.recovery.proofs.begin.begin_recovery.Statement.{statement}
 use Rattle.recovery.proofs.begin.begin_recovery.Tie as tie
@@ -9,11 +9,9 @@ begin-recovery-spec =
     tie.close
     (tie.spec
     (λ c κs. search needs)
+    (λ c. search needs)
     (λ c κs. search needs)
-    (λ c. search begin-1)
-    (λ c κs. search needs)
-    (λ c κs. search needs)
-    (λ c. search begin-3)
+    (λ c. search needs)
     (λ c κs. search needs)
     (λ c. search needs)
     (λ c. search needs)
@@ -21,4 +19,5 @@ begin-recovery-spec =
     (λ c. search begin-40)
     (λ c κs. search found-in)
     (λ c κs. search needs)
+    (λ c. search begin-stop)
     (λ c. search begin-on))

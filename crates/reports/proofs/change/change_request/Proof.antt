@@ -1,28 +1,24 @@
-use Rattle.reports.proofs.Changing.{change-busy, change-unfit, change-on}
+use Rattle.reports.proofs.Changing.{change-stop, change-on}
 use borrow.Author.Needs.{needs}
 use Rattle.reports.proofs.change.change_request.Statement.{statement}
 use Rattle.reports.proofs.change.change_request.Tie as tie
 
 returns : tie.Need-returns
-returns c = search change-busy
+returns c = search change-stop
 
 returns-2 : tie.Need-returns-2
-returns-2 c = search change-unfit
-
-returns-3 : tie.Need-returns-3
-returns-3 c = search change-on
+returns-2 c = search change-on
 
 pub change-request-spec : {M : Type 1} → statement M
 change-request-spec =
     tie.close
     (tie.spec
     (λ c κs. search needs)
-    (λ c κs. search needs)
-    returns
-    (λ c κs. search needs)
-    (λ c κs. search needs)
-    returns-2
-    (λ c κs. search needs)
+    (λ c. search needs)
     (λ c κs. search needs)
     (λ c. search needs)
-    returns-3)
+    (λ c κs. search needs)
+    (λ c κs. search needs)
+    returns
+    (λ c. search needs)
+    returns-2)

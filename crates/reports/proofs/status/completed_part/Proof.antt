@@ -1,5 +1,4 @@
-use Rattle.reports.proofs.Reporting.{part-unfit, part-none, part-at}
-use Rattle.ledger.proofs.Placing.{found-in}
+use Rattle.reports.proofs.Reporting.{shown-in, part-unfit, part-none, part-at}
 use Rattle.reports.proofs.Placed.{place-fits}
 use borrow.Author.Needs.{needs}
 use Rattle.reports.proofs.status.completed_part.Statement.{statement}
@@ -12,10 +11,10 @@ returns-2 : tie.Need-returns-2
 returns-2 c = search part-none
 
 read-row-requires : tie.Need-read-row-requires
-read-row-requires c κs = search found-in
+read-row-requires c κs = search shown-in
 
-mul-t17 : tie.Need-mul-t17
-mul-t17 c = search place-fits
+mul-start : tie.Need-mul-start
+mul-start c = search (place-fits, shown-in)
 
 returns-3 : tie.Need-returns-3
 returns-3 c = search part-at
@@ -26,13 +25,15 @@ completed-part-spec =
     (tie.spec
     (λ c κs. search needs)
     (λ c κs. search needs)
+    (λ c κs. search needs)
     returns
     (λ c κs. search needs)
     (λ c. search needs)
     (λ c. search needs)
+    (λ c κs. search needs)
     returns-2
     read-row-requires
-    mul-t17
+    mul-start
     (λ c κs. search needs)
     (λ c κs. search needs)
     returns-3)

@@ -1,5 +1,4 @@
-use Rattle.reports.proofs.Reporting.{status-unfit, status-open, status-none, status-at}
-use Rattle.ledger.proofs.Placing.{found-in}
+use Rattle.reports.proofs.Reporting.{shown-in, status-unfit, status-none, status-at}
 use borrow.Author.Needs.{needs}
 use Rattle.reports.proofs.status.request_status.Statement.{statement}
 use Rattle.reports.proofs.status.request_status.Tie as tie
@@ -8,16 +7,13 @@ returns : tie.Need-returns
 returns c = search status-unfit
 
 returns-2 : tie.Need-returns-2
-returns-2 c = search status-open
-
-returns-3 : tie.Need-returns-3
-returns-3 c = search status-none
+returns-2 c = search status-none
 
 read-row-requires : tie.Need-read-row-requires
-read-row-requires c κs = search found-in
+read-row-requires c κs = search shown-in
 
-returns-4 : tie.Need-returns-4
-returns-4 c = search status-at
+returns-3 : tie.Need-returns-3
+returns-3 c = search status-at
 
 pub request-status-spec : {M : Type 1} → statement M
 request-status-spec =
@@ -27,13 +23,10 @@ request-status-spec =
     (λ c κs. search needs)
     returns
     (λ c κs. search needs)
+    (λ c. search needs)
+    (λ c. search needs)
     (λ c κs. search needs)
     returns-2
-    (λ c κs. search needs)
-    (λ c. search needs)
-    (λ c. search needs)
-    (λ c κs. search needs)
-    returns-3
     read-row-requires
     (λ c κs. search needs)
-    returns-4)
+    returns-3)

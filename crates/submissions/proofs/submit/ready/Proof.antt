@@ -1,16 +1,10 @@
-use Rattle.submissions.proofs.Submitting.{ready-busy, ready-unfit, ready-pass}
+use Rattle.submissions.proofs.Submitting.{ready-is}
 use borrow.Author.Needs.{needs}
 use Rattle.submissions.proofs.submit.ready.Statement.{statement}
 use Rattle.submissions.proofs.submit.ready.Tie as tie
 
 returns : tie.Need-returns
-returns c = search ready-busy
-
-returns-2 : tie.Need-returns-2
-returns-2 c = search ready-unfit
-
-returns-3 : tie.Need-returns-3
-returns-3 c = search ready-pass
+returns c = search ready-is
 
 pub ready-spec : {M : Type 1} → statement M
 ready-spec =
@@ -18,10 +12,6 @@ ready-spec =
     (tie.spec
     (λ c κs. search needs)
     (λ c κs. search needs)
-    returns
     (λ c κs. search needs)
     (λ c κs. search needs)
-    (λ c κs. search needs)
-    (λ c κs. search needs)
-    returns-2
-    returns-3)
+    returns)

@@ -1,5 +1,5 @@
 use Rattle.submissions.proofs.Planning.{plan-stop, plan-on}
-use Rattle.submissions.proofs.Fitting.{ready-sizes}
+use Rattle.session.proofs.Guarding.{ready-sizes}
 use borrow.Author.Needs.{needs}
 use Rattle.submissions.proofs.submit.submit_control_plan.Statement.{statement}
 use Rattle.submissions.proofs.submit.submit_control_plan.Tie as tie

@@ -1,5 +1,5 @@
 use Rattle.submissions.proofs.Submitting.{submit-stop, submit-on}
-use Rattle.submissions.proofs.Fitting.{ready-sizes}
+use Rattle.session.proofs.Guarding.{ready-sizes}
 use borrow.Author.Needs.{needs}
 use Rattle.submissions.proofs.submit.submit_request_packets.Statement.{statement}
 use Rattle.submissions.proofs.submit.submit_request_packets.Tie as tie

@@ -1,0 +1,10 @@
+use Rattle.session.proofs.Guarding.{ready-of}
+use borrow.Author.Needs.{needs}
+use Rattle.session.proofs.start.bus_ready.Statement.{statement}
+use Rattle.session.proofs.start.bus_ready.Tie as tie
+
+returns : tie.Need-returns
+returns c = search ready-of
+
+pub bus-ready-spec : {M : Type 1} → statement M
+bus-ready-spec = tie.close (tie.spec (λ c κs. search needs) (λ c κs. search needs) returns)

@@ -1,0 +1,36 @@
+// The start of a call that is neither a reply nor a report. 1: an operation is in flight; 3: a lent slice has another size than the session
+// records.
+use crate::Session;
+use crate::is_busy;
+use crate::sizes;
+use models::Verdict;
+ghost use mathlib.Core.Path.{_≡_};
+ghost use Rattle.session.specs.Sizes.{rowsFit, busFits};
+ghost use Rattle.session.specs.Start.{readyOf};
+
+pub fn ready(session: Session, fits: bool) -> Verdict
+    ensures { λ r. ⌜ r ≡ readyOf session fits ⌝ }
+{
+    let flight = session.in_flight;
+    if is_busy(flight) {
+        return Verdict::Refused(models::refuse(1));
+    }
+    if !fits {
+        return Verdict::Refused(models::refuse(3));
+    }
+    Verdict::Pass
+}
+
+pub fn rows_ready(session: Session, words: usize) -> Verdict
+    ensures { λ r. ⌜ r ≡ readyOf session (rowsFit (session .«row_count») (session .«row_bytes») words) ⌝ }
+{
+    let fits = sizes::rows_fit(session.row_count, session.row_bytes, words);
+    ready(session, fits)
+}
+
+pub(crate) fn bus_ready(session: Session, words: usize) -> Verdict
+    ensures { λ r. ⌜ r ≡ readyOf session (busFits words) ⌝ }
+{
+    let fits = sizes::bus_fits(words);
+    ready(session, fits)
+}
