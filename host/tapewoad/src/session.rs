@@ -21,7 +21,7 @@ use crate::refusal::{Messages, Refusal, UNREAD};
 /// by the four `set_` calls, since the commands that find them are not ported.
 ///
 /// A backend's message texts come back as they were: each different text is
-/// kept under a number of its own, up to some 65,000 of them.
+/// kept under a number of its own, up to some 64,000 of them.
 ///
 /// Like the original it forgets its backend, without dropping it, where it is
 /// dropped before a close passed: what the device may still touch must stay.
