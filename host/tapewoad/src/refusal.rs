@@ -30,8 +30,7 @@ impl Display for Refusal {
 impl std::error::Error for Refusal {}
 
 /// The text of a refusal's number: the original's, or one of its texts where it
-/// has several. Those of 33 and 45, and of what no document names, are never
-/// told: these errors are the backend's own.
+/// has several. 33 and 45 have none: their errors are the backend's own.
 fn text(number: u16) -> &'static str {
     match number {
         1 => "an operation is in flight",

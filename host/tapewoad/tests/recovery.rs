@@ -238,8 +238,7 @@ fn lists_that_disagree_leave_the_recovery_in_flight() {
     let good = whole(&completed, &[9]).words();
     let bytes_of = 10 + 2 + 10;
     for (place, word, bytes) in [
-        (8, 3, &[1, 3][..]),
-        (9, 1, &[1, 3]),
+        (9, 1, &[1, 3][..]),
         (9, 0, &[1, 3]),
         (9, 0, &[]),
         (bytes_of, 0, &[1, 3]),
@@ -256,8 +255,12 @@ fn lists_that_disagree_leave_the_recovery_in_flight() {
         assert_eq!(refusal(answer), 49, "{place} {word} {bytes:?}");
         assert_eq!(words(&store), before);
     }
+    let mut call = good.clone();
+    call[8] = 3;
+    call.insert(10, 9);
+    assert_eq!(refusal(store.apply_words(&call, &[1, 3]).unwrap()), 49);
     // An error's lists come first too.
-    let error = [24, 1, 0, 1, 4, 77, 0, 0, 1, 0, 7];
+    let error = [24, 1, 0, 0, 4, 77, 0, 0, 1, 0, 7];
     assert_eq!(refusal(store.apply_words(&error, &[]).unwrap()), 49);
     let report = reported(store.apply_words(&good, &[1, 3]).unwrap());
     assert_eq!(report.completed, [id(0), id(1)]);
@@ -282,19 +285,17 @@ fn skipped_bytes_belong_to_their_completion() {
 }
 
 #[test]
-fn a_flag_of_an_error_reply_is_not_read() {
-    for flag in [0, 1] {
-        let mut store = three();
-        started(&mut store, &Call::AbortRequest(id(0)));
-        let answer = store.apply_words(&[24, 1, 1, flag, 4, 77, 0, 0, 0, 0], &[]);
-        let refused = Refusal {
-            number: 45,
-            error: ERROR,
-        };
-        assert_eq!(answer, Ok(Answer::Refused(refused)));
-        assert_eq!(store.state(), ControllerState::RecoveryRequired);
-        assert_eq!(store.apply(&Call::HeldCount), Answer::Number(3));
-    }
+fn an_error_marks_and_takes_nothing_back() {
+    let mut store = three();
+    started(&mut store, &Call::AbortRequest(id(0)));
+    let refused = Refusal {
+        number: 45,
+        error: ERROR,
+    };
+    let answer = store.apply(&Call::RecoveryReply(Err(ERROR)));
+    assert_eq!(answer, Answer::Refused(refused));
+    assert_eq!(store.state(), ControllerState::RecoveryRequired);
+    assert_eq!(store.apply(&Call::HeldCount), Answer::Number(3));
 }
 
 #[test]
