@@ -215,8 +215,9 @@ impl Store {
         &self.session
     }
 
-    /// The session's words, to set up what no call leads to. The library takes
-    /// any; what it then answers is only as good as what they say.
+    /// The session's words, to set up what no call leads to: what the library
+    /// then answers is only as good as what they say. Words that are no session's
+    /// are told by [`Status::NoSession`].
     pub fn session_words_mut(&mut self) -> &mut [u64; SESSION_WORDS] {
         &mut self.session
     }
