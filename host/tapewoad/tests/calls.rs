@@ -34,7 +34,7 @@ fn a_submission_and_a_poll_are_two_calls_each() {
             ..
         }
     ));
-    assert_eq!(store.completed_bytes(id(0)), [7, 8]);
+    assert_eq!(store.completed_bytes(id(0)).unwrap(), [7, 8]);
     assert_eq!(store.bytes(0, 3), [7, 8, 3]);
 }
 
@@ -75,7 +75,7 @@ fn reports_are_answered_during_a_poll_and_other_calls_are_not() {
         store.apply(&Call::RequestReports { after }),
         Answer::NoReport
     );
-    assert_eq!(store.completed_bytes(id(0)), []);
+    assert_eq!(store.completed_bytes(id(0)).unwrap(), []);
     for call in others() {
         assert_eq!(refusal(store.apply(&call)), 1, "{call:?}");
     }

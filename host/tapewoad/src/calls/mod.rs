@@ -18,6 +18,8 @@ mod decode;
 mod encode;
 mod store;
 
+use std::fmt::Debug;
+
 use crate::models::{
     ControlProfile, DeviceId, DeviceSnapshot, Direction, Endpoint, ErrorCategory, Opening,
     RequestId, SetupPacket, TransferType,
@@ -310,4 +312,9 @@ pub enum Answer {
     Recover(Recovering),
     /// A recovery came to its end.
     Recovered(AbortReport),
+}
+
+/// The library's answer to a call that has no such answers: a fault of it.
+pub(crate) fn unexpected(answer: impl Debug) -> ! {
+    unreachable!("no answer to this call: {answer:?}")
 }

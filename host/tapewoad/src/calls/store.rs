@@ -4,7 +4,8 @@ use std::ops::Range;
 
 use super::decode::{controller_state, option_u32};
 use super::{
-    ANSWER_WORDS, Answer, BUS_WORDS, Begun, Call, LIST_WORDS, ROW_WORDS, SESSION_WORDS, VERSION,
+    ANSWER_WORDS, Answer, BUS_WORDS, Begun, Call, LIST_WORDS, ROW_WORDS, Refusal, SESSION_WORDS,
+    VERSION, unexpected,
 };
 use crate::library::{self, Memory};
 use crate::models::{ControllerState, DeviceId, Opening, RequestId};
@@ -152,11 +153,13 @@ impl Store {
         &self.area[part(start, length)]
     }
 
-    /// The bytes of a Completed request; none of any other.
-    pub fn completed_bytes(&mut self, id: RequestId) -> &[u8] {
+    /// The bytes of a Completed request, and none of another that has a report;
+    /// refused (40) where there is no report of it.
+    pub fn completed_bytes(&mut self, id: RequestId) -> Result<&[u8], Refusal> {
         match self.apply(&Call::CompletedBytes(id)) {
-            Answer::Bytes { start, length } => self.bytes(start, length),
-            _ => &[],
+            Answer::Bytes { start, length } => Ok(self.bytes(start, length)),
+            Answer::Refused(refusal) => Err(refusal),
+            answer => unexpected(answer),
         }
     }
 
