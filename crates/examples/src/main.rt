@@ -1,43 +1,27 @@
 // Worked cases of USB 2.0 chapter 9 and of xHCI 5.4.8. Each prints its name, what is computed, and whether that is the value written here.
-use libc::STDOUT_FILENO;
 use models::SetupPacket;
 use standards::PortStatus;
 use standards::ports::port_status;
 use standards::setup::same_setup;
 use standards::setup::setup_bytes;
+use texts::print::hex;
+use texts::print::hex_bytes;
+use texts::print::number;
+use texts::print::text;
 ghost use mathlib.Core.Path.{_≡_};
 ghost use Rattle.examples.specs.Status.{sameStatus};
 
-fn print(text: &[u8]) {
-    io::write_all(STDOUT_FILENO, text);
-}
-
-fn print_hex(n: u64, width: usize) {
-    io::print_hex(STDOUT_FILENO, n, width);
-}
-
 fn print_verdict(right: bool) {
     if right {
-        print(b" ok\n");
+        text(b" ok\n");
     } else {
-        print(b" WRONG\n");
+        text(b" WRONG\n");
     }
-}
-
-fn print_bytes(bytes: &[u8; 8]) {
-    for i in 0..8 {
-        print(b" ");
-        print_hex(wide(bytes[i]), 2);
-    }
-}
-
-fn wide(byte: u8) -> u64 {
-    byte as u64
 }
 
 fn print_number(name: &[u8], n: u64) {
-    print(name);
-    io::print_decimal(STDOUT_FILENO, n);
+    text(name);
+    number(n);
 }
 
 fn packet(request_type: u8, request: u8, value: u16, index: u16, length: u16) -> SetupPacket {
@@ -52,8 +36,8 @@ fn packet(request_type: u8, request: u8, value: u16, index: u16, length: u16) ->
 
 fn setup_case(name: &[u8], packet: SetupPacket, expected: &[u8; 8]) {
     let bytes = setup_bytes(packet);
-    print(name);
-    print_bytes(&bytes);
+    text(name);
+    hex_bytes(&bytes);
     print_verdict(same_setup(&bytes, expected));
 }
 
@@ -124,15 +108,15 @@ fn status(
 
 fn port_case(name: &[u8], raw: u32, expected: PortStatus) {
     let found = port_status(raw);
-    print(name);
-    print(b" ");
-    print_hex(raw as u64, 8);
-    print_number(b": connected ", found.connected as u64);
-    print_number(b" enabled ", found.enabled as u64);
-    print_number(b" resetting ", found.resetting as u64);
-    print_number(b" speed ", found.speed_code as u64);
-    print(b" changes ");
-    print_hex(found.change_bits as u64, 6);
+    text(name);
+    text(b" ");
+    hex(raw as u64, 8);
+    print_number(b": connected", found.connected as u64);
+    print_number(b" enabled", found.enabled as u64);
+    print_number(b" resetting", found.resetting as u64);
+    print_number(b" speed", found.speed_code as u64);
+    text(b" changes ");
+    hex(found.change_bits as u64, 6);
     print_verdict(same_status(found, expected));
 }
 

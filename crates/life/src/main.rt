@@ -29,6 +29,7 @@ use submissions::SubmitReply;
 use submissions::Submitted;
 use submissions::reply;
 use submissions::submit;
+use texts::print;
 use words::OptionI32;
 use words::OptionU32;
 use words::OptionU64;
@@ -270,7 +271,7 @@ fn complete(s: Session, rows: &mut [u64], area: &mut [u8]) -> Session {
 
 // The bytes, 41, and 40 once the row is free.
 fn release(s: Session, rows: &mut [u64], area: &[u8]) -> Session {
-    show::bytes(b"bytes", status::completed_bytes(s, rows, area, id_of(0)));
+    print::bytes(b"bytes", status::completed_bytes(s, rows, area, id_of(0)));
     let s = cancel(s, rows, 0);
     let s = reclaim(s, rows, 0);
     show::reported(b"status", status::request_status(s, rows, id_of(0)));

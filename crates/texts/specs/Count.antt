@@ -1,7 +1,7 @@
 -- How many numbers a part of a line has. Assumes nothing.
 use Prim.Native.Nat.{ℕ}
-use Rattle.replay.specs.declared.parse.Count.{Count}
-use Rattle.replay.specs.declared.parse.Count.the-variants.{Of, Bad}
+use Rattle.texts.specs.declared.parse.Count.{Count}
+use Rattle.texts.specs.declared.parse.Count.the-variants.{Of, Bad}
 
 abbrev pub countOf : Count → ℕ
 countOf (Of n) = n

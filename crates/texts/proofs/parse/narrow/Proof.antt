@@ -1,24 +1,25 @@
+use mathlib.Core.Path.{_≡_}
 use Prim.Native.Nat.{_≤_, _-_}
 use lib.ListN.{length}
 use borrow.Author.Needs.{needs}
-use Rattle.replay.proofs.parse.number.Statement.{statement}
-use Rattle.replay.proofs.parse.number.Tie as tie
+use Rattle.texts.proofs.parse.narrow.Statement.{statement}
+use Rattle.texts.proofs.parse.narrow.Tie as tie
 
 abbrev Inv-loop : tie.InvT-loop
-Inv-loop word greatest value₀ i₀ value i = i ≤ length word
+Inv-loop w b₀ i₀ b i = (length b ≡ length b₀) × (i ≤ length w)
 
 abbrev μ-loop : tie.MeasureT-loop
-μ-loop word greatest value₀ i₀ value i = length word - i
+μ-loop w b₀ i₀ b i = length w - i
 
-pub number-spec : {M : Type 1} → statement M
-number-spec =
+pub narrow-spec : {M : Type 1} → statement M
+narrow-spec =
     tie.close
     (tie.spec
     Inv-loop
     μ-loop
     (λ c. search needs)
     (λ c. search needs)
-    (λ c κs. search needs)
+    (λ c. search needs)
     (λ c. search needs)
     (λ c. search needs)
     (λ c. search needs)

@@ -1,7 +1,7 @@
 // A line of decimal numbers, parted by spaces: words, and after `/` bytes.
 ghost use Prim.Native.Nat.{_≤_};
 ghost use lib.ListN.{length};
-ghost use Rattle.replay.specs.Count.{countOf};
+ghost use Rattle.texts.specs.Count.{countOf};
 
 // How many numbers a part of a line has: `Bad` where it holds anything else, a number that is too great, or more than there is room for.
 pub enum Count {

@@ -1,21 +1,23 @@
 use Prim.Native.Nat.{_≤_, _-_}
+use lib.ListN.{length}
 use borrow.Author.Needs.{needs}
-use Rattle.replay.proofs.show.line.Statement.{statement}
-use Rattle.replay.proofs.show.line.Tie as tie
+use Rattle.texts.proofs.print.bytes.Statement.{statement}
+use Rattle.texts.proofs.print.bytes.Tie as tie
 
 abbrev Inv-loop : tie.InvT-loop
-Inv-loop name w from to i₀ t6 i = from ≤ i
+Inv-loop name b i₀ t4 i = i ≤ length b
 
 abbrev μ-loop : tie.MeasureT-loop
-μ-loop name w from to i₀ t6 i = to - i
+μ-loop name b i₀ t4 i = length b - i
 
-pub line-spec : {M : Type 1} → statement M
-line-spec =
+pub bytes-spec : {M : Type 1} → statement M
+bytes-spec =
     tie.close
     (tie.spec
     Inv-loop
     μ-loop
     (λ c κs. search needs)
+    (λ c. search needs)
     (λ c. search needs)
     (λ c κs. search needs)
     (λ c κs. search needs)

@@ -2,9 +2,9 @@ use mathlib.Core.Path.{_≡_}
 use Prim.Native.Nat.{_≤_, _-_}
 use lib.ListN.{length}
 use borrow.Author.Needs.{needs}
-use Rattle.replay.proofs.Counting.{counted}
-use Rattle.replay.proofs.parse.numbers.Statement.{statement}
-use Rattle.replay.proofs.parse.numbers.Tie as tie
+use Rattle.texts.proofs.Counting.{counted}
+use Rattle.texts.proofs.parse.numbers.Statement.{statement}
+use Rattle.texts.proofs.parse.numbers.Tie as tie
 
 abbrev Inv-loop : tie.InvT-loop
 Inv-loop line greatest w₀ n₀ at₀ w n at = (n ≤ length w) × (length w ≡ length w₀)

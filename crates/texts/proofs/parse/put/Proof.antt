@@ -1,8 +1,8 @@
 use native.Mathlib.Omega.{arith}
 use lib.ListN.{length-set}
 use borrow.Author.Needs.{needs}
-use Rattle.replay.proofs.parse.put.Statement.{statement}
-use Rattle.replay.proofs.parse.put.Tie as tie
+use Rattle.texts.proofs.parse.put.Statement.{statement}
+use Rattle.texts.proofs.parse.put.Tie as tie
 
 pub put-spec : {M : Type 1} → statement M
 put-spec =

@@ -1,16 +1,17 @@
 use Prim.Native.Nat.{_≤_, _-_}
+use lib.ListN.{length}
 use borrow.Author.Needs.{needs}
-use Rattle.examples.proofs.print_bytes.Statement.{statement}
-use Rattle.examples.proofs.print_bytes.Tie as tie
+use Rattle.texts.proofs.print.hex_bytes.Statement.{statement}
+use Rattle.texts.proofs.print.hex_bytes.Tie as tie
 
 abbrev Inv-loop : tie.InvT-loop
-Inv-loop bytes i₀ t3 i = i ≤ 8
+Inv-loop b i₀ t3 i = i ≤ length b
 
 abbrev μ-loop : tie.MeasureT-loop
-μ-loop bytes i₀ t3 i = 8 - i
+μ-loop b i₀ t3 i = length b - i
 
-pub print-bytes-spec : {M : Type 1} → statement M
-print-bytes-spec =
+pub hex-bytes-spec : {M : Type 1} → statement M
+hex-bytes-spec =
     tie.close
     (tie.spec
     Inv-loop

@@ -1,8 +1,8 @@
 use Prim.Native.Nat.{_≤_, _-_}
 use lib.ListN.{length}
 use borrow.Author.Needs.{needs}
-use Rattle.replay.proofs.parse.find.Statement.{statement}
-use Rattle.replay.proofs.parse.find.Tie as tie
+use Rattle.texts.proofs.parse.find.Statement.{statement}
+use Rattle.texts.proofs.parse.find.Tie as tie
 
 abbrev Inv-loop : tie.InvT-loop
 Inv-loop s from c i₀ i = (from ≤ i) × (i ≤ length s)

@@ -1,24 +1,21 @@
 use Prim.Native.Nat.{_≤_, _-_}
-use lib.ListN.{length}
 use borrow.Author.Needs.{needs}
-use Rattle.replay.proofs.show.bytes.Statement.{statement}
-use Rattle.replay.proofs.show.bytes.Tie as tie
+use Rattle.texts.proofs.print.words.Statement.{statement}
+use Rattle.texts.proofs.print.words.Tie as tie
 
 abbrev Inv-loop : tie.InvT-loop
-Inv-loop b i₀ t4 i = i ≤ length b
+Inv-loop name w from to i₀ t6 i = from ≤ i
 
 abbrev μ-loop : tie.MeasureT-loop
-μ-loop b i₀ t4 i = length b - i
+μ-loop name w from to i₀ t6 i = to - i
 
-pub bytes-spec : {M : Type 1} → statement M
-bytes-spec =
+pub words-spec : {M : Type 1} → statement M
+words-spec =
     tie.close
     (tie.spec
     Inv-loop
     μ-loop
-    (λ c. search needs)
     (λ c κs. search needs)
-    (λ c. search needs)
     (λ c. search needs)
     (λ c κs. search needs)
     (λ c κs. search needs)

@@ -1,7 +1,7 @@
 use borrow.Author.Needs.{needs}
-use Rattle.replay.proofs.Counting.{counted}
-use Rattle.replay.proofs.parse.bytes.Statement.{statement}
-use Rattle.replay.proofs.parse.bytes.Tie as tie
+use Rattle.texts.proofs.Counting.{counted}
+use Rattle.texts.proofs.parse.bytes.Statement.{statement}
+use Rattle.texts.proofs.parse.bytes.Tie as tie
 
 pub bytes-spec : {M : Type 1} → statement M
 bytes-spec =
