@@ -1,4 +1,4 @@
-// Worked cases of USB 2.0 chapter 9 and of xHCI 5.4.8. Each prints its name, what is computed, and whether that is the value written here.
+// Worked cases of USB 2.0 chapter 9, of xHCI 5.4.8 and of docs/CALLS.md. Each prints its name, what is computed, and whether that is the value written here.
 use models::SetupPacket;
 use standards::PortStatus;
 use standards::ports::port_status;
@@ -8,6 +8,9 @@ use texts::print::hex;
 use texts::print::hex_bytes;
 use texts::print::number;
 use texts::print::text;
+use words::OptionI32;
+use words::option_i32_word;
+use words::to_option_i32;
 ghost use mathlib.Core.Path.{_≡_};
 ghost use Rattle.examples.specs.Status.{sameStatus};
 
@@ -142,7 +145,31 @@ fn port_cases() {
     );
 }
 
+fn says(o: OptionI32, value: i32) -> bool {
+    match o {
+        OptionI32::None => false,
+        OptionI32::Some(v) => v == value,
+    }
+}
+
+fn number_case(name: &[u8], value: i32, expected: u64) {
+    let word = option_i32_word(OptionI32::Some(value));
+    text(name);
+    number(word);
+    print_verdict((word == expected) & says(to_option_i32(expected), value));
+}
+
+// docs/CALLS.md: the word of a signed number is one more than its two's complement in 32 bits.
+fn number_cases() {
+    number_case(b"system number -5", -5, 4294967292);
+    number_case(b"system number -1", -1, 4294967296);
+    number_case(b"system number 0", 0, 1);
+    number_case(b"greatest system number", 2147483647, 2147483648);
+    number_case(b"least system number", -2147483648, 2147483649);
+}
+
 fn main() {
     setup_cases();
     port_cases();
+    number_cases();
 }
