@@ -15,9 +15,9 @@ fmt:
 	rt fmt
 	cd host && cargo fmt
 
-# Proves the port and writes target/staticlib/libffi.a.
+# Proves the port and writes target/staticlib/libtapewoad.a.
 staticlib:
-	rt staticlib ffi
+	rt staticlib tapewoad
 
 # Builds the unchanged Rust and runs it over the recorded scripts.
 oracle:

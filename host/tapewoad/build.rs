@@ -14,17 +14,19 @@ fn main() {
         &named
     };
     let folder = manifest.join("../..").join(folder);
-    let library = folder.join("libffi.a");
+    let library = folder.join("libtapewoad.a");
     println!("cargo::rerun-if-changed={}", library.display());
     if !library.is_file() {
         let library = library.display();
         println!("cargo::error=the port's static library is not there: {library}");
         println!(
-            "cargo::error=run `rt staticlib ffi` at the repository's root, which proves the port and writes it,"
+            "cargo::error=run `rt staticlib tapewoad` at the repository's root, which proves the port and writes it,"
         );
-        println!("cargo::error=or let TAPEWOAD_LIB name the folder of a libffi.a");
+        println!("cargo::error=or let TAPEWOAD_LIB name the folder of a libtapewoad.a");
         return;
     }
+    // For the test that links a C program.
+    println!("cargo::rustc-env=TAPEWOAD_FOLDER={}", folder.display());
     println!("cargo::rustc-link-search=native={}", folder.display());
-    println!("cargo::rustc-link-lib=static=ffi");
+    println!("cargo::rustc-link-lib=static=tapewoad");
 }

@@ -1,43 +1,30 @@
-// Worked cases of USB 2.0 chapter 9 and of xHCI 5.4.8. Each prints its name, what is computed, and whether that is the value written here.
-use libc::STDOUT_FILENO;
+// Worked cases of USB 2.0 chapter 9, of xHCI 5.4.8 and of docs/CALLS.md. Each prints its name, what is computed, and whether that is the value written here.
 use models::SetupPacket;
 use standards::PortStatus;
 use standards::ports::port_status;
 use standards::setup::same_setup;
 use standards::setup::setup_bytes;
+use texts::print::hex;
+use texts::print::hex_bytes;
+use texts::print::number;
+use texts::print::text;
+use words::OptionI32;
+use words::option_i32_word;
+use words::to_option_i32;
 ghost use mathlib.Core.Path.{_≡_};
 ghost use Rattle.examples.specs.Status.{sameStatus};
 
-fn print(text: &[u8]) {
-    io::write_all(STDOUT_FILENO, text);
-}
-
-fn print_hex(n: u64, width: usize) {
-    io::print_hex(STDOUT_FILENO, n, width);
-}
-
 fn print_verdict(right: bool) {
     if right {
-        print(b" ok\n");
+        text(b" ok\n");
     } else {
-        print(b" WRONG\n");
+        text(b" WRONG\n");
     }
-}
-
-fn print_bytes(bytes: &[u8; 8]) {
-    for i in 0..8 {
-        print(b" ");
-        print_hex(wide(bytes[i]), 2);
-    }
-}
-
-fn wide(byte: u8) -> u64 {
-    byte as u64
 }
 
 fn print_number(name: &[u8], n: u64) {
-    print(name);
-    io::print_decimal(STDOUT_FILENO, n);
+    text(name);
+    number(n);
 }
 
 fn packet(request_type: u8, request: u8, value: u16, index: u16, length: u16) -> SetupPacket {
@@ -52,8 +39,8 @@ fn packet(request_type: u8, request: u8, value: u16, index: u16, length: u16) ->
 
 fn setup_case(name: &[u8], packet: SetupPacket, expected: &[u8; 8]) {
     let bytes = setup_bytes(packet);
-    print(name);
-    print_bytes(&bytes);
+    text(name);
+    hex_bytes(&bytes);
     print_verdict(same_setup(&bytes, expected));
 }
 
@@ -124,15 +111,15 @@ fn status(
 
 fn port_case(name: &[u8], raw: u32, expected: PortStatus) {
     let found = port_status(raw);
-    print(name);
-    print(b" ");
-    print_hex(raw as u64, 8);
-    print_number(b": connected ", found.connected as u64);
-    print_number(b" enabled ", found.enabled as u64);
-    print_number(b" resetting ", found.resetting as u64);
-    print_number(b" speed ", found.speed_code as u64);
-    print(b" changes ");
-    print_hex(found.change_bits as u64, 6);
+    text(name);
+    text(b" ");
+    hex(raw as u64, 8);
+    print_number(b": connected", found.connected as u64);
+    print_number(b" enabled", found.enabled as u64);
+    print_number(b" resetting", found.resetting as u64);
+    print_number(b" speed", found.speed_code as u64);
+    text(b" changes ");
+    hex(found.change_bits as u64, 6);
     print_verdict(same_status(found, expected));
 }
 
@@ -158,7 +145,31 @@ fn port_cases() {
     );
 }
 
+fn says(o: OptionI32, value: i32) -> bool {
+    match o {
+        OptionI32::None => false,
+        OptionI32::Some(v) => v == value,
+    }
+}
+
+fn number_case(name: &[u8], value: i32, expected: u64) {
+    let word = option_i32_word(OptionI32::Some(value));
+    text(name);
+    number(word);
+    print_verdict((word == expected) & says(to_option_i32(expected), value));
+}
+
+// docs/CALLS.md: the word of a signed number is one more than its two's complement in 32 bits.
+fn number_cases() {
+    number_case(b"system number -5", -5, 4294967292);
+    number_case(b"system number -1", -1, 4294967296);
+    number_case(b"system number 0", 0, 1);
+    number_case(b"greatest system number", 2147483647, 2147483648);
+    number_case(b"least system number", -2147483648, 2147483649);
+}
+
 fn main() {
     setup_cases();
     port_cases();
+    number_cases();
 }

@@ -29,6 +29,7 @@ use submissions::SubmitReply;
 use submissions::Submitted;
 use submissions::reply;
 use submissions::submit;
+use texts::print;
 use words::OptionI32;
 use words::OptionU32;
 use words::OptionU64;
@@ -241,7 +242,7 @@ fn show_bytes(s: Session, rows: &[u64], area: &[u8], sequence: u64) {
         show::refusal(b"bytes", number);
         return;
     }
-    show::bytes(b"bytes", bytes);
+    print::bytes(b"bytes", bytes);
 }
 
 // The first request's report and its bytes.

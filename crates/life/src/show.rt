@@ -1,5 +1,4 @@
 // Answers as text.
-use libc::STDOUT_FILENO;
 use models::Refusal;
 use models::RequestReport;
 use models::RequestState;
@@ -10,15 +9,8 @@ use reports::ReportAnswer;
 use reports::Tally;
 use session::lifecycle::Opened;
 use submissions::SubmitAnswer;
-
-fn text(s: &[u8]) {
-    io::write_all(STDOUT_FILENO, s);
-}
-
-fn number(n: u64) {
-    text(b" ");
-    io::print_decimal(STDOUT_FILENO, n);
-}
+use texts::print::number;
+use texts::print::text;
 
 fn refused(r: Refusal) {
     refused_by(r.number);
@@ -150,18 +142,4 @@ pub fn tally(name: &[u8], a: Tally) {
 pub fn refusal(name: &[u8], n: u16) {
     text(name);
     refused_by(n);
-}
-
-pub fn bytes(name: &[u8], b: &[u8]) {
-    text(name);
-    let mut i = 0;
-    while i < b.len() {
-        number(wide(b[i]));
-        i += 1;
-    }
-    text(b"\n");
-}
-
-fn wide(b: u8) -> u64 {
-    b as u64
 }

@@ -3,10 +3,11 @@
 // device holds. `#` begins a comment. A line that is none of these is answered by `bad line`, and nothing is run. Input of over 2 MiB is
 // answered by `input too long` alone.
 use libc::STDIN_FILENO;
-use parse::Count;
-
-mod parse;
-mod show;
+use texts::answers;
+use texts::parse;
+use texts::parse::Count;
+use texts::print;
+use words::slices::word_at;
 
 // How much text is run; the room has a byte more.
 const LIMIT: usize = 2097152;
@@ -23,7 +24,7 @@ fn main() {
 fn run(text: &mut [u8], session: &mut [u64], bus: &mut [u64], rows: &mut [u64], area: &mut [u8]) {
     let n = io::read_full(STDIN_FILENO, text);
     if n > LIMIT {
-        show::too_long();
+        print::text(b"input too long\n");
         return;
     }
     replay(&text[0..n], session, bus, rows, area);
@@ -52,15 +53,19 @@ fn run_line(line: &[u8], session: &mut [u64], bus: &mut [u64], rows: &mut [u64],
     run_call(line, session, bus, rows, area);
 }
 
+fn bad_line() {
+    print::text(b"bad line\n");
+}
+
 fn run_call(line: &[u8], session: &mut [u64], bus: &mut [u64], rows: &mut [u64], area: &mut [u8]) {
     let mut call = [0u64; 2048];
     let mut bytes = [0u8; 4096];
     let Count::Of(words) = parse::words(line, &mut call) else {
-        show::bad_line();
+        bad_line();
         return;
     };
     let Count::Of(given) = parse::bytes(line, &mut bytes) else {
-        show::bad_line();
+        bad_line();
         return;
     };
     answer(&call[0..words], &bytes[0..given], session, bus, rows, area);
@@ -78,10 +83,10 @@ fn answer(
     let mut lists = [0u64; 386];
     let status = dispatch::apply(session, bus, rows, area, call, bytes, &mut out, &mut lists);
     if status != 0 {
-        show::status(status);
+        answers::status(status);
         return;
     }
-    show::answer(&out, area, &lists);
+    answers::answer(&out, &lists, area);
 }
 
 // A count that takes no arguments: 20 and 21.
@@ -102,5 +107,5 @@ fn number_of(
 fn show_state(session: &mut [u64], bus: &mut [u64], rows: &mut [u64], area: &mut [u8]) {
     let held = number_of(20, session, bus, rows, area);
     let bytes = number_of(21, session, bus, rows, area);
-    show::state(session, held, bytes);
+    print::words(b"state", &[word_at(session, 6), held, bytes], 0, 3);
 }

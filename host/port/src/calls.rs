@@ -185,7 +185,7 @@ impl Port {
             calls::Answer::Passed => Ok(Outcome::Done),
             calls::Answer::Refused(refusal) => Ok(refused(refusal)),
             calls::Answer::Report(report) => {
-                let data = self.completed(&report);
+                let data = self.completed(&report)?;
                 Ok(Outcome::Row(Box::new(row(&report, data))))
             }
             calls::Answer::Recovered(report) => Ok(Outcome::Abort(recovery::abort_report(report))),
@@ -193,20 +193,19 @@ impl Port {
         }
     }
 
-    fn completed(&mut self, report: &calls::Report) -> Option<Bytes> {
-        let completed = matches!(report.state, State::Completed { .. });
-        completed.then(|| Bytes(self.store.completed_bytes(report.id).to_vec()))
+    fn completed(&mut self, report: &calls::Report) -> Result<Option<Bytes>, String> {
+        let bytes = self.store.completed_bytes(report.id);
+        data(report, bytes.map(<[u8]>::to_vec))
     }
 
     /// The bytes are asked for while the request is there.
     fn reclaim(&mut self, id: script::RequestId) -> Result<Outcome, String> {
         let id = convert::to_request_id(id);
-        let data = self.store.completed_bytes(id).to_vec();
+        let bytes = self.store.completed_bytes(id).map(<[u8]>::to_vec);
         let call = calls::Call::ReclaimRequest(id);
         match answered(&mut self.store, &call)? {
             calls::Answer::Report(report) => {
-                let completed = matches!(report.state, State::Completed { .. });
-                let data = completed.then_some(Bytes(data));
+                let data = data(&report, bytes)?;
                 Ok(Outcome::Row(Box::new(row(&report, data))))
             }
             answer => self.outcome(&call, answer),
@@ -222,7 +221,7 @@ impl Port {
                 calls::Answer::NoReport => break,
                 calls::Answer::Report(report) => {
                     after = Some(report.id);
-                    let data = self.completed(&report);
+                    let data = self.completed(&report)?;
                     rows.push(row(&report, data));
                 }
                 answer => return self.outcome(&call, answer),
@@ -325,6 +324,20 @@ impl Port {
         let data = done.data.as_ref().map(script::Data::to_bytes);
         let done = convert::to_completion(done, data.as_deref());
         self.made(&calls::Call::PollReply(Ok(Some(done))))
+    }
+}
+
+/// The bytes that go with a report: those of a Completed request. Every other
+/// request that has a report has none.
+fn data(
+    report: &calls::Report,
+    bytes: Result<Vec<u8>, calls::Refusal>,
+) -> Result<Option<Bytes>, String> {
+    let completed = matches!(report.state, State::Completed { .. });
+    match bytes {
+        Ok(bytes) if completed => Ok(Some(Bytes(bytes))),
+        Ok(bytes) if bytes.is_empty() => Ok(None),
+        bytes => Err(format!("the port has {bytes:?} as the bytes of {report:?}")),
     }
 }
 

@@ -1,15 +1,16 @@
 //! USB request rows, their rules and their limits, proved in Rattle, for a Rust
 //! host program.
 //!
-//! The rules themselves are no Rust: they stand in the static library `libffi.a`,
-//! which `rt staticlib ffi` proves and writes. This crate lends it memory, turns
-//! calls into words and answers back, and asks the backend where a call wants it.
+//! The rules themselves are no Rust: they stand in the static library `libtapewoad.a`,
+//! which `rt staticlib tapewoad` proves and writes. This crate lends it memory,
+//! turns calls into words and answers back, and asks the backend where a call
+//! wants it.
 //!
 //! * [`UsbSession`] has the original's methods and types over a [`Backend`]:
 //!   what a host program uses.
 //! * [`calls`] is the layer beneath: every call and answer by itself, a
 //!   submission, a poll and a recovery as two calls, their reply being the second.
-//! * [`library`] is the C function as a safe one; the only module with unsafe
+//! * [`library`] has the C functions as safe ones; the only module with unsafe
 //!   code.
 //!
 //! ```

@@ -1,4 +1,4 @@
-//! The static library's one function, as a safe one.
+//! The static library's functions, as safe ones.
 #![allow(unsafe_code)]
 
 /// The memory that every call is lent.
@@ -13,8 +13,9 @@ pub struct Memory<'a> {
     pub area: &'a mut [u8],
 }
 
-// SAFETY: this is the function that crates/ffi exports: eight slices, each a
-// pointer and a length, and a status back (docs/CALLS.md).
+// SAFETY: these are the functions that crates/tapewoad exports, as
+// include/tapewoad.h declares them: eight slices, each a pointer and a length,
+// and a status back (docs/CALLS.md); and a number.
 unsafe extern "C" {
     fn tapewoad_apply(
         session: *mut u64,
@@ -34,6 +35,14 @@ unsafe extern "C" {
         lists: *mut u64,
         lists_len: usize,
     ) -> u64;
+    fn tapewoad_version() -> u64;
+}
+
+/// The version of the library's words: the major number times 2^32, and the
+/// minor number.
+pub fn version() -> u64 {
+    // SAFETY: it takes nothing and touches no memory.
+    unsafe { tapewoad_version() }
 }
 
 /// Runs one call in the words of docs/CALLS.md and gives the status: 0 where it

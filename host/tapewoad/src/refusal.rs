@@ -30,7 +30,7 @@ impl Display for Refusal {
 impl std::error::Error for Refusal {}
 
 /// The text of a refusal's number: the original's, or one of its texts where it
-/// has several.
+/// has several. 33 and 45 have none: their errors are the backend's own.
 fn text(number: u16) -> &'static str {
     match number {
         1 => "an operation is in flight",
@@ -84,12 +84,22 @@ fn text(number: u16) -> &'static str {
         51 => "initialize requires acquired unknown state",
         52 => "session identity exhausted",
         53 => "too many endpoints",
+        56 => "a paper has at most 65,536 bytes, eight an event",
+        57 => "unknown event, or one with an unused field that is not zero",
+        58 => "Low Speed has no isochronous transfers",
+        59 => "request is not cancelled",
+        60 => "the bench's request limit is reached",
+        61 => "invalid calendar, date or minute",
+        62 => "outside the reset windows",
+        63 => "pending DMA ownership",
+        64 => "generation exhausted",
         _ => "refused",
     }
 }
 
-/// Below are the library's own numbers.
-const FIRST: u16 = 64;
+/// Below are the library's own numbers, of which documents 01 and 02 name those
+/// up to 64.
+const FIRST: u16 = 1_024;
 /// Stands for every text beyond the last that has a number of its own.
 const OTHER: u16 = u16::MAX;
 const OTHER_TEXT: &str = "backend error; its text was not kept";
@@ -174,7 +184,7 @@ mod tests {
     #[test]
     fn texts_come_back() {
         let mut messages = Messages::default();
-        for (text, expected) in [("stopped", 64), ("gone", 65), ("stopped", 64)] {
+        for (text, expected) in [("stopped", 1_024), ("gone", 1_025), ("stopped", 1_024)] {
             let error = OperationError {
                 os_code: Some(-1),
                 ..OperationError::validation(text)
@@ -194,15 +204,32 @@ mod tests {
         }
         assert_eq!(last, OTHER);
         assert_eq!(messages.text(OTHER), OTHER_TEXT);
-        assert_eq!(messages.text(OTHER - 1), "65470");
+        assert_eq!(messages.text(OTHER - 1), "64510");
         assert_eq!(messages.number("0"), FIRST);
     }
 
+    /// Every number that the documents name, but for those that carry the
+    /// backend's own text.
     #[test]
     fn the_librarys_own_numbers_have_texts() {
-        let messages = Messages::default();
+        let mut messages = Messages::default();
+        messages.number("stopped");
+        let named = (1..=53).chain(56..=64);
+        let texts: Vec<_> = named
+            .filter(|number| ![33, 45].contains(number))
+            .map(|number| messages.text(number))
+            .collect();
+        assert_eq!(texts.len(), 60);
+        for (place, text) in texts.iter().enumerate() {
+            assert_ne!(*text, "refused");
+            assert!(!texts[..place].contains(text), "{text}");
+        }
         assert_eq!(messages.text(40), "unknown or reclaimed request");
-        assert_eq!(messages.text(48), text(48));
+        assert_eq!(messages.text(64), "generation exhausted");
+        for number in [0, 54, 55, 65, 1_023] {
+            assert_eq!(messages.text(number), "refused");
+        }
+        assert_eq!(messages.text(1_024), "stopped");
     }
 
     #[test]

@@ -2,10 +2,9 @@
 mod recovery;
 
 use std::cell::{Ref, RefCell};
-use std::fmt::Debug;
 
 use crate::backend::Backend;
-use crate::calls::{self, Answer, Begun, Call, Plan, Reading, Store, Submit};
+use crate::calls::{self, Answer, Begun, Call, Plan, Reading, Store, Submit, unexpected};
 use crate::models::{
     BackendCompletion, ControlPlan, ControllerState, DeviceSnapshot, Endpoint, Opening,
     OwnedRequest, RequestId, RequestMetadata, RequestReport, RequestSpec, RequestState,
@@ -21,7 +20,7 @@ use crate::refusal::{Messages, Refusal, UNREAD};
 /// by the four `set_` calls, since the commands that find them are not ported.
 ///
 /// A backend's message texts come back as they were: each different text is
-/// kept under a number of its own, up to some 65,000 of them.
+/// kept under a number of its own, up to some 64,000 of them.
 ///
 /// Like the original it forgets its backend, without dropping it, where it is
 /// dropped before a close passed: what the device may still touch must stay.
@@ -32,11 +31,6 @@ pub struct UsbSession<B: Backend> {
     messages: Messages,
     /// The port number of each slot's device.
     port_numbers: [u8; 256],
-}
-
-/// The library's answer to a call that has no such answers: a fault of it.
-fn unexpected(answer: impl Debug) -> ! {
-    unreachable!("no answer to this call: {answer:?}")
 }
 
 impl<B: Backend> UsbSession<B> {
@@ -370,7 +364,12 @@ impl<B: Backend> UsbSession<B> {
     fn report(&self, report: &calls::Report) -> RequestReport {
         let state = self.request_state(report.state);
         let completed = matches!(state, RequestState::Completed { .. });
-        let data = completed.then(|| self.store.borrow_mut().completed_bytes(report.id).to_vec());
+        let data = completed.then(
+            || match self.store.borrow_mut().completed_bytes(report.id) {
+                Ok(bytes) => bytes.to_vec(),
+                Err(refusal) => unexpected(refusal),
+            },
+        );
         RequestReport {
             id: report.id,
             metadata: metadata(&report.metadata),

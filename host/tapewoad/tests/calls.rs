@@ -34,7 +34,7 @@ fn a_submission_and_a_poll_are_two_calls_each() {
             ..
         }
     ));
-    assert_eq!(store.completed_bytes(id(0)), [7, 8]);
+    assert_eq!(store.completed_bytes(id(0)).unwrap(), [7, 8]);
     assert_eq!(store.bytes(0, 3), [7, 8, 3]);
 }
 
@@ -75,7 +75,7 @@ fn reports_are_answered_during_a_poll_and_other_calls_are_not() {
         store.apply(&Call::RequestReports { after }),
         Answer::NoReport
     );
-    assert_eq!(store.completed_bytes(id(0)), []);
+    assert_eq!(store.completed_bytes(id(0)).unwrap(), []);
     for call in others() {
         assert_eq!(refusal(store.apply(&call)), 1, "{call:?}");
     }
@@ -254,7 +254,7 @@ fn a_word_too_few_or_too_many_is_no_call() {
 #[test]
 fn wrong_memory_is_told_by_the_status() {
     let apply = |session_words: usize, call: &[u64], out_words: usize, list_words: usize| {
-        let (mut session, mut out) = (vec![9; session_words], vec![9; out_words]);
+        let (mut session, mut out) = (vec![0; session_words], vec![9; out_words]);
         let (mut bus, mut rows, mut area) = (vec![9; BUS_WORDS], vec![9; ROW_WORDS], vec![9; 4]);
         let mut lists = vec![9; list_words];
         let memory = Memory {
@@ -264,8 +264,9 @@ fn wrong_memory_is_told_by_the_status() {
             area: &mut area,
         };
         let status = library::apply(memory, call, &[], &mut out, &mut lists);
-        let kept = [session, bus, rows, out].concat().iter().all(|it| *it == 9);
-        assert!(status == 0 || (kept && area == [9; 4]), "status {status}");
+        let kept = [bus, rows, out].concat().iter().all(|it| *it == 9);
+        let kept = kept && area == [9; 4] && session.iter().all(|it| *it == 0);
+        assert!(status == 0 || kept, "status {status}");
         assert!(lists.iter().all(|it| *it == 9), "status {status}");
         status
     };

@@ -18,6 +18,8 @@ mod decode;
 mod encode;
 mod store;
 
+use std::fmt::Debug;
+
 use crate::models::{
     ControlProfile, DeviceId, DeviceSnapshot, Direction, Endpoint, ErrorCategory, Opening,
     RequestId, SetupPacket, TransferType,
@@ -25,6 +27,9 @@ use crate::models::{
 
 pub use store::{Status, Store};
 
+/// The version of the words that this crate writes and reads: the major number
+/// times 2^32, and the minor number.
+pub const VERSION: u64 = 1 << 32;
 /// How many words a session has.
 pub const SESSION_WORDS: usize = 26;
 /// How many words the bus has.
@@ -307,4 +312,9 @@ pub enum Answer {
     Recover(Recovering),
     /// A recovery came to its end.
     Recovered(AbortReport),
+}
+
+/// The library's answer to a call that has no such answers: a fault of it.
+pub(crate) fn unexpected(answer: impl Debug) -> ! {
+    unreachable!("no answer to this call: {answer:?}")
 }

@@ -3,7 +3,10 @@ use std::fmt::{self, Display, Formatter};
 use std::ops::Range;
 
 use super::decode::{controller_state, option_u32};
-use super::{ANSWER_WORDS, Answer, BUS_WORDS, Begun, Call, LIST_WORDS, ROW_WORDS, SESSION_WORDS};
+use super::{
+    ANSWER_WORDS, Answer, BUS_WORDS, Begun, Call, LIST_WORDS, ROW_WORDS, Refusal, SESSION_WORDS,
+    VERSION, unexpected,
+};
 use crate::library::{self, Memory};
 use crate::models::{ControllerState, DeviceId, Opening, RequestId};
 
@@ -18,9 +21,11 @@ pub enum Status {
     NoRoom,
     /// 4: too little room for the answer's lists.
     NoLists,
-    /// Another status, or an answer that is none of docs/CALLS.md: a library of
-    /// another version.
+    /// Another status, or an answer that is none of docs/CALLS.md.
     Unknown(u64),
+    /// The library's words are of this version, with which [`VERSION`] does not
+    /// go.
+    Version(u64),
 }
 
 impl Display for Status {
@@ -31,6 +36,14 @@ impl Display for Status {
             Self::NoRoom => f.write_str("too little room for the answer"),
             Self::NoLists => f.write_str("too little room for the answer's lists"),
             Self::Unknown(status) => write!(f, "unknown status or answer {status}"),
+            Self::Version(version) => {
+                let [found, wanted] = [*version, VERSION].map(|it| (it >> 32, it as u32));
+                write!(
+                    f,
+                    "the library has version {}.{} of the words, this crate wants {}.{}",
+                    found.0, found.1, wanted.0, wanted.1
+                )
+            }
         }
     }
 }
@@ -80,7 +93,11 @@ impl Store {
     }
 
     /// Opens a session over the whole store and forgets any earlier one.
+    ///
+    /// # Panics
+    /// If the library is of another version.
     pub fn open(&mut self, opening: Opening) -> Answer {
+        check(library::version()).unwrap_or_else(|status| panic!("{status}"));
         self.apply(&Call::Open {
             opening,
             rows: self.row_count,
@@ -92,13 +109,13 @@ impl Store {
     ///
     /// # Panics
     /// If the library does not know the call or gives an answer that is not in
-    /// docs/CALLS.md: it is of another version.
+    /// docs/CALLS.md: no library of this crate's version does.
     pub fn apply(&mut self, call: &Call<'_>) -> Answer {
         let answer = self.try_apply(call);
         answer.unwrap_or_else(|status| panic!("{call:?}: {status}"))
     }
 
-    /// Runs a call of a library that may be of another version.
+    /// Runs a call, and gives the status where it got no answer.
     pub fn try_apply(&mut self, call: &Call<'_>) -> Result<Answer, Status> {
         let mut words = std::mem::take(&mut self.words);
         call.write(&mut words);
@@ -136,11 +153,13 @@ impl Store {
         &self.area[part(start, length)]
     }
 
-    /// The bytes of a Completed request; none of any other.
-    pub fn completed_bytes(&mut self, id: RequestId) -> &[u8] {
+    /// The bytes of a Completed request, and none of another that has a report;
+    /// refused (40) where there is no report of it.
+    pub fn completed_bytes(&mut self, id: RequestId) -> Result<&[u8], Refusal> {
         match self.apply(&Call::CompletedBytes(id)) {
-            Answer::Bytes { start, length } => self.bytes(start, length),
-            _ => &[],
+            Answer::Bytes { start, length } => Ok(self.bytes(start, length)),
+            Answer::Refused(refusal) => Err(refusal),
+            answer => unexpected(answer),
         }
     }
 
@@ -199,10 +218,20 @@ impl Store {
         &self.session
     }
 
-    /// The session's words, to set up what no call leads to. The library takes
-    /// any; what it then answers is only as good as what they say.
+    /// The session's words, to set up what no call leads to: what the library
+    /// then answers is only as good as what they say. Words that are no session's
+    /// are told by [`Status::NoSession`].
     pub fn session_words_mut(&mut self) -> &mut [u64; SESSION_WORDS] {
         &mut self.session
+    }
+}
+
+/// Whether this crate's words go with a library of that version: the same major
+/// number, and no fewer calls.
+fn check(version: u64) -> Result<(), Status> {
+    match version >> 32 == VERSION >> 32 && version >= VERSION {
+        true => Ok(()),
+        false => Err(Status::Version(version)),
     }
 }
 
@@ -210,4 +239,27 @@ impl Store {
 fn part(start: u64, length: u64) -> Range<usize> {
     let (start, length) = (start as usize, length as usize);
     start..start + length
+}
+
+#[cfg(test)]
+mod tests {
+    use super::*;
+
+    #[test]
+    fn the_library_is_of_this_version() {
+        assert_eq!(library::version(), VERSION);
+    }
+
+    #[test]
+    fn another_version_is_told() {
+        for version in [VERSION, VERSION + 1] {
+            assert_eq!(check(version), Ok(()));
+        }
+        for version in [VERSION - 1, VERSION + (1 << 32), 0] {
+            assert_eq!(check(version), Err(Status::Version(version)));
+        }
+        let text = check((2 << 32) + 3).unwrap_err().to_string();
+        let expected = "the library has version 2.3 of the words, this crate wants 1.0";
+        assert_eq!(text, expected);
+    }
 }

@@ -1,7 +1,7 @@
 //! Aborts and resets.
-use super::{UsbSession, completion, unexpected};
+use super::{UsbSession, completion};
 use crate::backend::Backend;
-use crate::calls::{Abort, Answer, Call, Recovery};
+use crate::calls::{Abort, Answer, Call, Recovery, unexpected};
 use crate::models::{AbortReport, BackendAbort, OperationError, RequestId};
 use crate::refusal::Refusal;
 

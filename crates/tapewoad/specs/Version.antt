@@ -1,0 +1,13 @@
+-- The version of the words of docs/CALLS.md. Assumes nothing.
+use Prim.Native.Nat.{ℕ, _+_, _*_, _^_}
+
+-- rises where a word of a call, of an answer or of a lent slice means something else than before
+abbrev pub major : ℕ
+major = 1
+
+-- rises where a call is added
+abbrev pub minor : ℕ
+minor = 0
+
+abbrev pub version : ℕ
+version = major * 2 ^ 32 + minor
