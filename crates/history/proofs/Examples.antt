@@ -112,7 +112,7 @@ abbrev busWords : List ℕ
 busWords = cleared .words
 
 abbrev before : World
-before = world closed (busOf busWords) (storeOf (replicate 54 0)) (replicate 16 0)
+before = world closed (busOf busWords) (storeOf (replicate 52 0)) (replicate 16 0)
 
 abbrev start : World
 start = next (stepOf (Open opening) before)
@@ -310,7 +310,7 @@ two-apart (r ∷ q ∷ p ∷ l) e = let z : _≡_ {A = ℕ} 2 3 = ap (λ (m : Li
 pub shown : Shown
 unfolding stepOf openOf openFits rowsFit areaFits cleared _if_else_ foundIn splice putIn emptied emptyRow isHeld putRow putWords rowCount rowOf recordOf applyBy applyAt applyOf pendingRow spendSequence moved freed accepted whilePending timeOut completed failed reclaimed changeRow isAt isFree saturate heldCount heldBytes putDevice putEndpoints putPort codeTested testCode testLength testCompletion packetsChecked marked acquiredBy acquireOf initializedBy initializeOf placed setDeviceOf setPortOf setEndpointsOf effect roomIn writeOf beginBy beginOf targetBy targetOf reportedBy changeOf failedAs judgedTest judgedBy judged storedIn settled finishAt finishBy finishFound finishIn finishOf pollRow pollBy pollOf acceptedBy discardedBy submitReplyBy submitReplyIn submitReplyOf heldCountOf heldBytesOf submittedBy preparedBy roomBy packetsBy readyOf submitBy submitOf bus.numberChecked bus.setPortBy bus.setPort bus.readingChecked bus.validatedRow bus.validatedBy bus.validated bus.observedBy bus.observedRow bus.observePortBy bus.observePort bus.freshObserved bus.freshWord bus.freshReading bus.freshPortBy bus.freshPort lists.setEndpoints prepare.dataChecked prepare.otherChecked prepare.specChecked prepare.preparedIf prepare.prepared target.knownBy target.knownDevice target.preparedDevice target.freshDevice target.checkDeviceBy target.checkDevice target.speedChecked target.endpointBy target.checkEndpoint target.checkTargetBy target.checkTarget layout.deviceRecord journalStep closeOf recoveryBegin.beginOf recoveryBegin.beginBy recoveryBegin.beginRow recoveryBegin.begunAs listed isAffected joined affectedOf inScope broughtOf broughtAt returnedOf listsAgree storedAt rowCompletedBy testedBy completeOne abortedBy abortOne abortConfirmed restoredBy resetBy sessionAfter refusedAfter abortsAfter applyAll concludedBy scopedOf doneOf replyBy replySized replyIn recoveryReplyOf part requestBefore storeOf rowsOf busOf raised stallOf freshBy closedBy isUncertain
 shown =
-    let of-recovery = history-claim opening closed busWords (replicate 54 0) (replicate 16 0) recovery refl
+    let of-recovery = history-claim opening closed busWords (replicate 52 0) (replicate 16 0) recovery refl
     (refl, (refl, (refl, (refl, (refl, (refl, (refl, (refl, (refl, (refl, (refl, (refl, (refl, (refl, (refl, (refl, (refl, tt)))))))))))))))))
     (refl, (refl, (refl, (refl, (refl, (refl, (refl, (refl, (refl, (refl, (refl, (refl, (refl, (refl, (refl, (refl, (refl, tt))))))))))))))))) in
     record {
@@ -318,7 +318,7 @@ shown =
         answers-are = refl;
         journal-is = refl;
         rows-are = refl;
-        claim = history-claim opening closed busWords (replicate 54 0) (replicate 16 0) script refl
+        claim = history-claim opening closed busWords (replicate 52 0) (replicate 16 0) script refl
             (refl, (refl, (refl, (refl, (refl, (refl, (refl, (refl, (refl, (refl, (refl, (refl, (refl, (refl, (refl, (refl, (refl, (refl, (refl, (refl, (refl, (refl, (refl, (refl, (refl, tt)))))))))))))))))))))))))
             (refl, (refl, (refl, (refl, (refl, (refl, (refl, (refl, (refl, (refl, (refl, (refl, (refl, (refl, (refl, (refl, (refl, (refl, (refl, (refl, (refl, (refl, (refl, (refl, (refl, tt)))))))))))))))))))))))));
       };
@@ -329,7 +329,7 @@ shown =
         answers-are = refl;
         journal-is = refl;
         rows-are = refl;
-        claim = history-claim opening closed busWords (replicate 54 0) (replicate 16 0) stalled refl
+        claim = history-claim opening closed busWords (replicate 52 0) (replicate 16 0) stalled refl
             (refl, (refl, (refl, (refl, (refl, (refl, (refl, (refl, (refl, (refl, (refl, (refl, (refl, (refl, (refl, (refl, (refl, (refl, (refl, (refl, (refl, (refl, (refl, tt)))))))))))))))))))))))
             (refl, (refl, (refl, (refl, (refl, (refl, (refl, (refl, (refl, (refl, (refl, (refl, (refl, (refl, (refl, (refl, (refl, (refl, (refl, (refl, (refl, (refl, (refl, tt)))))))))))))))))))))));
       };

@@ -1,7 +1,7 @@
 -- Laws of numbers that stop at the maximum of their w bits, and of the tallies that are such numbers. Assumes nothing.
 use Prim.Native.Nat.{ℕ, _+_, _-_, _^_, _<_, _≤_}
 use mathlib.Core.Path.{_≡_, sym, _∙_}
-use mathlib.Core.Bool.{Bool, true, false, cond, not, _&&_}
+use mathlib.Core.Bool.{Bool, true, false, cond, not}
 use mathlib.Core.List.{List}
 use native.Mathlib.Omega.{arith}
 use native.Mathlib.Numerals.{add-one}
@@ -11,7 +11,7 @@ use lib.Pow.{pow-pos}
 use lib.Seq.{take-all}
 use borrow.Author.Tests.{lt-ltb, ltb-true, ltb-false, not-true, not-false}
 use Rattle.chain.specs.Lists.{sumBy, only, count}
-use Rattle.chain.proofs.Chain.{caseB, both}
+use Rattle.chain.proofs.Chain.{caseB}
 use Rattle.chain.proofs.Lists.{sum-suc}
 use Rattle.rows.specs.Table.{emptyRow, isHeld}
 use Rattle.rows.specs.declared.Row.{Row}
@@ -69,27 +69,23 @@ module _ (w : ℕ) where
     pub tally-end : n ≤ i → n ≡ length l → total ≡ saturate w (sumBy f (take i l)) → total ≡ saturate w (sumBy f l)
     tally-end h e t = t ∙ rw (take-all i l (omega arith))
 
-  pub count-on : (l : List Row) (n i total next : ℕ) (held : Bool) → i < n → n ≡ length l → total ≡ saturate w (count isHeld (take i l))
-      → held ≡ isHeld (getD l i emptyRow) → next ≡ saturate w (total + cond held 1 0) → next ≡ saturate w (count isHeld (take (i + 1) l))
-  count-on l n i total next held h e t eh s = tally-on (only isHeld (λ r. 1)) l n i total next h e t (rw eh at s)
-
-  -- one row of a tally: a held row counts for one
-  module _ (total : ℕ) (held : Bool) where
-    pub one-room : (held && ltb total (2 ^ w - 1)) ≡ true → total < 2 ^ w - 1
-    one-room e = ltb-true total (2 ^ w - 1) (both held (ltb total (2 ^ w - 1)) e .1)
-
-    pub one-more : (held && ltb total (2 ^ w - 1)) ≡ true → total + 1 ≡ saturate w (total + cond held 1 0)
-    one-more e = let h = one-room e in rw (both held (ltb total (2 ^ w - 1)) e .0) (sym (saturate-plain (total + 1) (omega arith)))
-
-    pub one-kept : total < 2 ^ w → (held && ltb total (2 ^ w - 1)) ≡ false → total ≡ saturate w (total + cond held 1 0)
-    one-kept g = caseB held
-        (λ y. rw y λ e. let h : 2 ^ w - 1 ≤ total = ltb-false total (2 ^ w - 1) e in omega (arith, saturate-top (total + 1) (omega arith)))
-        (λ y. rw y λ e. omega (arith, saturate-plain (total + 0) (omega arith)))
-
-  -- and its length joins the bytes
+  -- one row of a tally: the length of a held row joins the bytes
   module _ (total : ℕ) (r : Row) (held : Bool) (e : held ≡ isHeld r) where
     pub bytes-kept : total < 2 ^ w → not held ≡ true → total ≡ saturate w (total + heldLength r)
     bytes-kept g h = rw (sym e ∙ not-true held h) (omega (arith, saturate-plain (total + 0) (omega arith)))
 
     pub bytes-more : (n next : ℕ) → not held ≡ false → n ≡ r .metadata .«requested_length» → next ≡ saturate w (total + n) → next ≡ saturate w (total + heldLength r)
     bytes-more n next h en es = rw (sym e ∙ not-false held h, ← en) es
+
+-- a count of held rows that has come to row i of n: at most i, so that 64 bits hold it, and cut once at the end
+abbrev pub Counted : List Row → ℕ → ℕ → ℕ → Type 0
+Counted l n i total = (n ≡ length l) × (i ≤ n) × (total ≤ i) × (total ≡ count isHeld (take i l))
+
+module _ (l : List Row) (n i total : ℕ) where
+  pub counted-on : (word : ℕ) → i < n → n ≡ length l → total ≡ count isHeld (take i l) → word ≡ cond (isHeld (getD l i emptyRow)) 1 0
+      → total + word ≡ count isHeld (take (i + 1) l)
+  counted-on word h e t ew = rw (add-one, sum-suc (only isHeld (λ r. 1)) l i emptyRow (omega arith), t, ew)
+
+  pub counted-end : (w r : ℕ) → n ≤ i → n ≡ length l → total ≡ count isHeld (take i l) → r ≡ saturate w total → r ≡ heldCount w l
+  unfolding heldCount
+  counted-end w r h e t er = er ∙ rw (t, take-all i l (omega arith))

@@ -2,26 +2,30 @@
 use rows::columns;
 ghost use mathlib.Core.Path.{_≡_};
 ghost use Prim.Native.Nat.{_+_, _<_};
-ghost use mathlib.Core.Bool.{cond};
 ghost use lib.ListN.{length};
 ghost use Rattle.rows.specs.Table.{rowsOf, rowAt};
 ghost use Rattle.ledger.specs.Tally.{saturate, heldLength, heldCount, heldBytes};
 
-fn add_one(total: u16, held: bool) -> u16
-    ensures { λ r. ⌜ r ≡ saturate 16 (total + cond held 1 0) ⌝ }
+// The greatest numbers of 16 and of 64 bits.
+const MOST_ROWS: u16 = 65535;
+
+const MOST_BYTES: u64 = 18446744073709551615;
+
+// The number in 16 bits, or their greatest.
+fn cut(total: u64) -> u16
+    ensures { λ r. ⌜ r ≡ saturate 16 total ⌝ }
 {
-    if held & (total < 65535) {
-        total + 1
-    } else {
-        total
+    if total > MOST_ROWS as u64 {
+        return MOST_ROWS;
     }
+    total as u16
 }
 
 fn add_saturating(total: u64, length: u64) -> u64
     ensures { λ r. ⌜ r ≡ saturate 64 (total + length) ⌝ }
 {
-    if length > 18446744073709551615 - total {
-        return 18446744073709551615;
+    if length > MOST_BYTES - total {
+        return MOST_BYTES;
     }
     total + length
 }
@@ -42,14 +46,13 @@ pub fn held_count(rows: &[u64]) -> u16
     ensures { λ r. ⌜ r ≡ heldCount 16 (rowsOf (now (rows .entry))) ⌝ }
 {
     let n = rows::count(rows);
-    let mut total: u16 = 0;
+    let mut total: u64 = 0;
     let mut i = 0;
     while i < n {
-        let held = columns::held_at(rows, i);
-        total = add_one(total, held);
+        total += columns::held_word_at(rows, i);
         i += 1;
     }
-    total
+    cut(total)
 }
 
 pub fn held_bytes(rows: &[u64]) -> u64

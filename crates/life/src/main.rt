@@ -394,7 +394,7 @@ fn requests_of(s: Session, bus: &mut [u64], rows: &mut [u64], area: &mut [u8]) -
 // A store of two rows of 8 bytes: 3 as one of three.
 fn small_life() {
     let mut bus = [0u64; 10750];
-    let mut rows = [7u64; 54];
+    let mut rows = [7u64; 52];
     let mut area = [0u8; 16];
     let wrong = lifecycle::open(opening(3, 8), &mut rows, &area, &mut bus);
     show::opened(b"open", wrong);
@@ -442,7 +442,7 @@ fn hold_all(s: Session, bus: &mut [u64], rows: &mut [u64], area: &mut [u8]) {
 // A store of 130 rows of a byte.
 fn full_life() {
     let mut bus = [0u64; 10750];
-    let mut rows = [0u64; 3510];
+    let mut rows = [0u64; 3380];
     let mut area = [0u8; 130];
     let opened = lifecycle::open(opening(130, 1), &mut rows, &area, &mut bus);
     show::opened(b"open", opened);

@@ -5,14 +5,13 @@ use mathlib.Core.List.{List, [], _∷_, append-nil}
 use native.Mathlib.Omega.{arith}
 use lib.ListN.{length, getD, set, take, drop, replicate, length-replicate, drop-of-length-le}
 use lib.Seq.{getD-append-add, take-all}
-use Rattle.words.specs.Words.{flagWord}
 use Rattle.words.specs.Records.{splice, part}
 use Rattle.words.proofs.Records.{length-tab, getD-tab, set-tab, tab-all, part-getD, part-all, zero-at}
-use Rattle.rows.specs.Codec.{rowOf, metadataOf, recordOf, stateWords}
+use Rattle.rows.specs.Codec.{rowOf, metadataOf, recordOf, statusWords}
 use Rattle.rows.specs.Table.{recordWords, rowWords, rowCount, recordAt, wordsAt, putWords, putRow, rowsOf, emptyRow, rowAt, wordAt}
 use Rattle.rows.specs.Store.{storeOf, putIn, emptied}
 use Rattle.rows.specs.declared.Row.{Row}
-use Rattle.rows.specs.declared.codec.StateWords.{StateWords}
+use Rattle.rows.specs.declared.codec.StatusWords.{StatusWords}
 use Rattle.rows.proofs.Tabled.{put-length, words-put, words-kept}
 
 pub length-rowsOf : (l : List ℕ) → length (rowsOf l) ≡ rowCount l
@@ -34,36 +33,34 @@ unfolding rowsOf
 row-is l i h = sym (getD-tab (λ (k : ℕ). rowOf (wordsAt (rowCount l) l k)) (rowCount l) i emptyRow (rw length-tab at h))
 
 -- word k of row i, in a column and in the record
-pub column-in : (l : List ℕ) (i k : ℕ) → i < length (rowsOf l) → k < 3 → length l / rowWords * k + i < length l
+pub column-in : (l : List ℕ) (i k : ℕ) → i < length (rowsOf l) → k < 2 → length l / rowWords * k + i < length l
 column-in l i zero h g = omega (arith, inside l i h)
 column-in l i (suc zero) h g = omega (arith, inside l i h)
-column-in l i (suc (suc zero)) h g = omega (arith, inside l i h)
-column-in l i (suc (suc (suc k))) h g = absurd (omega arith)
+column-in l i (suc (suc k)) h g = absurd (omega arith)
 
-pub column-is : (l : List ℕ) (i k : ℕ) → i < length (rowsOf l) → k < 3 → getD l (length l / rowWords * k + i) 0 ≡ wordAt l i k
+pub column-is : (l : List ℕ) (i k : ℕ) → i < length (rowsOf l) → k < 2 → getD l (length l / rowWords * k + i) 0 ≡ wordAt l i k
 unfolding rowCount wordsAt
 column-is l i zero h g = let e : length l / rowWords * 0 + i ≡ i = omega arith in rw e
 column-is l i (suc zero) h g = let e : length l / rowWords * 1 + i ≡ length l / rowWords + i = omega arith in rw e
-column-is l i (suc (suc zero)) h g = refl
-column-is l i (suc (suc (suc k))) h g = absurd (omega arith)
+column-is l i (suc (suc k)) h g = absurd (omega arith)
 
-pub field-is : (l : List ℕ) (i k at : ℕ) → k < recordWords → at ≡ recordAt (rowCount l) i → getD l (at + k) 0 ≡ wordAt l i (3 + k)
+pub field-is : (l : List ℕ) (i k at : ℕ) → k < recordWords → at ≡ recordAt (rowCount l) i → getD l (at + k) 0 ≡ wordAt l i (2 + k)
 unfolding rowCount wordsAt
 field-is l i k at g e =
     let n = length l / rowWords in
     let p = part (recordAt n i) recordWords l in
-    rw e (sym (getD-append-add (getD l i 0 ∷ getD l (n + i) 0 ∷ getD l (n * 2 + i) 0 ∷ []) p k 0 ∙ part-getD 0 (recordAt n i) recordWords l k g))
+    rw e (sym (getD-append-add (getD l i 0 ∷ getD l (n + i) 0 ∷ []) p k 0 ∙ part-getD 0 (recordAt n i) recordWords l k g))
 
 -- the record of row i, as `&rows[at..end]` says it
-pub row-at : (l : List ℕ) (i s u t at : ℕ) → i < length (rowsOf l) → s ≡ wordAt l i 0 → u ≡ wordAt l i 1 → t ≡ wordAt l i 2 → at ≡ recordAt (rowCount l) i
-    → rowOf (s ∷ u ∷ t ∷ take (at + recordWords - at) (drop at l)) ≡ rowAt l i
+pub row-at : (l : List ℕ) (i s t at : ℕ) → i < length (rowsOf l) → s ≡ wordAt l i 0 → t ≡ wordAt l i 1 → at ≡ recordAt (rowCount l) i
+    → rowOf (s ∷ t ∷ take (at + recordWords - at) (drop at l)) ≡ rowAt l i
 unfolding wordsAt part
-row-at l i s u t at h es eu et ea =
+row-at l i s t at h es et ea =
     let e : at + recordWords - at ≡ recordWords = omega arith in
-    rw (e, es, eu, et, ea) (row-is l i h)
+    rw (e, es, et, ea) (row-is l i h)
 
 -- row r put at i by its words
-module _ (l : List ℕ) (i s u t : ℕ) (p : List ℕ) (r : Row) (h : i < length (rowsOf l)) (e : length p ≡ recordWords) (d : rowOf (s ∷ u ∷ t ∷ p) ≡ r) where
+module _ (l : List ℕ) (i s t : ℕ) (p : List ℕ) (r : Row) (h : i < length (rowsOf l)) (e : length p ≡ recordWords) (d : rowOf (s ∷ t ∷ p) ≡ r) where
   abbrev many : ℕ
   many = rowCount l
 
@@ -74,31 +71,31 @@ module _ (l : List ℕ) (i s u t : ℕ) (p : List ℕ) (r : Row) (h : i < length
   unfolding rowCount
   fits = inside l i h .whole
 
-  count-put : rowCount (putWords many l i s u t p) ≡ many
+  count-put : rowCount (putWords many l i s t p) ≡ many
   unfolding rowCount
-  count-put = rw (put-length many l i s u t p below fits e)
+  count-put = rw (put-length many l i s t p below fits e)
 
-  rows-put : rowsOf (putWords many l i s u t p) ≡ set (rowsOf l) i r
+  rows-put : rowsOf (putWords many l i s t p) ≡ set (rowsOf l) i r
   unfolding rowsOf
   rows-put = rw count-put
-      (set-tab (λ (j : ℕ). rowOf (wordsAt many l j)) (λ (j : ℕ). rowOf (wordsAt many (putWords many l i s u t p) j)) many i r below
-      (ap rowOf (words-put many l i s u t p below fits e) ∙ d) (λ j hj ne. ap rowOf (words-kept many l i s u t p below fits e j hj ne)))
+      (set-tab (λ (j : ℕ). rowOf (wordsAt many l j)) (λ (j : ℕ). rowOf (wordsAt many (putWords many l i s t p) j)) many i r below
+      (ap rowOf (words-put many l i s t p below fits e) ∙ d) (λ j hj ne. ap rowOf (words-kept many l i s t p below fits e j hj ne)))
 
 record-length : (r : Row) → length (recordOf r) ≡ recordWords
 unfolding recordOf
 record-length r = refl
 
 -- what `write_row` does: the columns, then the record
-pub put-row : (l m x : List ℕ) (i u at : ℕ) (z : StateWords) (w : List ℕ) (r : Row) → i < length (rowsOf l) → at ≡ recordAt (rowCount l) i
-    → u ≡ flagWord (r .used) → z ≡ stateWords (r .state) → rowOf (r .id .sequence ∷ flagWord (r .used) ∷ z .tag ∷ w) ≡ r → w ≡ recordOf r
-    → m ≡ set (set (set l i (r .id .sequence)) (length l / rowWords + i) u) (length l / rowWords * 2 + i) (z .tag) → x ≡ splice at (take recordWords w) m
+pub put-row : (l m x : List ℕ) (i at : ℕ) (z : StatusWords) (w : List ℕ) (r : Row) → i < length (rowsOf l) → at ≡ recordAt (rowCount l) i
+    → z ≡ statusWords (r .used) (r .state) → rowOf (r .id .sequence ∷ z .status ∷ w) ≡ r → w ≡ recordOf r
+    → m ≡ set (set l i (r .id .sequence)) (length l / rowWords + i) (z .status) → x ≡ splice at (take recordWords w) m
     → storeOf x ≡ putIn (storeOf l) i r
 unfolding storeOf putIn putRow putWords rowCount
-put-row l m x i u at z w r h ea hu hz d hw em ex =
+put-row l m x i at z w r h ea hz d hw em ex =
     let sized : length w ≡ recordWords = ap length hw ∙ record-length r in
-    let e1 : x ≡ putWords (rowCount l) l i (r .id .sequence) (flagWord (r .used)) (z .tag) w = ex ∙ rw (take-all recordWords w (omega arith), em, ea, hu) in
-    let e2 : putWords (rowCount l) l i (r .id .sequence) (flagWord (r .used)) (z .tag) w ≡ putRow l i r = rw (hz, hw) in
-    let e3 : rowsOf x ≡ set (rowsOf l) i r = ap rowsOf e1 ∙ rows-put l i (r .id .sequence) (flagWord (r .used)) (z .tag) w r h sized d in
+    let e1 : x ≡ putWords (rowCount l) l i (r .id .sequence) (z .status) w = ex ∙ rw (take-all recordWords w (omega arith), em, ea) in
+    let e2 : putWords (rowCount l) l i (r .id .sequence) (z .status) w ≡ putRow l i r = rw (hz, hw) in
+    let e3 : rowsOf x ≡ set (rowsOf l) i r = ap rowsOf e1 ∙ rows-put l i (r .id .sequence) (z .status) w r h sized d in
     rw (e3, e1 ∙ e2)
 
 -- every word 0: every row free
@@ -109,7 +106,7 @@ free-row n w i h room =
     let zeros : List ℕ = replicate w 0 in
     let e : part (recordAt n i) recordWords zeros ≡ replicate recordWords 0 =
     part-all 0 0 (recordAt n i) recordWords zeros (omega (arith, length-replicate {A = ℕ} w 0)) (λ k lo hi. z k) in
-    rw (z i, z (n + i), z (n * 2 + i), e)
+    rw (z i, z (n + i), e)
 
 rows-cleared : (l : List ℕ) → rowsOf (replicate (length l) 0) ≡ replicate (length (rowsOf l)) emptyRow
 unfolding rowsOf rowCount
@@ -128,6 +125,6 @@ cleared l m e =
     rw (all, rows-cleared l)
 
 -- the free row's words
-pub empty-is : rowOf (0 ∷ 0 ∷ 0 ∷ replicate recordWords 0) ≡ emptyRow
+pub empty-is : rowOf (0 ∷ 0 ∷ replicate recordWords 0) ≡ emptyRow
 unfolding rowOf metadataOf emptyRow
 empty-is = refl

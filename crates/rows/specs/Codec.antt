@@ -1,9 +1,9 @@
 -- What the words of a row say, and the words that say it. Every list of words says a row. Assumes nothing.
 use Prim.Native.Nat.{ℕ, _%_, _^_}
 use mathlib.Core.List.{List, [], _∷_}
-use mathlib.Core.Bool.{Bool, cond}
+use mathlib.Core.Bool.{Bool, true, false, cond}
 use lib.ListN.{getD, take, drop}
-use lib.Dec.{eqb}
+use lib.Dec.{eqb, ltb}
 use Rattle.words.specs.Words.{flagOf, flagWord, optionU32Of, optionU32Word, optionI32Of, optionI32Word}
 use Rattle.words.specs.declared.OptionU32.{OptionU32}
 use Rattle.models.specs.Codes.{categoryOf, categoryWord, transferOf, transferWord, directionOf, directionWord}
@@ -16,6 +16,8 @@ use Rattle.models.specs.declared.RequestState.the-variants.{Pending, Completed,
 use Rattle.rows.specs.declared.Row.{Row}
 use Rattle.rows.specs.declared.codec.SetupWords.{SetupWords}
 use Rattle.rows.specs.declared.codec.StateWords.{StateWords}
+use Rattle.rows.specs.declared.codec.KindWords.{KindWords}
+use Rattle.rows.specs.declared.codec.StatusWords.{StatusWords}
 
 abbrev pub setupOf : ℕ → ℕ → ℕ → ℕ → ℕ → ℕ → OptionSetup
 setupOf present type request value index length =
@@ -39,7 +41,7 @@ metadataOf w = record {
 abbrev pub errorOf : ℕ → ℕ → ℕ → ℕ → OperationError
 errorOf a b d e = record { category = categoryOf a; message = b % 2 ^ 16; «os_code» = optionI32Of d; «completion_code» = optionU32Of e }
 
--- tags: 0 Pending, 1 Completed, 2 Failed, any other Aborted
+-- a report's state by its words; tags: 0 Pending, 1 Completed, 2 Failed, any other Aborted
 abbrev pub stateOf : ℕ → ℕ → ℕ → ℕ → ℕ → ℕ → ℕ → RequestState
 stateOf tag a b c d e f =
     cond (eqb tag 0) (Pending (flagOf a) (flagOf b))
@@ -68,23 +70,69 @@ stateWords (Completed actual code cancel) = shortWords 1 actual code (flagWord c
 stateWords (Failed x code quiescent) = failedWords x code quiescent
 stateWords Aborted = shortWords 3 0 0 0
 
--- a row's words: the three that stand in columns (sequence, used, tag of the state), then its record
+-- a row's state by its words; kinds: 1 Pending, 2 Completed, 3 Failed and not quiescent, 4 Failed and quiescent, 6 Aborted. A kind is odd
+-- where the row is held. Of the other words 0 says what 1 says, an odd one what 3 says, an even one what 6 says.
+abbrev pub kindOf : ℕ → ℕ → ℕ → ℕ → ℕ → ℕ → RequestState
+kindOf k a b d e f =
+    cond (ltb k 2) (Pending (flagOf a) (flagOf b))
+    (cond (eqb k 2) (Completed a (b % 2 ^ 32) (flagOf d))
+    (cond (eqb (k % 2) 1) (Failed (errorOf a b d e) (optionU32Of f) false)
+    (cond (eqb k 4) (Failed (errorOf a b d e) (optionU32Of f) true)
+    Aborted)))
+
+abbrev pub shortKind : ℕ → ℕ → ℕ → ℕ → KindWords
+shortKind kind a b d = record { kind = kind; a = a; b = b; d = d; e = 0; f = 0 }
+
+abbrev pub failedKind : OperationError → OptionU32 → Bool → KindWords
+failedKind x code quiescent = record {
+  kind = cond quiescent 4 3;
+  a = categoryWord (x .category);
+  b = x .message;
+  d = optionI32Word (x .«os_code»);
+  e = optionU32Word (x .«completion_code»);
+  f = optionU32Word code;
+}
+
+abbrev pub kindWords : RequestState → KindWords
+kindWords (Pending cancel late) = shortKind 1 (flagWord cancel) (flagWord late) 0
+kindWords (Completed actual code cancel) = shortKind 2 actual code (flagWord cancel)
+kindWords (Failed x code quiescent) = failedKind x code quiescent
+kindWords Aborted = shortKind 6 0 0 0
+
+-- a row's status: 0 where it is free, else the kind of its state. What a free row keeps of its state's kind (0: Pending) is a word of
+-- its record, `rest`, which is 0 in a row that is used
+abbrev pub kindBy : ℕ → ℕ → ℕ
+kindBy status rest = cond (eqb status 0) rest status
+
+abbrev pub statusOf : Bool → ℕ → ℕ
+statusOf used kind = cond used kind 0
+
+abbrev pub restOf : Bool → ℕ → ℕ
+restOf used kind = cond used 0 (cond (eqb kind 1) 0 kind)
+
+abbrev pub statusBy : Bool → KindWords → StatusWords
+statusBy used k = record { status = statusOf used (k .kind); rest = restOf used (k .kind); a = k .a; b = k .b; d = k .d; e = k .e; f = k .f }
+
+abbrev pub statusWords : Bool → RequestState → StatusWords
+statusWords used s = statusBy used (kindWords s)
+
+-- a row's words: the two that stand in columns (sequence, status), then its record
 unfoldable pub rowOf : List ℕ → Row
 rowOf w = record {
   used = flagOf (getD w 1 0);
-  id = record { session = getD w 3 0; generation = getD w 4 0; sequence = getD w 0 0 };
-  metadata = metadataOf (take 13 (drop 5 w));
-  token = getD w 18 0;
-  «logical_cancel» = flagOf (getD w 19 0);
-  «timed_out» = flagOf (getD w 20 0);
-  state = stateOf (getD w 2 0) (getD w 21 0) (getD w 22 0) (getD w 23 0) (getD w 24 0) (getD w 25 0) (getD w 26 0);
+  id = record { session = getD w 2 0; generation = getD w 3 0; sequence = getD w 0 0 };
+  metadata = metadataOf (take 13 (drop 4 w));
+  token = getD w 17 0;
+  «logical_cancel» = flagOf (getD w 18 0);
+  «timed_out» = flagOf (getD w 19 0);
+  state = kindOf (kindBy (getD w 1 0) (getD w 22 0)) (getD w 20 0) (getD w 21 0) (getD w 23 0) (getD w 24 0) (getD w 25 0);
 }
 
 abbrev pub setupTail : SetupWords → List ℕ → List ℕ
 setupTail p rest = p .present ∷ p .«request_type» ∷ p .request ∷ p .value ∷ p .index ∷ p .length ∷ rest
 
-abbrev pub stateTail : StateWords → List ℕ
-stateTail s = s .a ∷ s .b ∷ s .c ∷ s .d ∷ s .e ∷ s .f ∷ []
+abbrev pub statusTail : StatusWords → List ℕ
+statusTail s = s .a ∷ s .b ∷ s .rest ∷ s .d ∷ s .e ∷ s .f ∷ []
 
 unfoldable pub recordOf : Row → List ℕ
 recordOf r =
@@ -92,4 +140,4 @@ recordOf r =
     ∷ r .metadata .device .session ∷ r .metadata .device .generation ∷ r .metadata .device .slot ∷ r .metadata .endpoint
     ∷ transferWord (r .metadata .«transfer_type») ∷ directionWord (r .metadata .direction) ∷ r .metadata .«requested_length»
     ∷ setupTail (setupWords (r .metadata .setup))
-    (r .token ∷ flagWord (r .«logical_cancel») ∷ flagWord (r .«timed_out») ∷ stateTail (stateWords (r .state)))
+    (r .token ∷ flagWord (r .«logical_cancel») ∷ flagWord (r .«timed_out») ∷ statusTail (statusWords (r .used) (r .state)))

@@ -1,33 +1,35 @@
--- Rows in a list of words: of n rows first the n sequences, then the n used flags, the n tags of states, and the n records; words
--- past the last whole row say nothing. Assumes nothing.
+-- Rows in a list of words: of n rows first the n sequences, then the n status words, then the n records; words past the last whole
+-- row say nothing. Assumes nothing.
 use Prim.Native.Nat.{ℕ, _+_, _*_, _/_}
 use mathlib.Core.Bool.{Bool, _&&_}
 use mathlib.Core.List.{List, [], _∷_}
 use lib.ListN.{length, getD, set}
-use Rattle.words.specs.Words.{flagWord}
 use Rattle.words.specs.Records.{tab, splice, part}
 use Rattle.models.specs.Requests.{deviceMayAccess, isUncertainFailure}
 use Rattle.models.specs.declared.RequestId.{RequestId}
-use Rattle.rows.specs.Codec.{rowOf, recordOf, stateWords}
+use Rattle.rows.specs.Codec.{rowOf, recordOf, statusWords}
 use Rattle.rows.specs.declared.Row.{Row}
 
--- how many words a record has, and a row with its three columns
+-- how many words of a row stand in columns, how many in its record, and how many it has
+abbrev pub columnWords : ℕ
+columnWords = 2
+
 abbrev pub recordWords : ℕ
 recordWords = 24
 
 abbrev pub rowWords : ℕ
-rowWords = 3 + recordWords
+rowWords = columnWords + recordWords
 
 unfoldable pub rowCount : List ℕ → ℕ
 rowCount l = length l / rowWords
 
 -- where the record of row i of n starts
 abbrev pub recordAt : ℕ → ℕ → ℕ
-recordAt n i = n * 3 + i * recordWords
+recordAt n i = n * columnWords + i * recordWords
 
 -- the words of row i of n
 unfoldable pub wordsAt : ℕ → List ℕ → ℕ → List ℕ
-wordsAt n l i = getD l i 0 ∷ getD l (n + i) 0 ∷ getD l (n * 2 + i) 0 ∷ part (recordAt n i) recordWords l
+wordsAt n l i = getD l i 0 ∷ getD l (n + i) 0 ∷ part (recordAt n i) recordWords l
 
 -- word k of row i
 abbrev pub wordAt : List ℕ → ℕ → ℕ → ℕ
@@ -36,13 +38,13 @@ wordAt l i k = getD (wordsAt (rowCount l) l i) k 0
 unfoldable pub rowsOf : List ℕ → List Row
 rowsOf l = tab (λ (i : ℕ). rowOf (wordsAt (rowCount l) l i)) (rowCount l)
 
--- l with the words s, u, t and the record p as those of row i of n
-unfoldable pub putWords : ℕ → List ℕ → ℕ → ℕ → ℕ → ℕ → List ℕ → List ℕ
-putWords n l i s u t p = splice (recordAt n i) p (set (set (set l i s) (n + i) u) (n * 2 + i) t)
+-- l with the words s, t and the record p as those of row i of n
+unfoldable pub putWords : ℕ → List ℕ → ℕ → ℕ → ℕ → List ℕ → List ℕ
+putWords n l i s t p = splice (recordAt n i) p (set (set l i s) (n + i) t)
 
 -- the words with the row r put at i
 unfoldable pub putRow : List ℕ → ℕ → Row → List ℕ
-putRow l i r = putWords (rowCount l) l i (r .id .sequence) (flagWord (r .used)) (stateWords (r .state) .tag) (recordOf r)
+putRow l i r = putWords (rowCount l) l i (r .id .sequence) (statusWords (r .used) (r .state) .status) (recordOf r)
 
 -- the free row, whose words are all 0
 unfoldable pub emptyRow : Row

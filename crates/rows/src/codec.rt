@@ -1,4 +1,4 @@
-// A row as words: three that stand in columns (sequence, used, tag of the state), and a record. Each value takes one word a field.
+// A row as words: two that stand in columns (sequence, status), and a record. Each value takes one word a field.
 use crate::Row;
 use models::DeviceId;
 use models::OperationError;
@@ -11,10 +11,23 @@ use models::codes;
 use words::OptionU32;
 ghost use mathlib.Core.Path.{_≡_};
 ghost use mathlib.Core.List.{_∷_};
+ghost use mathlib.Core.Bool.{cond};
+ghost use lib.Dec.{eqb};
 ghost use lib.ListN.{length};
-ghost use Rattle.words.specs.Words.{flagWord};
-ghost use Rattle.rows.specs.Codec.{setupOf, setupWords, metadataOf, errorOf, stateOf, shortWords, failedWords, stateWords, rowOf, recordOf};
+ghost use Rattle.words.specs.Words.{flagOf, optionU32Of};
+ghost use Rattle.rows.specs.Codec.{setupOf, setupWords, metadataOf, stateOf, shortWords, failedWords, stateWords, errorOf, kindOf, shortKind, failedKind, kindWords, kindBy, statusBy, statusWords, rowOf, recordOf};
 ghost use Rattle.models.specs.declared.RequestState.the-variants as RequestState;
+
+// The kinds of a row's state: odd, where the row is held.
+const PENDING: u64 = 1;
+
+const COMPLETED: u64 = 2;
+
+const UNCERTAIN: u64 = 3;
+
+const QUIESCENT: u64 = 4;
+
+const ABORTED: u64 = 6;
 
 // The words of an optional SETUP packet.
 pub struct SetupWords {
@@ -26,12 +39,33 @@ pub struct SetupWords {
     pub length: u64,
 }
 
-// The words of a state. What a to f hold depends on the tag.
+// The words of a report's state. What a to f hold depends on the tag.
 pub struct StateWords {
     pub tag: u64,
     pub a: u64,
     pub b: u64,
     pub c: u64,
+    pub d: u64,
+    pub e: u64,
+    pub f: u64,
+}
+
+// The words of a row's state. What a to f hold depends on the kind.
+struct KindWords {
+    kind: u64,
+    a: u64,
+    b: u64,
+    d: u64,
+    e: u64,
+    f: u64,
+}
+
+// The words of a row's state with its status: 0 where the row is free, else the kind. `rest` is what a free row keeps of the kind.
+pub struct StatusWords {
+    pub status: u64,
+    pub rest: u64,
+    pub a: u64,
+    pub b: u64,
     pub d: u64,
     pub e: u64,
     pub f: u64,
@@ -83,7 +117,7 @@ pub fn to_setup(
 }
 
 // The metadata that the words of a record from its third on say.
-pub fn to_metadata(w: &[u64]) -> RequestMetadata
+fn to_metadata(w: &[u64]) -> RequestMetadata
     requires { ⌜ length (now w) ≡ 13 ⌝ }
     ensures { λ r. ⌜ r ≡ metadataOf (now (w .entry)) ⌝ }
 {
@@ -167,6 +201,74 @@ pub fn state_words(s: RequestState) -> StateWords
     }
 }
 
+// Of a state that needs three words beside its kind.
+fn short_kind(kind: u64, a: u64, b: u64, d: u64) -> KindWords
+    ensures { λ r. ⌜ r ≡ shortKind kind a b d ⌝ }
+{
+    KindWords {
+        kind,
+        a,
+        b,
+        d,
+        e: 0,
+        f: 0,
+    }
+}
+
+fn failed_kind(error: OperationError, code: OptionU32, quiescent: bool) -> KindWords
+    ensures { λ r. ⌜ (kindOf (r .kind) (r .a) (r .b) (r .d) (r .e) (r .f) ≡ RequestState.Failed error code quiescent) × (r ≡ failedKind error code quiescent) ⌝ }
+{
+    let category = error.category;
+    let os_code = error.os_code;
+    let inner = error.completion_code;
+    KindWords {
+        kind: failed_word(quiescent),
+        a: codes::category_word(category),
+        b: error.message as u64,
+        d: words::option_i32_word(os_code),
+        e: words::option_u32_word(inner),
+        f: words::option_u32_word(code),
+    }
+}
+
+fn failed_word(quiescent: bool) -> u64
+    ensures { λ r. ⌜ r ≡ cond quiescent 4 3 ⌝ }
+{
+    if quiescent { QUIESCENT } else { UNCERTAIN }
+}
+
+fn kind_words(s: RequestState) -> KindWords
+    ensures { λ r. ⌜ (kindOf (r .kind) (r .a) (r .b) (r .d) (r .e) (r .f) ≡ s) × (r ≡ kindWords s) ⌝ }
+{
+    match s {
+        RequestState::Pending {
+            logical_cancel,
+            timed_out,
+        } => short_kind(
+            PENDING,
+            words::flag_word(logical_cancel),
+            words::flag_word(timed_out),
+            0,
+        ),
+        RequestState::Completed {
+            actual_length,
+            completion_code,
+            logical_cancel,
+        } => short_kind(
+            COMPLETED,
+            actual_length,
+            completion_code as u64,
+            words::flag_word(logical_cancel),
+        ),
+        RequestState::Failed {
+            error,
+            completion_code,
+            quiescent,
+        } => failed_kind(error, completion_code, quiescent),
+        RequestState::Aborted => short_kind(ABORTED, 0, 0, 0),
+    }
+}
+
 pub fn to_error(category: u64, message: u64, os_code: u64, code: u64) -> OperationError
     ensures { λ r. ⌜ r ≡ errorOf category message «os_code» code ⌝ }
 {
@@ -178,36 +280,96 @@ pub fn to_error(category: u64, message: u64, os_code: u64, code: u64) -> Operati
     }
 }
 
-pub fn to_state(tag: u64, a: u64, b: u64, c: u64, d: u64, e: u64, f: u64) -> RequestState
-    ensures { λ r. ⌜ r ≡ stateOf tag a b c d e f ⌝ }
+fn to_failed(a: u64, b: u64, d: u64, e: u64, f: u64, quiescent: bool) -> RequestState
+    ensures { λ r. ⌜ r ≡ RequestState.Failed (errorOf a b d e) (optionU32Of f) quiescent ⌝ }
 {
-    if tag == 0 {
+    RequestState::Failed {
+        error: to_error(a, b, d, e),
+        completion_code: words::to_option_u32(f),
+        quiescent,
+    }
+}
+
+fn to_state(kind: u64, a: u64, b: u64, d: u64, e: u64, f: u64) -> RequestState
+    ensures { λ r. ⌜ r ≡ kindOf kind a b d e f ⌝ }
+{
+    if kind < COMPLETED {
         return RequestState::Pending {
             logical_cancel: words::to_flag(a),
             timed_out: words::to_flag(b),
         };
     }
-    if tag == 1 {
+    if kind == COMPLETED {
         return RequestState::Completed {
             actual_length: a,
             completion_code: (b % 4294967296) as u32,
-            logical_cancel: words::to_flag(c),
+            logical_cancel: words::to_flag(d),
         };
     }
-    if tag == 2 {
-        return RequestState::Failed {
-            error: to_error(a, b, d, e),
-            completion_code: words::to_option_u32(f),
-            quiescent: words::to_flag(c),
-        };
+    if kind % 2 == 1 {
+        return to_failed(a, b, d, e, f, false);
+    }
+    if kind == QUIESCENT {
+        return to_failed(a, b, d, e, f, true);
     }
     RequestState::Aborted
 }
 
-// The row that its three column words and its record say.
-pub fn decode(sequence: u64, used: u64, tag: u64, w: &[u64]) -> Row
+// What a free row keeps of the kind of its state.
+fn rest_of(kind: u64) -> u64
+    ensures { λ r. ⌜ r ≡ cond (eqb kind 1) 0 kind ⌝ }
+{
+    if kind == PENDING {
+        return 0;
+    }
+    kind
+}
+
+fn status_by(used: bool, k: KindWords) -> StatusWords
+    ensures { λ r. ⌜ r ≡ statusBy used k ⌝ }
+{
+    if used {
+        return StatusWords {
+            status: k.kind,
+            rest: 0,
+            a: k.a,
+            b: k.b,
+            d: k.d,
+            e: k.e,
+            f: k.f,
+        };
+    }
+    StatusWords {
+        status: 0,
+        rest: rest_of(k.kind),
+        a: k.a,
+        b: k.b,
+        d: k.d,
+        e: k.e,
+        f: k.f,
+    }
+}
+
+pub(crate) fn status_words(used: bool, s: RequestState) -> StatusWords
+    ensures { λ r. ⌜ (flagOf (r .status) ≡ used) × (kindOf (kindBy (r .status) (r .rest)) (r .a) (r .b) (r .d) (r .e) (r .f) ≡ s) × (r ≡ statusWords used s) ⌝ }
+{
+    let k = kind_words(s);
+    status_by(used, k)
+}
+
+fn kind_by(status: u64, rest: u64) -> u64
+    ensures { λ r. ⌜ r ≡ kindBy status rest ⌝ }
+{
+    if status == 0 {
+        return rest;
+    }
+    status
+}
+
+// The row that its two column words and its record say.
+pub(crate) fn decode(sequence: u64, status: u64, w: &[u64]) -> Row
     requires { ⌜ length (now w) ≡ 24 ⌝ }
-    ensures { λ r. ⌜ r ≡ rowOf (sequence ∷ used ∷ tag ∷ now (w .entry)) ⌝ }
+    ensures { λ r. ⌜ r ≡ rowOf (sequence ∷ status ∷ now (w .entry)) ⌝ }
 {
     let id = RequestId {
         session: w[0],
@@ -215,9 +377,10 @@ pub fn decode(sequence: u64, used: u64, tag: u64, w: &[u64]) -> Row
         sequence,
     };
     let metadata = to_metadata(&w[2..15]);
-    let state = to_state(tag, w[18], w[19], w[20], w[21], w[22], w[23]);
+    let kind = kind_by(status, w[20]);
+    let state = to_state(kind, w[18], w[19], w[21], w[22], w[23]);
     Row {
-        used: words::to_flag(used),
+        used: words::to_flag(status),
         id,
         metadata,
         token: w[15],
@@ -228,9 +391,9 @@ pub fn decode(sequence: u64, used: u64, tag: u64, w: &[u64]) -> Row
 }
 
 // The record of a row whose SETUP has the words p and whose state the words s.
-pub fn encode(r: Row, p: SetupWords, s: StateWords) -> [u64; 24]
-    requires { ⌜ (setupOf (p .present) (p .«request_type») (p .request) (p .value) (p .index) (p .length) ≡ r .metadata .setup) × (p ≡ setupWords (r .metadata .setup)) × (stateOf (s .tag) (s .a) (s .b) (s .c) (s .d) (s .e) (s .f) ≡ r .state) × (s ≡ stateWords (r .state)) ⌝ }
-    ensures { λ w. ⌜ (rowOf (r .id .sequence ∷ flagWord (r .used) ∷ s .tag ∷ w) ≡ r) × (w ≡ recordOf r) ⌝ }
+pub(crate) fn encode(r: Row, p: SetupWords, s: StatusWords) -> [u64; 24]
+    requires { ⌜ (setupOf (p .present) (p .«request_type») (p .request) (p .value) (p .index) (p .length) ≡ r .metadata .setup) × (p ≡ setupWords (r .metadata .setup)) × (flagOf (s .status) ≡ r .used) × (kindOf (kindBy (s .status) (s .rest)) (s .a) (s .b) (s .d) (s .e) (s .f) ≡ r .state) × (s ≡ statusWords (r .used) (r .state)) ⌝ }
+    ensures { λ w. ⌜ (rowOf (r .id .sequence ∷ s .status ∷ w) ≡ r) × (w ≡ recordOf r) ⌝ }
 {
     let m = r.metadata;
     let transfer_type = m.transfer_type;
@@ -256,7 +419,7 @@ pub fn encode(r: Row, p: SetupWords, s: StateWords) -> [u64; 24]
         words::flag_word(r.timed_out),
         s.a,
         s.b,
-        s.c,
+        s.rest,
         s.d,
         s.e,
         s.f,

@@ -1,35 +1,56 @@
 // Single words of row i, for scans that read no more than they need.
-use crate::RECORD;
-use crate::ROW;
+use crate::COLUMN_WORDS;
+use crate::RECORD_WORDS;
+use crate::ROW_WORDS;
+use crate::SEQUENCE;
+use crate::STATUS;
 use models::DeviceId;
 use models::RequestId;
 ghost use mathlib.Core.Path.{_≡_};
 ghost use Prim.Native.Nat.{_+_, _<_, _≤_};
+ghost use mathlib.Core.Bool.{cond};
 ghost use lib.ListN.{length};
-ghost use Rattle.rows.specs.Table.{recordWords, rowCount, recordAt, wordAt, rowsOf, rowAt, idIn, tokenIn, isHeld, isUncertain};
+ghost use Rattle.rows.specs.Table.{columnWords, recordWords, rowCount, recordAt, wordAt, rowsOf, rowAt, idIn, tokenIn, isHeld, isUncertain};
+
+// Words of a record.
+const SESSION: usize = 0;
+
+const GENERATION: usize = 1;
+
+const DEVICE_SESSION: usize = 2;
+
+const DEVICE_GENERATION: usize = 3;
+
+const SLOT: usize = 4;
+
+const ENDPOINT: usize = 5;
+
+const REQUESTED_LENGTH: usize = 8;
+
+const TOKEN: usize = 15;
 
 // Where the record of row i starts.
-pub fn record_at(rows: &[u64], i: usize) -> usize
+pub(crate) fn record_at(rows: &[u64], i: usize) -> usize
     requires { ⌜ i < length (rowsOf (now rows)) ⌝ }
     ensures { λ r. ⌜ (r ≡ recordAt (rowCount (now (rows .entry))) i) × (r + recordWords ≤ length (now (rows .entry))) ⌝ }
 {
-    let n = rows.len() / ROW;
-    n * 3 + i * RECORD
+    let n = rows.len() / ROW_WORDS;
+    n * COLUMN_WORDS + i * RECORD_WORDS
 }
 
-// Word k of row i, one of the three that stand in columns.
-pub fn column(rows: &[u64], i: usize, k: usize) -> u64
-    requires { ⌜ (i < length (rowsOf (now rows))) × (k < 3) ⌝ }
+// Word k of row i, one of the two that stand in columns.
+pub(crate) fn column(rows: &[u64], i: usize, k: usize) -> u64
+    requires { ⌜ (i < length (rowsOf (now rows))) × (k < columnWords) ⌝ }
     ensures { λ r. ⌜ r ≡ wordAt (now (rows .entry)) i k ⌝ }
 {
-    let n = rows.len() / ROW;
+    let n = rows.len() / ROW_WORDS;
     rows[n * k + i]
 }
 
 // Word k of the record of row i.
-pub fn field(rows: &[u64], i: usize, k: usize) -> u64
+fn field(rows: &[u64], i: usize, k: usize) -> u64
     requires { ⌜ (i < length (rowsOf (now rows))) × (k < recordWords) ⌝ }
-    ensures { λ r. ⌜ r ≡ wordAt (now (rows .entry)) i (3 + k) ⌝ }
+    ensures { λ r. ⌜ r ≡ wordAt (now (rows .entry)) i (columnWords + k) ⌝ }
 {
     let at = record_at(rows, i);
     rows[at + k]
@@ -39,16 +60,16 @@ pub fn sequence_at(rows: &[u64], i: usize) -> u64
     requires { ⌜ i < length (rowsOf (now rows)) ⌝ }
     ensures { λ r. ⌜ r ≡ rowAt (now (rows .entry)) i .id .sequence ⌝ }
 {
-    column(rows, i, 0)
+    column(rows, i, SEQUENCE)
 }
 
-pub fn id_at(rows: &[u64], i: usize) -> RequestId
+fn id_at(rows: &[u64], i: usize) -> RequestId
     requires { ⌜ i < length (rowsOf (now rows)) ⌝ }
     ensures { λ r. ⌜ r ≡ rowAt (now (rows .entry)) i .id ⌝ }
 {
     RequestId {
-        session: field(rows, i, 0),
-        generation: field(rows, i, 1),
+        session: field(rows, i, SESSION),
+        generation: field(rows, i, GENERATION),
         sequence: sequence_at(rows, i),
     }
 }
@@ -72,9 +93,9 @@ pub fn device_at(rows: &[u64], i: usize) -> DeviceId
     ensures { λ r. ⌜ r ≡ rowAt (now (rows .entry)) i .metadata .device ⌝ }
 {
     DeviceId {
-        session: field(rows, i, 2),
-        generation: field(rows, i, 3),
-        slot: (field(rows, i, 4) % 256) as u8,
+        session: field(rows, i, DEVICE_SESSION),
+        generation: field(rows, i, DEVICE_GENERATION),
+        slot: (field(rows, i, SLOT) % 256) as u8,
     }
 }
 
@@ -82,28 +103,28 @@ pub fn endpoint_at(rows: &[u64], i: usize) -> u8
     requires { ⌜ i < length (rowsOf (now rows)) ⌝ }
     ensures { λ r. ⌜ r ≡ rowAt (now (rows .entry)) i .metadata .endpoint ⌝ }
 {
-    (field(rows, i, 5) % 256) as u8
+    (field(rows, i, ENDPOINT) % 256) as u8
 }
 
 pub fn used_at(rows: &[u64], i: usize) -> bool
     requires { ⌜ i < length (rowsOf (now rows)) ⌝ }
     ensures { λ r. ⌜ r ≡ rowAt (now (rows .entry)) i .used ⌝ }
 {
-    words::to_flag(column(rows, i, 1))
+    words::to_flag(column(rows, i, STATUS))
 }
 
 pub fn requested_length_at(rows: &[u64], i: usize) -> u64
     requires { ⌜ i < length (rowsOf (now rows)) ⌝ }
     ensures { λ r. ⌜ r ≡ rowAt (now (rows .entry)) i .metadata .«requested_length» ⌝ }
 {
-    field(rows, i, 8)
+    field(rows, i, REQUESTED_LENGTH)
 }
 
-pub fn token_at(rows: &[u64], i: usize) -> u64
+fn token_at(rows: &[u64], i: usize) -> u64
     requires { ⌜ i < length (rowsOf (now rows)) ⌝ }
     ensures { λ r. ⌜ r ≡ rowAt (now (rows .entry)) i .token ⌝ }
 {
-    field(rows, i, 15)
+    field(rows, i, TOKEN)
 }
 
 // The token of row i; 0, where there is no row i.
@@ -121,16 +142,8 @@ pub fn uncertain_at(rows: &[u64], i: usize) -> bool
     requires { ⌜ i < length (rowsOf (now rows)) ⌝ }
     ensures { λ r. ⌜ r ≡ isUncertain (rowAt (now (rows .entry)) i) ⌝ }
 {
-    let used = column(rows, i, 1);
-    if used == 0 {
-        return false;
-    }
-    let tag = column(rows, i, 2);
-    if tag != 2 {
-        return false;
-    }
-    let quiescent = field(rows, i, 20);
-    quiescent == 0
+    let status = column(rows, i, STATUS);
+    (status % 2 == 1) & (status != 1)
 }
 
 // The controller may still write to the row's bytes.
@@ -138,13 +151,15 @@ pub fn held_at(rows: &[u64], i: usize) -> bool
     requires { ⌜ i < length (rowsOf (now rows)) ⌝ }
     ensures { λ r. ⌜ r ≡ isHeld (rowAt (now (rows .entry)) i) ⌝ }
 {
-    let used = column(rows, i, 1);
-    if used == 0 {
-        return false;
-    }
-    let tag = column(rows, i, 2);
-    if tag == 0 {
-        return true;
-    }
-    uncertain_at(rows, i)
+    let status = column(rows, i, STATUS);
+    status % 2 == 1
+}
+
+// 1 where the row is held, else 0.
+pub fn held_word_at(rows: &[u64], i: usize) -> u64
+    requires { ⌜ i < length (rowsOf (now rows)) ⌝ }
+    ensures { λ r. ⌜ (r ≡ cond (isHeld (rowAt (now (rows .entry)) i)) 1 0) × (r < 2) ⌝ }
+{
+    let status = column(rows, i, STATUS);
+    status % 2
 }

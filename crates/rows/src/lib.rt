@@ -12,10 +12,17 @@ ghost use Rattle.rows.specs.Store.{storeOf, putIn, emptied};
 pub mod codec;
 pub mod columns;
 
-// The words of a record, and of a row: three columns and the record.
-const RECORD: usize = 24;
+// How many words of a row stand in columns, how many in its record, and how many it has.
+const COLUMN_WORDS: usize = 2;
 
-const ROW: usize = 27;
+const RECORD_WORDS: usize = 24;
+
+pub const ROW_WORDS: usize = COLUMN_WORDS + RECORD_WORDS;
+
+// The columns: of the sequences, and of the status words.
+const SEQUENCE: usize = 0;
+
+const STATUS: usize = 1;
 
 // A row of the store: free, where `used` is false, or a request with its metadata, the backend's token, the record's own copies
 // of the two flags, and its state.
@@ -33,54 +40,51 @@ pub struct Row {
 pub fn count(rows: &[u64]) -> usize
     ensures { λ r. ⌜ r ≡ length (rowsOf (now (rows .entry))) ⌝ }
 {
-    rows.len() / ROW
+    rows.len() / ROW_WORDS
 }
 
 pub fn empty_row() -> Row
     ensures { λ r. ⌜ r ≡ emptyRow ⌝ }
 {
-    let w = [0u64; RECORD];
-    codec::decode(0, 0, 0, &w)
+    let w = [0u64; RECORD_WORDS];
+    codec::decode(0, 0, &w)
 }
 
 pub fn read_row(rows: &[u64], i: usize) -> Row
     requires { ⌜ i < length (rowsOf (now rows)) ⌝ }
     ensures { λ r. ⌜ r ≡ rowAt (now (rows .entry)) i ⌝ }
 {
-    let sequence = columns::column(rows, i, 0);
-    let used = columns::column(rows, i, 1);
-    let tag = columns::column(rows, i, 2);
+    let sequence = columns::column(rows, i, SEQUENCE);
+    let status = columns::column(rows, i, STATUS);
     let at = columns::record_at(rows, i);
-    let end = at + RECORD;
-    codec::decode(sequence, used, tag, &rows[at..end])
+    let end = at + RECORD_WORDS;
+    codec::decode(sequence, status, &rows[at..end])
 }
 
 // The words of row i of n that stand in columns.
-fn put_columns(rows: &mut [u64], n: usize, i: usize, sequence: u64, used: u64, tag: u64)
+fn put_columns(rows: &mut [u64], n: usize, i: usize, sequence: u64, status: u64)
     requires { ⌜ (i < n) × (n * rowWords ≤ length (now rows)) ⌝ }
-    ensures { λ _. ⌜ now (rows .exit) ≡ set (set (set (now (rows .entry)) i sequence) (n + i) used) (n * 2 + i) tag ⌝ }
+    ensures { λ _. ⌜ now (rows .exit) ≡ set (set (now (rows .entry)) i sequence) (n + i) status ⌝ }
 {
     rows[i] = sequence;
-    rows[n + i] = used;
-    rows[n * 2 + i] = tag;
+    rows[n + i] = status;
 }
 
 pub fn write_row(rows: &mut [u64], i: usize, r: Row)
     requires { ⌜ i < length (rowsOf (now rows)) ⌝ }
     ensures { λ _. ⌜ storeOf (now (rows .exit)) ≡ putIn (storeOf (now (rows .entry))) i r ⌝ }
 {
-    let n = rows.len() / ROW;
+    let n = rows.len() / ROW_WORDS;
     let at = columns::record_at(rows, i);
     let id = r.id;
     let metadata = r.metadata;
     let setup = metadata.setup;
     let state = r.state;
     let p = codec::setup_words(setup);
-    let s = codec::state_words(state);
-    let used = words::flag_word(r.used);
+    let s = codec::status_words(r.used, state);
     let w = codec::encode(r, p, s);
-    put_columns(rows, n, i, id.sequence, used, s.tag);
-    slices::copy_words(rows, at, &w, RECORD);
+    put_columns(rows, n, i, id.sequence, s.status);
+    slices::copy_words(rows, at, &w, RECORD_WORDS);
 }
 
 // Every row is free.

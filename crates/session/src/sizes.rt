@@ -3,6 +3,8 @@ use crate::Session;
 ghost use mathlib.Core.Path.{_≡_};
 ghost use Rattle.session.specs.Sizes.{sized, rowsFit, areaFits, busFits};
 
+const ROW_WORDS: u64 = rows::ROW_WORDS as u64;
+
 // 1 to 1,024 rows of 1 to 65,536 bytes.
 pub fn is_sized(row_count: u64, row_bytes: u64) -> bool
     ensures { λ r. ⌜ r ≡ sized «row_count» «row_bytes» ⌝ }
@@ -17,7 +19,7 @@ pub fn rows_fit(row_count: u64, row_bytes: u64, words: usize) -> bool
     if !is_sized(row_count, row_bytes) {
         return false;
     }
-    words as u64 == row_count * 27
+    words as u64 == row_count * ROW_WORDS
 }
 
 pub fn area_fits(row_count: u64, row_bytes: u64, bytes: usize) -> bool

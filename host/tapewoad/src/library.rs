@@ -7,7 +7,7 @@ pub struct Memory<'a> {
     pub session: &'a mut [u64],
     /// 10,750 words.
     pub bus: &'a mut [u64],
-    /// 27 words a row.
+    /// 26 words a row.
     pub rows: &'a mut [u64],
     /// The bytes of a row, row after row.
     pub area: &'a mut [u8],

@@ -5,7 +5,7 @@ use Rattle.rows.proofs.write_row.Statement.{statement}
 use Rattle.rows.proofs.write_row.Tie as tie
 
 put-columns-requires : tie.Need-put-columns-requires
-put-columns-requires c κs = let h = inside (now ((c .before .before .before .before .before .before .before .before .before .before .args) .rows)) ((c .before .before .before .before .before .before .before .before .before .before .args) .i) (c .before .before .before .before .before .before .before .before .before .before .pre) in (h .row, h .whole)
+put-columns-requires c κs = let h = inside (now ((c .before .before .before .before .before .before .before .before .before .args) .rows)) ((c .before .before .before .before .before .before .before .before .before .args) .i) (c .before .before .before .before .before .before .before .before .before .pre) in (h .row, h .whole)
 
 returns : tie.Need-returns
 returns c = search put-row
@@ -14,7 +14,6 @@ pub write-row-spec : {M : Type 1} → statement M
 write-row-spec =
     tie.close
     (tie.spec
-    (λ c κs. search needs)
     (λ c κs. search needs)
     (λ c κs. search needs)
     (λ c κs. search needs)

@@ -35,7 +35,7 @@ pub const SESSION_WORDS: usize = 26;
 /// How many words the bus has.
 pub const BUS_WORDS: usize = 10_750;
 /// How many words a row has.
-pub const ROW_WORDS: usize = 27;
+pub const ROW_WORDS: usize = 26;
 /// How many words an answer has.
 pub const ANSWER_WORDS: usize = 32;
 /// How many words an answer's lists have at most.
