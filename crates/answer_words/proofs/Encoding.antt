@@ -13,7 +13,6 @@ use Rattle.models.specs.declared.Refusal.{Refusal}
 use Rattle.models.specs.declared.RequestMetadata.{RequestMetadata}
 use Rattle.models.specs.declared.RequestReport.{RequestReport}
 use Rattle.models.specs.declared.SetupPacket.{SetupPacket}
-use Rattle.checks.specs.declared.plan.ValidatedControlPlan.{ValidatedControlPlan}
 use Rattle.standards.specs.Setup.{setupBytes}
 use Rattle.rows.specs.Codec.{setupTail, setupWords, stateWords}
 use Rattle.rows.specs.declared.codec.SetupWords.{SetupWords}
@@ -27,7 +26,7 @@ use Rattle.recovery.specs.declared.AbortReport.{AbortReport}
 use Rattle.recovery.specs.declared.Recovery.{Recovery}
 use Rattle.session_words.specs.State.{kindWord}
 use Rattle.calls.specs.declared.Answer.{Answer}
-use Rattle.answer_words.specs.Encode.{refusalWords, idTail, metadataTail, begunWords, profileWord, packetOf, stageTail, planWords, stateTail, reportWords, recoveringWords, optionErrorWords, recoveredWords, answerWords, written}
+use Rattle.answer_words.specs.Encode.{refusalWords, idTail, metadataTail, begunWords, packetOf, stageTail, planWords, stateTail, reportWords, recoveringWords, optionErrorWords, recoveredWords, answerWords, written}
 
 pub refusal-exact : (r : Refusal) (c o k : ℕ) → c ≡ categoryWord (r .error .category) → o ≡ optionI32Word (r .error .«os_code»)
     → k ≡ optionU32Word (r .error .«completion_code») → 0 ∷ r .number ∷ c ∷ r .error .message ∷ o ∷ k ∷ [] ≡ refusalWords r
@@ -48,10 +47,6 @@ bytesBy l =
 pub bytes-exact : (q : SetupPacket) (l : List ℕ) → l ≡ setupBytes q → bytesBy l ≡ setupBytes q
 unfolding setupBytes
 bytes-exact q l e = rw e
-
-pub stage-exact : (p : ValidatedControlPlan) (h a b g : ℕ) → h ≡ flagWord (p .«has_data») → a ≡ directionWord (p .«data_direction»)
-    → b ≡ directionWord (p .«status_direction») → g ≡ profileWord (p .profile) → h ∷ a ∷ b ∷ g ∷ [] ≡ stageTail p []
-stage-exact p h a b g eh ea eb eg = rw (eh, ea, eb, eg)
 
 -- parts of words, put one behind the other
 module _ (m w₁ w₂ w : List ℕ) where

@@ -1,7 +1,7 @@
 -- An answer's words tell it whole, and so do the 32 words of `out`. Assumes nothing.
-use Prim.Native.Nat.{ℕ, _+_, _-_, _%_, _<_, _≤_, _^_}
+use Prim.Native.Nat.{ℕ, _+_, _-_, _<_, _≤_, _^_}
 use mathlib.Core.Bool.{Bool, true, false}
-use mathlib.Core.List.{List, [], _∷_, _++_}
+use mathlib.Core.List.{List, [], _++_}
 use mathlib.Core.Path.{_≡_, refl, sym, ap, _∙_}
 use mathlib.Core.Logic.{⊎-elim}
 use lib.IntN.{ℤ, pos, negsuc}
@@ -41,7 +41,6 @@ use Rattle.models.specs.declared.Refusal.{Refusal}
 use Rattle.models.specs.declared.TransferType.{TransferType}
 use Rattle.models.specs.declared.TransferType.the-variants as transfer
 use Rattle.standards.specs.Setup.{setupBytes}
-use Rattle.checks.specs.declared.plan.ValidatedControlPlan.{ValidatedControlPlan}
 use Rattle.rows.specs.Codec.{setupOf, setupWords, metadataOf, errorOf, stateOf, stateWords}
 use Rattle.rows.specs.declared.codec.SetupWords.{SetupWords}
 use Rattle.rows.specs.declared.codec.StateWords.{StateWords}
@@ -150,7 +149,7 @@ plan-back x h =
     let p = x .plan in
     let f : RequestMetadata → Bool → Direction → Direction → ControlProfile → Answer =
     λ m d a b g.
-        answer.PlanBegun (record { id = x .id; row = x .row; plan = record { metadata = m; «has_data» = d; «data_direction» = a; «status_direction» = b; profile = g } }) in
+    answer.PlanBegun (record { id = x .id; row = x .row; plan = record { metadata = m; «has_data» = d; «data_direction» = a; «status_direction» = b; profile = g } }) in
     let e1 = metadata-back (p .metadata) h in
     let e2 = flag-back (p .«has_data») in
     let e3 = direction-back (p .«data_direction») in

@@ -1,11 +1,10 @@
 -- One law for each group of calls, and for a call that was answered: its premises are the facts in hand there. Assumes nothing.
 use Prim.Native.Nat.{ℕ, _<_, _≤_}
-use mathlib.Core.Bool.{Bool, false, not}
+use mathlib.Core.Bool.{Bool, true, false, not}
 use mathlib.Core.List.{List, []}
 use mathlib.Core.Path.{_≡_, refl, sym, ap, _∙_}
 use lib.ListN.{length, getD}
 use Rattle.chain.proofs.Chain.{chain, if-all}
-use Rattle.words.specs.Records.{splice}
 use Rattle.rows.specs.Store.{Store}
 use Rattle.bus.specs.Tables.{Bus}
 use Rattle.session.specs.declared.Session.{Session}
@@ -17,6 +16,7 @@ use Rattle.session_words.specs.State.{Kept, keptOf, keptAs, sessionOf, isSessio
 use Rattle.calls.specs.Step.{World, world, After, after, stepOf}
 use Rattle.calls.specs.declared.Outcome.{Outcome}
 use Rattle.answer_words.proofs.Room.{lists-put}
+use Rattle.session_words.proofs.Own.{written-same}
 use Rattle.dispatch.specs.Apply.{StepsRows, StepsStore, RunsStore, Ran, ran, runOf, Done, done, wrote, answered, applyOf}
 use Rattle.dispatch.specs.Decode.{placingOf, movingOf, submissionOf, replyingOf, changingOf, reportingOf, recoveringOf, callOf}
 use Rattle.dispatch.proofs.Steps.{unlisted, ran-said}
@@ -132,3 +132,8 @@ module _ (s call bytes out l s' out' l' area area' : List ℕ) (b b' : Bus) (sto
       let v = world (sessionOf s) b store area in
       let z : left ≡ answered c v s out l = h ∙ ap (λ (o : List ℕ). wrote (ran (stepOf c v) o) s out) (sym (lists-put c v l k')) in
       search (chain, z) depth 20
+
+-- a call that leaves the session as it is leaves its words
+pub session-left : (c : Call) (v : World) (s out l : List ℕ) → isSession s ≡ true → stepOf c v .result .session ≡ sessionOf s
+    → answered c v s out l .session ≡ keptOf s
+session-left c v s out l h e = ap (keptAs s) e ∙ written-same s h

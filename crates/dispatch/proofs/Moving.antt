@@ -15,7 +15,7 @@ use Rattle.session.specs.declared.Session.{Session}
 use Rattle.session.specs.declared.lifecycle.AcquireReply.{AcquireReply}
 use Rattle.calls.specs.Answers.{outcome, ofVerdict}
 use Rattle.call_words.specs.Arguments.{acquireReplyOf, optionErrorAt}
-use Rattle.calls.specs.Calls.{Moving, Acquire, Initialize, Close, Move}
+use Rattle.calls.specs.Calls.{Acquire, Initialize, Close, Move}
 use Rattle.calls.specs.Step.{world, after, closes, movedOf, stepOf}
 use Rattle.calls.specs.declared.Outcome.{Outcome}
 use Rattle.dispatch.specs.Apply.{StepsRows}

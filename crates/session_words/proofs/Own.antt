@@ -1,5 +1,5 @@
 -- Laws of a session's own words. Assumes nothing.
-use Prim.Native.Nat.{ℕ, zero, suc, _+_, _-_, _%_, _<_, _≤_, _^_}
+use Prim.Native.Nat.{ℕ, zero, suc, _+_, _-_, _%_, _<_, _^_}
 use mathlib.Core.Bool.{Bool, true, false, _&&_}
 use mathlib.Core.List.{List, [], _∷_, _++_}
 use mathlib.Core.Path.{_≡_, refl, sym, ap, _∙_}
@@ -8,7 +8,7 @@ use lib.ListN.{length, getD, replicate}
 use lib.Seq.{ext-getD}
 use native.Mathlib.Omega.{arith}
 use native.Mathlib.Nat.{le-of-suc-le-suc}
-use borrow.Author.Tests.{eq-eqb, ne-eqb, eqb-true, eqb-false, lt-ltb, le-ltb, ltb-true, ltb-false}
+use borrow.Author.Tests.{eq-eqb, ne-eqb, eqb-true, eqb-false, le-ltb, ltb-true, ltb-false}
 use Rattle.chain.proofs.Chain.{caseB, both, if-all}
 use Rattle.words.specs.Words.{optionU64Of, optionU64Words}
 use Rattle.words.proofs.Options.{low}
@@ -113,8 +113,20 @@ module _ (w : List ℕ) where
         → (ltb s 256 && ltb e 256 && ltb k 3) ≡ standsAt w 15 (flightTail (flightWords (flightIn w)) [])
     recovery-own s e k h es ee ek =
         rw (
-          ← et, h, ← es, ← ee, ← ek, same (getD w 16 0), same (getD w 17 0), same (getD w 18 0), same (getD w 19 0), same (getD w 20 0),
-          byte-same s, byte-same e, kind-same k, and-true (ltb k 3),
+          ← et,
+          h,
+          ← es,
+          ← ee,
+          ← ek,
+          same (getD w 16 0),
+          same (getD w 17 0),
+          same (getD w 18 0),
+          same (getD w 19 0),
+          same (getD w 20 0),
+          byte-same s,
+          byte-same e,
+          kind-same k,
+          and-true (ltb k 3),
         )
         (and-assoc (ltb s 256) (ltb e 256) (ltb k 3))
 
