@@ -26,7 +26,7 @@ use Rattle.recovery.specs.declared.AbortReport.{AbortReport}
 use Rattle.recovery.specs.declared.Recovery.{Recovery}
 use Rattle.session_words.specs.State.{kindWord}
 use Rattle.calls.specs.declared.Answer.{Answer}
-use Rattle.answer_words.specs.Encode.{refusalWords, idTail, begunWords, profileWord, planWords, stateTail, reportWords, recoveringWords, optionErrorWords, recoveredWords, answerWords, written}
+use Rattle.answer_words.specs.Encode.{refusalWords, idTail, metadataTail, begunWords, stageTail, planWords, stateTail, reportWords, recoveringWords, optionErrorWords, recoveredWords, answerWords, written}
 
 pub refusal-exact : (r : Refusal) (c o k : ℕ) → c ≡ categoryWord (r .error .category) → o ≡ optionI32Word (r .error .«os_code»)
     → k ≡ optionU32Word (r .error .«completion_code») → 0 ∷ r .number ∷ c ∷ r .error .message ∷ o ∷ k ∷ [] ≡ refusalWords r
@@ -34,9 +34,10 @@ unfolding refusalWords
 refusal-exact r c o k ec eo ek = rw (ec, eo, ek)
 
 -- metadata whose transfer type, direction and SETUP have the words t, d and p
-abbrev metadataBy : RequestMetadata → ℕ → ℕ → SetupWords → List ℕ → List ℕ
-metadataBy m t d p rest =
-    m .device .session ∷ m .device .generation ∷ m .device .slot ∷ m .endpoint ∷ t ∷ d ∷ m .«requested_length» ∷ setupTail p rest
+pub metadata-exact : (m : RequestMetadata) (t d : ℕ) (p : SetupWords) → t ≡ transferWord (m .«transfer_type») → d ≡ directionWord (m .direction)
+    → p ≡ setupWords (m .setup)
+    → m .device .session ∷ m .device .generation ∷ m .device .slot ∷ m .endpoint ∷ t ∷ d ∷ m .«requested_length» ∷ setupTail p [] ≡ metadataTail m []
+metadata-exact m t d p et ed ep = rw (et, ed, ep)
 
 -- the first eight of a list, one by one
 abbrev bytesBy : List ℕ → List ℕ
@@ -47,27 +48,26 @@ pub bytes-exact : (q : SetupPacket) (l : List ℕ) → l ≡ setupBytes q → by
 unfolding setupBytes
 bytes-exact q l e = rw e
 
-module _ (t d : ℕ) (p : SetupWords) where
-  pub begun-exact : (x : Submission) (h : ℕ) → t ≡ transferWord (x .metadata .«transfer_type») → d ≡ directionWord (x .metadata .direction)
-      → p ≡ setupWords (x .metadata .setup) → h ≡ flagWord (x .«has_packets»)
-      → 2 ∷ idTail (x .id) (x .row ∷ metadataBy (x .metadata) t d p (h ∷ [])) ≡ begunWords x
-  unfolding begunWords
-  begun-exact x h et ed ep eh = rw (et, ed, ep, eh)
+-- parts of words, put one behind the other
+module _ (m w₁ w₂ w : List ℕ) where
+  pub begun-exact : (x : Submission) (h : ℕ) → m ≡ metadataTail (x .metadata) [] → h ≡ flagWord (x .«has_packets»)
+      → w₁ ≡ splice 0 (take 5 (2 ∷ idTail (x .id) (x .row ∷ []))) (replicate 19 0) → w₂ ≡ splice 5 (take 13 m) w₁
+      → w ≡ splice 18 (take 1 (h ∷ [])) w₂ → w ≡ begunWords x
+  unfolding begunWords splice
+  begun-exact x h em eh e₁ e₂ e = e ∙ rw (e₂, e₁, em, eh)
 
-  pub report-exact : (x : RequestReport) (s : StateWords) (c o : ℕ) → t ≡ transferWord (x .metadata .«transfer_type»)
-      → d ≡ directionWord (x .metadata .direction) → p ≡ setupWords (x .metadata .setup) → s ≡ stateWords (x .state)
-      → c ≡ flagWord (x .«logical_cancel») → o ≡ flagWord (x .«timed_out»)
-      → 4 ∷ idTail (x .id) (metadataBy (x .metadata) t d p (stateTail s (c ∷ o ∷ []))) ≡ reportWords x
-  unfolding reportWords
-  report-exact x s c o et ed ep es ec eo = rw (et, ed, ep, es, ec, eo)
+  pub report-exact : (x : RequestReport) (s : StateWords) (c o : ℕ) (w₃ : List ℕ) → m ≡ metadataTail (x .metadata) [] → s ≡ stateWords (x .state)
+      → c ≡ flagWord (x .«logical_cancel») → o ≡ flagWord (x .«timed_out») → w₁ ≡ splice 0 (take 4 (4 ∷ idTail (x .id) [])) (replicate 26 0)
+      → w₂ ≡ splice 4 (take 13 m) w₁ → w₃ ≡ splice 17 (take 7 (stateTail s [])) w₂ → w ≡ splice 24 (take 2 (c ∷ o ∷ [])) w₃ → w ≡ reportWords x
+  unfolding reportWords splice
+  report-exact x s c o w₃ em es ec eo e₁ e₂ e₃ e = e ∙ rw (e₃, e₂, e₁, em, es, ec, eo)
 
-  pub plan-exact : (x : PlanSubmission) (h a b g : ℕ) (q : SetupPacket) (l : List ℕ) → t ≡ transferWord (x .plan .metadata .«transfer_type»)
-      → d ≡ directionWord (x .plan .metadata .direction) → p ≡ setupWords (x .plan .metadata .setup) → h ≡ flagWord (x .plan .«has_data»)
-      → a ≡ directionWord (x .plan .«data_direction») → b ≡ directionWord (x .plan .«status_direction») → g ≡ profileWord (x .plan .profile)
-      → q ≡ packetOf (x .plan .metadata .setup) → l ≡ setupBytes q
-      → 3 ∷ idTail (x .id) (x .row ∷ metadataBy (x .plan .metadata) t d p (h ∷ a ∷ b ∷ g ∷ bytesBy l)) ≡ planWords x
-  unfolding planWords
-  plan-exact x h a b g q l et ed ep eh ea eb eg eq el = rw (et, ed, ep, eh, ea, eb, eg, bytes-exact q l el, eq)
+  pub plan-exact : (x : PlanSubmission) (q : SetupPacket) (t b w₃ : List ℕ) → m ≡ metadataTail (x .plan .metadata) []
+      → q ≡ packetOf (x .plan .metadata .setup) → b ≡ setupBytes q → t ≡ stageTail (x .plan) []
+      → w₁ ≡ splice 0 (take 5 (3 ∷ idTail (x .id) (x .row ∷ []))) (replicate 30 0) → w₂ ≡ splice 5 (take 13 m) w₁ → w₃ ≡ splice 18 (take 4 t) w₂
+      → w ≡ splice 22 (take 8 b) w₃ → w ≡ planWords x
+  unfolding planWords setupBytes splice
+  plan-exact x q t b w₃ em eq eb et e₁ e₂ e₃ e = e ∙ rw (e₃, e₂, e₁, em, et, eb, eq)
 
 pub recovering-exact : (x : Recovery) (k : ℕ) → k ≡ kindWord (x .kind)
     → 9 ∷ idTail (x .target) (x .device .session ∷ x .device .generation ∷ x .device .slot ∷ x .endpoint ∷ k ∷ []) ≡ recoveringWords x

@@ -1,3 +1,4 @@
 pub mod Encoding
 pub mod Listing
 pub mod Room
+pub mod Told

@@ -24,7 +24,6 @@ use Rattle.rows.specs.declared.Row.{Row}
 use Rattle.session.specs.declared.InFlight.{InFlight}
 use Rattle.session.specs.declared.InFlight.the-variants as flight
 use Rattle.session.specs.declared.RecoveryKind.{RecoveryKind}
-use Rattle.session.specs.declared.RecoveryKind.the-variants as kind
 use Rattle.session.specs.declared.Session.{Session}
 use Rattle.scope.specs.Affected.{isAffected, comesBefore, insertRow, joined, affectedUpTo, affectedOf, tokensOf}
 use Rattle.recovery.specs.Begin.{beginRefused, begunAs, beginRow, beginBy, beginOf}
@@ -37,8 +36,8 @@ use Rattle.recovery.specs.declared.Recovery.{Recovery}
 use Rattle.recovery.specs.declared.RecoveryReply.{RecoveryReply}
 use Rattle.recovery.specs.declared.RecoveryReply.the-variants as reply
 use Rattle.scope.proofs.Scoping.{scope-few}
-use Rattle.calls.specs.Calls.{Call, Open, SetDevice, SetPort, SetEndpoints, SetReconcile, Acquire, Initialize, Close, Submit, SubmitPlan, ReplySubmit, Poll, ReplyPoll, AbortRequest, ResetEndpoint, ReplyRecovery, Cancel, Timeout, Reclaim, Status, Reports, CountReports, CompletedBytes, HeldCount, HeldBytes}
-use Rattle.answer_words.specs.Lists.{listSize, idList, begunLists, recoveredLists, listsOf, putLists}
+use Rattle.calls.specs.Calls.{Beginning, Submit, SubmitPlan, Poll, Recover, Replying, ToSubmit, ToPoll, ToRecovery, Call, Open, Place, Move, Begin, Reply, Change, Read}
+use Rattle.answer_words.specs.Lists.{listSize, idList, begunLists, recoveredLists, begunIn, repliedIn, listsOf, putLists}
 use Rattle.calls.specs.Step.{World}
 use Rattle.answer_words.proofs.Listing.{id-words-length, put-all}
 
@@ -141,33 +140,26 @@ module _ (s : Session) (fits : Bool) (r : RecoveryReply) (tokens words aborted b
   replied-short = in-short (s .«in_flight»)
 
 -- ---- of every call
+begins-short : (b : Beginning) (w : World) → length (begunIn b w) ≤ listSize
+begins-short (Submit q bytes given packets first second) w = omega arith
+begins-short (SubmitPlan q bytes first) w = omega arith
+begins-short (Poll id) w = omega arith
+begins-short (Recover id k) w = begin-short (w .session) id k (w .store .rows) _
+
+replies-short : (r : Replying) (w : World) → length (repliedIn r w) ≤ listSize
+replies-short (ToSubmit reply) w = omega arith
+replies-short (ToPoll reply bytes) w = omega arith
+replies-short (ToRecovery reply tokens words aborted bytes) w = replied-short (w .session) _ reply tokens words aborted bytes (w .store) (w .area)
+
 lists-short : (c : Call) (w : World) → length (listsOf c w) ≤ listSize
 unfolding listsOf
 lists-short (Open o) w = omega arith
-lists-short (SetDevice d) w = omega arith
-lists-short (SetPort number row) w = omega arith
-lists-short (SetEndpoints slot list) w = omega arith
-lists-short (SetReconcile slot mark) w = omega arith
-lists-short (Acquire reply) w = omega arith
-lists-short (Initialize reply) w = omega arith
-lists-short (Close fresh reply) w = omega arith
-lists-short (Submit q bytes given packets first second) w = omega arith
-lists-short (SubmitPlan q bytes first) w = omega arith
-lists-short (ReplySubmit reply) w = omega arith
-lists-short (Poll id) w = omega arith
-lists-short (ReplyPoll reply bytes) w = omega arith
-lists-short (AbortRequest id) w = begin-short (w .session) id kind.Abort (w .store .rows) _
-lists-short (ResetEndpoint id preserve) w = begin-short (w .session) id (kind.Reset preserve) (w .store .rows) _
-lists-short (ReplyRecovery reply tokens words aborted bytes) w = replied-short (w .session) _ reply tokens words aborted bytes (w .store) (w .area)
-lists-short (Cancel id) w = omega arith
-lists-short (Timeout id) w = omega arith
-lists-short (Reclaim id) w = omega arith
-lists-short (Status id) w = omega arith
-lists-short (Reports from) w = omega arith
-lists-short CountReports w = omega arith
-lists-short (CompletedBytes id) w = omega arith
-lists-short HeldCount w = omega arith
-lists-short HeldBytes w = omega arith
+lists-short (Place p) w = omega arith
+lists-short (Move m) w = omega arith
+lists-short (Begin b) w = begins-short b w
+lists-short (Reply r) w = replies-short r w
+lists-short (Change id c) w = omega arith
+lists-short (Read r) w = omega arith
 
 -- so they are always put
 pub lists-put : (c : Call) (w : World) (l : List ℕ) → listSize ≤ length l → splice 0 (listsOf c w) l ≡ putLists (listsOf c w) l

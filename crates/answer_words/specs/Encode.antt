@@ -14,6 +14,7 @@ use Rattle.models.specs.declared.RequestId.{RequestId}
 use Rattle.models.specs.declared.RequestMetadata.{RequestMetadata}
 use Rattle.models.specs.declared.RequestReport.{RequestReport}
 use Rattle.standards.specs.Setup.{packetOf, setupBytes}
+use Rattle.checks.specs.declared.plan.ValidatedControlPlan.{ValidatedControlPlan}
 use Rattle.rows.specs.Codec.{setupTail, setupWords, stateWords}
 use Rattle.rows.specs.declared.codec.StateWords.{StateWords}
 use Rattle.submissions.specs.declared.PlanSubmission.{PlanSubmission}
@@ -52,14 +53,15 @@ abbrev pub profileWord : ControlProfile → ℕ
 profileWord profile.Compliant = 0
 profileWord profile.DeviceCompatibility = 1
 
+-- has data, its direction, the status stage's, profile
+abbrev pub stageTail : ValidatedControlPlan → List ℕ → List ℕ
+stageTail p rest =
+    flagWord (p .«has_data») ∷ directionWord (p .«data_direction») ∷ directionWord (p .«status_direction») ∷ profileWord (p .profile) ∷ rest
+
 -- the eight SETUP bytes stand last, a word each
 unfoldable pub planWords : PlanSubmission → List ℕ
 planWords x =
-    3 ∷ idTail (x .id)
-    (x .row
-    ∷ metadataTail (x .plan .metadata)
-    (flagWord (x .plan .«has_data») ∷ directionWord (x .plan .«data_direction») ∷ directionWord (x .plan .«status_direction») ∷ profileWord (x .plan .profile)
-    ∷ setupBytes (packetOf (x .plan .metadata .setup))))
+    3 ∷ idTail (x .id) (x .row ∷ metadataTail (x .plan .metadata) (stageTail (x .plan) (setupBytes (packetOf (x .plan .metadata .setup)))))
 
 abbrev pub stateTail : StateWords → List ℕ → List ℕ
 stateTail s rest = s .tag ∷ s .a ∷ s .b ∷ s .c ∷ s .d ∷ s .e ∷ s .f ∷ rest

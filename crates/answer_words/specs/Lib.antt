@@ -1,2 +1,3 @@
 pub mod Encode
 pub mod Lists
+pub mod Read

@@ -6,7 +6,6 @@ use lib.Dec.{ltb}
 use Rattle.chain.specs.Chain.{_if_else_}
 use Rattle.words.specs.Records.{splice}
 use Rattle.models.specs.declared.RequestId.{RequestId}
-use Rattle.session.specs.declared.RecoveryKind.the-variants as kind
 use Rattle.recovery.specs.Begin.{beginOf}
 use Rattle.recovery.specs.declared.BeginAnswer.{BeginAnswer}
 use Rattle.recovery.specs.declared.BeginAnswer.the-variants as begin

@@ -1,8 +1,10 @@
 // Answers as words: a tag, then the answer's fields, then zeros.
 use calls::Answer;
+use checks::plan::ValidatedControlPlan;
 use models::ControlProfile;
 use models::OptionError;
 use models::Refusal;
+use models::RequestMetadata;
 use models::RequestReport;
 use models::SetupPacket;
 use models::codes;
@@ -15,8 +17,9 @@ use submissions::PlanSubmission;
 use submissions::Submission;
 use words::slices;
 ghost use mathlib.Core.Path.{_≡_};
+ghost use mathlib.Core.List.{[]};
 ghost use Rattle.standards.specs.Setup.{setupBytes};
-ghost use Rattle.answer_words.specs.Encode.{refusalWords, begunWords, profileWord, planWords, reportWords, recoveringWords, optionErrorWords, recoveredWords, answerWords, written};
+ghost use Rattle.answer_words.specs.Encode.{refusalWords, metadataTail, begunWords, profileWord, stageTail, planWords, reportWords, recoveringWords, optionErrorWords, recoveredWords, answerWords, written};
 
 // How many words an answer has.
 pub const WORDS: usize = 32;
@@ -38,20 +41,15 @@ fn refusal_words(r: Refusal) -> [u64; 6]
     ]
 }
 
-fn begun_words(x: Submission) -> [u64; 19]
-    ensures { λ w. ⌜ w ≡ begunWords x ⌝ }
+// Thirteen words: device, endpoint, type, direction, length, SETUP.
+fn metadata_words(m: RequestMetadata) -> [u64; 13]
+    ensures { λ w. ⌜ w ≡ metadataTail m [] ⌝ }
 {
-    let m = x.metadata;
     let transfer_type = m.transfer_type;
     let direction = m.direction;
     let packet = m.setup;
     let p = codec::setup_words(packet);
     [
-        2,
-        x.id.session,
-        x.id.generation,
-        x.id.sequence,
-        x.row,
         m.device.session,
         m.device.generation,
         m.device.slot as u64,
@@ -65,8 +63,21 @@ fn begun_words(x: Submission) -> [u64; 19]
         p.value,
         p.index,
         p.length,
-        words::flag_word(x.has_packets),
     ]
+}
+
+fn begun_words(x: Submission) -> [u64; 19]
+    ensures { λ w. ⌜ w ≡ begunWords x ⌝ }
+{
+    let metadata = x.metadata;
+    let m = metadata_words(metadata);
+    let head = [2, x.id.session, x.id.generation, x.id.sequence, x.row];
+    let tail = [words::flag_word(x.has_packets)];
+    let mut w = [0; 19];
+    slices::copy_words(&mut w, 0, &head, 5);
+    slices::copy_words(&mut w, 5, &m, 13);
+    slices::copy_words(&mut w, 18, &tail, 1);
+    w
 }
 
 fn profile_word(profile: ControlProfile) -> u64
@@ -95,92 +106,59 @@ fn byte_words(packet: SetupPacket) -> [u64; 8]
     ]
 }
 
+// Has data, its direction, the status stage's, profile.
+fn stage_words(plan: ValidatedControlPlan) -> [u64; 4]
+    ensures { λ w. ⌜ w ≡ stageTail plan [] ⌝ }
+{
+    let data_direction = plan.data_direction;
+    let status_direction = plan.status_direction;
+    let profile = plan.profile;
+    [
+        words::flag_word(plan.has_data),
+        codes::direction_word(data_direction),
+        codes::direction_word(status_direction),
+        profile_word(profile),
+    ]
+}
+
 // The eight SETUP bytes stand last.
 fn plan_words(x: PlanSubmission) -> [u64; 30]
     ensures { λ w. ⌜ w ≡ planWords x ⌝ }
 {
     let plan = x.plan;
-    let m = plan.metadata;
-    let transfer_type = m.transfer_type;
-    let direction = m.direction;
-    let packet = m.setup;
-    let data_direction = plan.data_direction;
-    let status_direction = plan.status_direction;
-    let profile = plan.profile;
-    let p = codec::setup_words(packet);
+    let metadata = plan.metadata;
+    let packet = metadata.setup;
+    let m = metadata_words(metadata);
     let b = byte_words(setup::packet_of(packet));
-    [
-        3,
-        x.id.session,
-        x.id.generation,
-        x.id.sequence,
-        x.row,
-        m.device.session,
-        m.device.generation,
-        m.device.slot as u64,
-        m.endpoint as u64,
-        codes::transfer_word(transfer_type),
-        codes::direction_word(direction),
-        m.requested_length,
-        p.present,
-        p.request_type,
-        p.request,
-        p.value,
-        p.index,
-        p.length,
-        words::flag_word(plan.has_data),
-        codes::direction_word(data_direction),
-        codes::direction_word(status_direction),
-        profile_word(profile),
-        b[0],
-        b[1],
-        b[2],
-        b[3],
-        b[4],
-        b[5],
-        b[6],
-        b[7],
-    ]
+    let head = [3, x.id.session, x.id.generation, x.id.sequence, x.row];
+    let stages = stage_words(plan);
+    let mut w = [0; 30];
+    slices::copy_words(&mut w, 0, &head, 5);
+    slices::copy_words(&mut w, 5, &m, 13);
+    slices::copy_words(&mut w, 18, &stages, 4);
+    slices::copy_words(&mut w, 22, &b, 8);
+    w
 }
 
 fn report_words(x: RequestReport) -> [u64; 26]
     ensures { λ w. ⌜ w ≡ reportWords x ⌝ }
 {
-    let m = x.metadata;
-    let transfer_type = m.transfer_type;
-    let direction = m.direction;
-    let packet = m.setup;
+    let metadata = x.metadata;
     let state = x.state;
-    let p = codec::setup_words(packet);
+    let m = metadata_words(metadata);
     let s = codec::state_words(state);
-    [
-        4,
-        x.id.session,
-        x.id.generation,
-        x.id.sequence,
-        m.device.session,
-        m.device.generation,
-        m.device.slot as u64,
-        m.endpoint as u64,
-        codes::transfer_word(transfer_type),
-        codes::direction_word(direction),
-        m.requested_length,
-        p.present,
-        p.request_type,
-        p.request,
-        p.value,
-        p.index,
-        p.length,
-        s.tag,
-        s.a,
-        s.b,
-        s.c,
-        s.d,
-        s.e,
-        s.f,
+    let head = [4, x.id.session, x.id.generation, x.id.sequence];
+    let state_words = [s.tag, s.a, s.b, s.c, s.d, s.e, s.f];
+    let flags = [
         words::flag_word(x.logical_cancel),
         words::flag_word(x.timed_out),
-    ]
+    ];
+    let mut w = [0; 26];
+    slices::copy_words(&mut w, 0, &head, 4);
+    slices::copy_words(&mut w, 4, &m, 13);
+    slices::copy_words(&mut w, 17, &state_words, 7);
+    slices::copy_words(&mut w, 24, &flags, 2);
+    w
 }
 
 fn recovering_words(x: Recovery) -> [u64; 9]

@@ -133,7 +133,7 @@ pub fn validate(bus: &[u64], ports: OptionPorts, id: PortId) -> PortChecked
     }
 }
 
-// The row with the reading and its generation, raisedRow by one; 34: it is at its maximum.
+// The row with the reading and its generation, raised by one; 34: it is at its maximum.
 fn raise(row: PortRow, raw: u32) -> Observed
     ensures { λ r. ⌜ r ≡ raisedRow row raw ⌝ }
 {

@@ -1,11 +1,10 @@
 -- One law for each group of calls, and for a call that was answered: its premises are the facts in hand there. Assumes nothing.
 use Prim.Native.Nat.{ℕ, _<_, _≤_}
-use mathlib.Core.Bool.{Bool, false, not}
+use mathlib.Core.Bool.{Bool, true, false, not}
 use mathlib.Core.List.{List, []}
 use mathlib.Core.Path.{_≡_, refl, sym, ap, _∙_}
 use lib.ListN.{length, getD}
 use Rattle.chain.proofs.Chain.{chain, if-all}
-use Rattle.words.specs.Records.{splice}
 use Rattle.rows.specs.Store.{Store}
 use Rattle.bus.specs.Tables.{Bus}
 use Rattle.session.specs.declared.Session.{Session}
@@ -13,11 +12,12 @@ use Rattle.calls.specs.Calls.{Call}
 use Rattle.answer_words.specs.Encode.{answerWords, written}
 use Rattle.call_words.specs.Form.{isCall}
 use Rattle.answer_words.specs.Lists.{listsOf}
-use Rattle.session_words.specs.State.{Kept, keptOf, keptAs, sessionOf}
+use Rattle.session_words.specs.State.{Kept, keptOf, keptAs, sessionOf, isSession}
 use Rattle.calls.specs.Step.{World, world, After, after, stepOf}
 use Rattle.calls.specs.declared.Outcome.{Outcome}
 use Rattle.answer_words.proofs.Room.{lists-put}
-use Rattle.dispatch.specs.Apply.{StepsRows, StepsStore, RunsStore, Ran, ran, runOf, done, answered, applyOf}
+use Rattle.session_words.proofs.Own.{written-same}
+use Rattle.dispatch.specs.Apply.{StepsRows, StepsStore, RunsStore, Ran, ran, runOf, Done, done, wrote, answered, applyOf}
 use Rattle.dispatch.specs.Decode.{placingOf, movingOf, submissionOf, replyingOf, changingOf, reportingOf, recoveringOf, callOf}
 use Rattle.dispatch.proofs.Steps.{unlisted, ran-said}
 
@@ -108,19 +108,32 @@ module _ (n : ℕ) (w bytes l : List ℕ) (en : n ≡ getD w 0 0) where
             recover-said left m n21 h = ran-said (recoveringOf n w bytes) (callOf w bytes) handed _ l (rw (← en) (search chain depth 20)) (h b)
 
 -- what was lent before is s, b, store, area, out and l, and after it s', b', store', area', out' and l'
-pub apply-done : (s call bytes out l s' out' l' area area' : List ℕ) (b b' : Bus) (store store' : Store) (t : Bool) (before : Session) (x : Outcome)
-    → t ≡ isCall call → not t ≡ false → length s ≡ 26 → 32 ≤ length out → 386 ≤ length l → before ≡ sessionOf s
-    → ran (after x b' store' area') l' ≡ runOf (callOf call bytes) (world before b store area) l → keptOf s' ≡ keptAs s (x .session)
-    → out' ≡ written (answerWords (x .answer)) out → done 0 (keptOf s') b' store' area' out' l' ≡ applyOf s b store area call bytes out l
-unfolding runOf applyOf
-apply-done s call bytes out l s' out' l' area area' b b' store store' t before x et nt n k k' es h ek eo =
-    let c = callOf call bytes in
-    let v = world before b store area in
-    let el : l' ≡ splice 0 (listsOf c v) l = ap (λ (o : Ran). o .lists) h ∙ sym (lists-put c v l k') in
-    let z : done 0 (keptOf s') b' store' area' out' l' ≡ answered c (world (sessionOf s) b store area) s out l =
-    ap (λ (o : Kept). done 0 o b' store' area' out' l') ek
-    ∙ ap (λ (o : List ℕ). done 0 (keptAs s (x .session)) b' store' area' o l') eo
-    ∙ ap (λ (o : List ℕ). done 0 (keptAs s (x .session)) b' store' area' (written (answerWords (x .answer)) out) o) el
-    ∙ ap (λ (o : After). done 0 (keptAs s (o .result .session)) (o .bus) (o .store) (o .area) (written (answerWords (o .result .answer)) out) (splice 0 (listsOf c v) l)) (ap (λ (o : Ran). o .left) h)
-    ∙ ap (λ (o : Session). answered c (world o b store area) s out l) es in
-    search (chain, z) depth 20
+module _ (s call bytes out l s' out' l' area area' : List ℕ) (b b' : Bus) (store store' : Store) where
+  abbrev left : Done
+  left = done 0 (keptOf s') b' store' area' out' l'
+
+  abbrev wroteBy : Session → Done
+  wroteBy before = wrote (runOf (callOf call bytes) (world before b store area) l) s out
+
+  pub answer-done : (before : Session) (x : Outcome) → before ≡ sessionOf s
+      → ran (after x b' store' area') l' ≡ runOf (callOf call bytes) (world before b store area) l → keptOf s' ≡ keptAs s (x .session)
+      → out' ≡ written (answerWords (x .answer)) out → left ≡ wroteBy (sessionOf s)
+  answer-done before x es h ek eo =
+      ap (λ (o : Kept). done 0 o b' store' area' out' l') ek
+      ∙ ap (λ (o : List ℕ). done 0 (keptAs s (x .session)) b' store' area' o l') eo
+      ∙ ap (λ (o : Ran). wrote o s out) h
+      ∙ ap wroteBy es
+
+  pub apply-done : (t u : Bool) → t ≡ isCall call → not t ≡ false → u ≡ isSession s → not u ≡ false → 32 ≤ length out → 386 ≤ length l
+      → left ≡ wroteBy (sessionOf s) → left ≡ applyOf s b store area call bytes out l
+  unfolding runOf applyOf
+  apply-done t u et nt eu nu k k' h =
+      let c = callOf call bytes in
+      let v = world (sessionOf s) b store area in
+      let z : left ≡ answered c v s out l = h ∙ ap (λ (o : List ℕ). wrote (ran (stepOf c v) o) s out) (sym (lists-put c v l k')) in
+      search (chain, z) depth 20
+
+-- a call that leaves the session as it is leaves its words
+pub session-left : (c : Call) (v : World) (s out l : List ℕ) → isSession s ≡ true → stepOf c v .result .session ≡ sessionOf s
+    → answered c v s out l .session ≡ keptOf s
+session-left c v s out l h e = ap (keptAs s) e ∙ written-same s h

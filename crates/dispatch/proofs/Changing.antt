@@ -1,12 +1,12 @@
 -- One law for each change of a request, calls 13 to 15: its premises are the facts in hand there. Assumes nothing.
 use Prim.Native.Nat.{ℕ}
 use mathlib.Core.List.{List}
-use mathlib.Core.Path.{_≡_, ap}
+use mathlib.Core.Path.{_≡_, ap, _∙_}
 use lib.ListN.{length}
 use Rattle.chain.proofs.Chain.{chain}
 use Rattle.models.specs.declared.RequestId.{RequestId}
 use Rattle.rows.specs.Store.{storeOf}
-use Rattle.rules.specs.declared.Change.{Change}
+use Rattle.rules.specs.declared.Change as rules
 use Rattle.rules.specs.declared.Change.the-variants as change
 use Rattle.session.specs.Sizes.{rowsFit}
 use Rattle.session.specs.declared.Session.{Session}
@@ -14,9 +14,9 @@ use Rattle.reports.specs.Answers.{reportedTo}
 use Rattle.reports.specs.Change.{changeOf}
 use Rattle.reports.specs.declared.Reported.{Reported}
 use Rattle.calls.specs.Answers.{outcome, ofReport}
-use Rattle.calls.specs.Calls.{Cancel, Timeout, Reclaim}
+use Rattle.calls.specs.Calls.{Changing, Cancel, Timeout, Reclaim, Change}
 use Rattle.session_words.specs.State.{idAt}
-use Rattle.calls.specs.Step.{world, stepOf}
+use Rattle.calls.specs.Step.{world, changeBy, stepOf}
 use Rattle.calls.specs.declared.Outcome.{Outcome}
 use Rattle.dispatch.specs.Apply.{StepsRows}
 use Rattle.dispatch.specs.Decode.{changingOf}
@@ -24,27 +24,27 @@ use Rattle.dispatch.proofs.Steps.{said, reported}
 
 module _ (n : ℕ) (s : Session) (l k w : List ℕ) (id : RequestId) (x : Reported) (r : Outcome) (ei : id ≡ idAt w 1)
     (er : r ≡ outcome (ofReport (x .answer)) (x .session)) where
-  abbrev Changes : Change → Type 0
+  abbrev Changes : rules.Change → Type 0
   Changes c = reportedTo x (storeOf k) ≡ changeOf s (rowsFit (s .«row_count») (s .«row_bytes») (length l)) id c (storeOf l)
 
   abbrev Steps : Type 0
   Steps = StepsRows r (storeOf k) (changingOf n w) s (storeOf l)
 
-  pub cancel-step : n ≡ 13 → Changes change.LogicalCancel → Steps
-  unfolding stepOf storeOf changingOf
-  cancel-step e h b area =
+  changed : (c : Changing) → Change (idAt w 1) c ≡ changingOf n w → Changes (changeBy c) → Steps
+  unfolding stepOf storeOf
+  changed c e h b area =
       let v = world s b (storeOf l) area in
-      said (Cancel id) (changingOf n w) v _ (search (chain, ap Cancel ei) depth 20) (reported r (storeOf k) v x _ er h)
+      said (Change id c) (changingOf n w) v _ (ap (λ (z : RequestId). Change z c) ei ∙ e) (reported r (storeOf k) v x _ er h)
+
+  pub cancel-step : n ≡ 13 → Changes change.LogicalCancel → Steps
+  unfolding changingOf
+  cancel-step e = changed Cancel (search chain depth 20)
 
   module _ (n13 : n ≡ 13 → ⊥) where
     pub timeout-step : n ≡ 14 → Changes change.Timeout → Steps
-    unfolding stepOf storeOf changingOf
-    timeout-step e h b area =
-        let v = world s b (storeOf l) area in
-        said (Timeout id) (changingOf n w) v _ (search (chain, ap Timeout ei) depth 20) (reported r (storeOf k) v x _ er h)
+    unfolding changingOf
+    timeout-step e = changed Timeout (search chain depth 20)
 
     pub reclaim-step : (n ≡ 14 → ⊥) → Changes change.Reclaim → Steps
-    unfolding stepOf storeOf changingOf
-    reclaim-step n14 h b area =
-        let v = world s b (storeOf l) area in
-        said (Reclaim id) (changingOf n w) v _ (search (chain, ap Reclaim ei) depth 20) (reported r (storeOf k) v x _ er h)
+    unfolding changingOf
+    reclaim-step n14 = changed Reclaim (search chain depth 20)

@@ -20,8 +20,8 @@ use Rattle.session.specs.declared.lifecycle.Opened.{Opened}
 use Rattle.session.specs.declared.lifecycle.Opening.{Opening}
 use Rattle.calls.specs.Answers.{outcome, ofOpened, ofVerdict}
 use Rattle.call_words.specs.Arguments.{openingOf, snapshotOf, portRowOf}
-use Rattle.calls.specs.Calls.{Open, SetDevice, SetPort, SetEndpoints, SetReconcile}
-use Rattle.calls.specs.Step.{World, world, After, after, opens, places, stepOf}
+use Rattle.calls.specs.Calls.{Device, Port, Endpoints, Reconcile, Open, Place}
+use Rattle.calls.specs.Step.{World, world, After, after, opens, places, placedOf, stepOf}
 use Rattle.calls.specs.declared.Outcome.{Outcome}
 use Rattle.dispatch.specs.Decode.{placingOf}
 use Rattle.dispatch.proofs.Steps.{said}
@@ -51,32 +51,32 @@ module _ (n : ℕ) (s : Session) (l m a l' w : List ℕ) (r : Outcome) where
 
     pub device-step : (d : DeviceSnapshot) → n ≡ 1 → d ≡ snapshotOf w
         → verdictTo x (busOf l') ≡ setDeviceOf s (busFits (length l)) d (busOf l) → Steps
-    unfolding stepOf busOf placingOf
+    unfolding stepOf placedOf busOf placingOf
     device-step d e ed h =
-        said (SetDevice d) (placingOf n w) handed _ (search (chain, ap SetDevice ed) depth 20) (placed _ h)
+        said (Place (Device d)) (placingOf n w) handed _ (search (chain, ap (λ (z : DeviceSnapshot). Place (Device z)) ed) depth 20) (placed _ h)
 
     module _ (at : ℕ) (ea : at ≡ getD w 1 0 % 2 ^ 8) (n1 : n ≡ 1 → ⊥) where
       pub port-step : (row : PortRow) → n ≡ 2 → row ≡ portRowOf w
           → verdictTo x (busOf l') ≡ setPortOf s (busFits (length l)) at row (busOf l) → Steps
-      unfolding stepOf busOf placingOf
+      unfolding stepOf placedOf busOf placingOf
       port-step row e eo h =
-          let c : SetPort at row ≡ SetPort (getD w 1 0 % 2 ^ 8) (portRowOf w) =
-          ap (λ (z : ℕ). SetPort z row) ea ∙ ap (SetPort (getD w 1 0 % 2 ^ 8)) eo in
-          said (SetPort at row) (placingOf n w) handed _ (search (chain, c) depth 20) (placed _ h)
+          let c : Place (Port at row) ≡ Place (Port (getD w 1 0 % 2 ^ 8) (portRowOf w)) =
+          ap (λ (z : ℕ). Place (Port z row)) ea ∙ ap (λ (z : PortRow). Place (Port (getD w 1 0 % 2 ^ 8) z)) eo in
+          said (Place (Port at row)) (placingOf n w) handed _ (search (chain, c) depth 20) (placed _ h)
 
       module _ (n2 : n ≡ 2 → ⊥) where
         pub endpoints-step : (list : List ℕ) → n ≡ 3 → list ≡ drop 2 w
             → verdictTo x (busOf l') ≡ setEndpointsOf s (busFits (length l)) at list (busOf l) → Steps
-        unfolding stepOf busOf placingOf
+        unfolding stepOf placedOf busOf placingOf
         endpoints-step list e eo h =
-            let c : SetEndpoints at list ≡ SetEndpoints (getD w 1 0 % 2 ^ 8) (drop 2 w) =
-            ap (λ (z : ℕ). SetEndpoints z list) ea ∙ ap (SetEndpoints (getD w 1 0 % 2 ^ 8)) eo in
-            said (SetEndpoints at list) (placingOf n w) handed _ (search (chain, c) depth 20) (placed _ h)
+            let c : Place (Endpoints at list) ≡ Place (Endpoints (getD w 1 0 % 2 ^ 8) (drop 2 w)) =
+            ap (λ (z : ℕ). Place (Endpoints z list)) ea ∙ ap (λ (z : List ℕ). Place (Endpoints (getD w 1 0 % 2 ^ 8) z)) eo in
+            said (Place (Endpoints at list)) (placingOf n w) handed _ (search (chain, c) depth 20) (placed _ h)
 
         pub reconcile-step : (f : ℕ) (mark : Bool) → (n ≡ 3 → ⊥) → f ≡ getD w 2 0 → mark ≡ flagOf f
             → verdictTo x (busOf l') ≡ setReconcileOf s (busFits (length l)) at mark (busOf l) → Steps
-        unfolding stepOf busOf placingOf
+        unfolding stepOf placedOf busOf placingOf
         reconcile-step f mark n3 ef em h =
-            let c : SetReconcile at mark ≡ SetReconcile (getD w 1 0 % 2 ^ 8) (flagOf (getD w 2 0)) =
-            ap (λ (z : ℕ). SetReconcile z mark) ea ∙ ap (SetReconcile (getD w 1 0 % 2 ^ 8)) (em ∙ ap flagOf ef) in
-            said (SetReconcile at mark) (placingOf n w) handed _ (search (chain, c) depth 20) (placed _ h)
+            let c : Place (Reconcile at mark) ≡ Place (Reconcile (getD w 1 0 % 2 ^ 8) (flagOf (getD w 2 0))) =
+            ap (λ (z : ℕ). Place (Reconcile z mark)) ea ∙ ap (λ (z : Bool). Place (Reconcile (getD w 1 0 % 2 ^ 8) z)) (em ∙ ap flagOf ef) in
+            said (Place (Reconcile at mark)) (placingOf n w) handed _ (search (chain, c) depth 20) (placed _ h)

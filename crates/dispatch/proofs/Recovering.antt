@@ -20,10 +20,10 @@ use Rattle.recovery.specs.declared.Recovered.{Recovered}
 use Rattle.recovery.specs.declared.RecoveryReply.{RecoveryReply}
 use Rattle.calls.specs.Answers.{outcome, ofBegin, ofRecovery}
 use Rattle.call_words.specs.Arguments.{backendAbortOf, completedOf, completionsOf, abortedOf}
-use Rattle.calls.specs.Calls.{Call, AbortRequest, ResetEndpoint, ReplyRecovery}
+use Rattle.calls.specs.Calls.{Recover, ToRecovery, Call, Begin, Reply}
 use Rattle.answer_words.specs.Lists.{begunLists, recoveredLists, listsOf, putLists}
 use Rattle.session_words.specs.State.{idAt}
-use Rattle.calls.specs.Step.{World, world, after, begins, recovers, stepOf}
+use Rattle.calls.specs.Step.{World, world, after, begins, recovers, begunOf, repliedOf, stepOf}
 use Rattle.calls.specs.declared.Outcome.{Outcome}
 use Rattle.dispatch.specs.Apply.{RunsStore, ran, runOf}
 use Rattle.dispatch.specs.Decode.{recoveringOf}
@@ -32,21 +32,21 @@ use Rattle.dispatch.proofs.Steps.{ran-said}
 -- l is lent for lists, and m is what it is afterwards
 module _ (s : Session) (rows w bytes area l m : List ℕ) (r : Outcome) where
   abbrev call : Call
-  call = ReplyRecovery (backendAbortOf w) (completedOf w) (completionsOf w) (abortedOf w) bytes
+  call = Reply (ToRecovery (backendAbortOf w) (completedOf w) (completionsOf w) (abortedOf w) bytes)
 
   pub reply-run : (next left : List ℕ) (x : Recovered) (reply : RecoveryReply) (tokens words aborted : List ℕ) → reply ≡ backendAbortOf w
       → tokens ≡ completedOf w → words ≡ completionsOf w → aborted ≡ abortedOf w
       → recoveredTo x (storeOf next) left ≡ recoveryReplyOf s (rowsFit (s .«row_count») (s .«row_bytes») (length rows) && areaFits (s .«row_count») (s .«row_bytes») (length area)) reply tokens words aborted bytes (storeOf rows) area
       → m ≡ putLists (recoveredLists x) l → r ≡ outcome (ofRecovery (x .answer)) (x .session) → RunsStore r (storeOf next) left m call s (storeOf rows) area l
-  unfolding runOf stepOf listsOf storeOf
+  unfolding runOf stepOf repliedOf listsOf storeOf
   reply-run next left x reply tokens words aborted er et ew ea h el eo b =
       let v = world s b (storeOf rows) area in
-      let c : ReplyRecovery reply tokens words aborted bytes ≡ call =
-      ap (λ (z : RecoveryReply). ReplyRecovery z tokens words aborted bytes) er
-      ∙ ap (λ (z : List ℕ). ReplyRecovery (backendAbortOf w) z words aborted bytes) et
-      ∙ ap (λ (z : List ℕ). ReplyRecovery (backendAbortOf w) (completedOf w) z aborted bytes) ew
-      ∙ ap (λ (z : List ℕ). ReplyRecovery (backendAbortOf w) (completedOf w) (completionsOf w) z bytes) ea in
-      ran-said (ReplyRecovery reply tokens words aborted bytes) call v _ l c
+      let c : Reply (ToRecovery reply tokens words aborted bytes) ≡ call =
+      ap (λ (z : RecoveryReply). Reply (ToRecovery z tokens words aborted bytes)) er
+      ∙ ap (λ (z : List ℕ). Reply (ToRecovery (backendAbortOf w) z words aborted bytes)) et
+      ∙ ap (λ (z : List ℕ). Reply (ToRecovery (backendAbortOf w) (completedOf w) z aborted bytes)) ew
+      ∙ ap (λ (z : List ℕ). Reply (ToRecovery (backendAbortOf w) (completedOf w) (completionsOf w) z bytes)) ea in
+      ran-said (Reply (ToRecovery reply tokens words aborted bytes)) call v _ l c
       (ap (λ (z : Outcome). ran (after z b (storeOf next) left) m) eo
       ∙ ap (ran (recovers (recoveredTo x (storeOf next) left) v)) el
       ∙ ap (λ (z : RecoveredTo). ran (recovers z v) (putLists (recoveredLists (z .result)) l)) h)
@@ -72,15 +72,15 @@ module _ (s : Session) (rows w bytes area l m : List ℕ) (r : Outcome) where
           ∙ ap (λ (z : Begun). ran (begins z v) (putLists (begunLists z) l)) h
 
       pub abort-run : n ≡ 22 → Begins kind.Abort → Runs
-      unfolding runOf stepOf listsOf storeOf recoveringOf
+      unfolding runOf stepOf begunOf listsOf storeOf recoveringOf
       abort-run e h b =
           let v = world s b (storeOf rows) area in
-          ran-said (AbortRequest id) (recoveringOf n w bytes) v _ l (search (chain, ap AbortRequest ei) depth 20) (begun _ v h)
+          ran-said (Begin (Recover id kind.Abort)) (recoveringOf n w bytes) v _ l (search (chain, ap (λ (z : RequestId). Begin (Recover z kind.Abort)) ei) depth 20) (begun _ v h)
 
       pub reset-run : (f : ℕ) (preserve : Bool) → (n ≡ 22 → ⊥) → n ≡ 23 → f ≡ getD w 4 0 → preserve ≡ flagOf f → Begins (kind.Reset preserve) → Runs
-      unfolding runOf stepOf listsOf storeOf recoveringOf
+      unfolding runOf stepOf begunOf listsOf storeOf recoveringOf
       reset-run f preserve n22 e ef ep h b =
           let v = world s b (storeOf rows) area in
-          let c : ResetEndpoint id preserve ≡ ResetEndpoint (idAt w 1) (flagOf (getD w 4 0)) =
-          ap (λ (z : RequestId). ResetEndpoint z preserve) ei ∙ ap (ResetEndpoint (idAt w 1)) (ep ∙ ap flagOf ef) in
-          ran-said (ResetEndpoint id preserve) (recoveringOf n w bytes) v _ l (search (chain, c) depth 20) (begun _ v h)
+          let c : Begin (Recover id (kind.Reset preserve)) ≡ Begin (Recover (idAt w 1) (kind.Reset (flagOf (getD w 4 0)))) =
+          ap (λ (z : RequestId). Begin (Recover z (kind.Reset preserve))) ei ∙ ap (λ (z : Bool). Begin (Recover (idAt w 1) (kind.Reset z))) (ep ∙ ap flagOf ef) in
+          ran-said (Begin (Recover id (kind.Reset preserve))) (recoveringOf n w bytes) v _ l (search (chain, c) depth 20) (begun _ v h)

@@ -20,9 +20,9 @@ use Rattle.reports.specs.declared.Reported.{Reported}
 use Rattle.submissions.specs.declared.SubmitReply.{SubmitReply}
 use Rattle.calls.specs.Answers.{outcome, ofReport, ofPoll}
 use Rattle.call_words.specs.Arguments as arguments
-use Rattle.calls.specs.Calls.{ReplySubmit, Poll, ReplyPoll}
+use Rattle.calls.specs.Calls.{Poll, ToSubmit, ToPoll, Begin, Reply}
 use Rattle.session_words.specs.State.{idAt}
-use Rattle.calls.specs.Step.{world, after, polls, finishes, stepOf}
+use Rattle.calls.specs.Step.{world, after, polls, finishes, begunOf, repliedOf, stepOf}
 use Rattle.calls.specs.declared.Outcome.{Outcome}
 use Rattle.dispatch.specs.Apply.{StepsStore}
 use Rattle.dispatch.specs.Decode.{replyingOf}
@@ -33,27 +33,27 @@ module _ (n : ℕ) (s : Session) (l w bytes area : List ℕ) (r : Outcome) where
       → r ≡ outcome (ofReport (x .answer)) (x .session)
       → reportedTo x (storeOf k) ≡ submitReplyOf s (rowsFit (s .«row_count») (s .«row_bytes») (length l)) reply (storeOf l)
       → StepsStore r (storeOf k) area (replyingOf n w bytes) s (storeOf l) area
-  unfolding stepOf storeOf replyingOf
+  unfolding stepOf begunOf repliedOf storeOf replyingOf
   submit-reply-step k x reply ea e er h b =
       let v = world s b (storeOf l) area in
-      said (ReplySubmit reply) (replyingOf n w bytes) v _ (search (chain, ap ReplySubmit ea) depth 20) (reported r (storeOf k) v x _ er h)
+      said (Reply (ToSubmit reply)) (replyingOf n w bytes) v _ (search (chain, ap (λ (z : SubmitReply). Reply (ToSubmit z)) ea) depth 20) (reported r (storeOf k) v x _ er h)
 
   module _ (n10 : n ≡ 10 → ⊥) where
     pub poll-step : (x : Polled) (id : RequestId) → id ≡ idAt w 1 → n ≡ 11 → r ≡ outcome (ofPoll (x .answer)) (x .session)
         → x ≡ pollOf s (rowsFit (s .«row_count») (s .«row_bytes») (length l)) id (rowsOf l)
         → StepsStore r (storeOf l) area (replyingOf n w bytes) s (storeOf l) area
-    unfolding stepOf storeOf replyingOf
+    unfolding stepOf begunOf repliedOf storeOf replyingOf
     poll-step x id ei e er h b =
         let v = world s b (storeOf l) area in
-        said (Poll id) (replyingOf n w bytes) v _ (search (chain, ap Poll ei) depth 20)
+        said (Begin (Poll id)) (replyingOf n w bytes) v _ (search (chain, ap (λ (z : RequestId). Begin (Poll z)) ei) depth 20)
         (ap (λ (z : Outcome). after z b (storeOf l) area) er ∙ ap (λ (z : Polled). polls z v) h)
 
     pub poll-reply-step : (k left : List ℕ) (x : Reported) (reply : PollReply) → reply ≡ arguments.pollReplyOf w → (n ≡ 11 → ⊥)
         → r ≡ outcome (ofReport (x .answer)) (x .session)
         → finishTo x (storeOf k) left ≡ finishOf s (rowsFit (s .«row_count») (s .«row_bytes») (length l) && areaFits (s .«row_count») (s .«row_bytes») (length area)) reply bytes (storeOf l) area
         → StepsStore r (storeOf k) left (replyingOf n w bytes) s (storeOf l) area
-    unfolding stepOf storeOf replyingOf
+    unfolding stepOf begunOf repliedOf storeOf replyingOf
     poll-reply-step k left x reply ea n11 er h b =
         let v = world s b (storeOf l) area in
-        said (ReplyPoll reply bytes) (replyingOf n w bytes) v _ (search (chain, ap (λ (z : PollReply). ReplyPoll z bytes) ea) depth 20)
+        said (Reply (ToPoll reply bytes)) (replyingOf n w bytes) v _ (search (chain, ap (λ (z : PollReply). Reply (ToPoll z bytes)) ea) depth 20)
         (ap (λ (z : Outcome). after z b (storeOf k) left) er ∙ ap (λ (z : FinishTo). finishes z v) h)

@@ -19,9 +19,9 @@ use Rattle.reports.specs.declared.ReportAnswer.{ReportAnswer}
 use Rattle.reports.specs.declared.Tally.{Tally}
 use Rattle.calls.specs.Answers.{outcome, ofReport, ofNext, ofTally}
 use Rattle.call_words.specs.Arguments.{optionIdOf}
-use Rattle.calls.specs.Calls.{Call, Status, Reports, CountReports, CompletedBytes, HeldCount, HeldBytes}
+use Rattle.calls.specs.Calls.{Reading, Status, Reports, CountReports, CompletedBytes, HeldCount, HeldBytes, Read}
 use Rattle.session_words.specs.State.{idAt}
-use Rattle.calls.specs.Step.{world, reads, stepOf}
+use Rattle.calls.specs.Step.{world, reads, readOf, stepOf}
 use Rattle.calls.specs.declared.Answer.{Answer}
 use Rattle.calls.specs.declared.Answer.the-variants as answer
 use Rattle.dispatch.specs.Apply.{StepsStore}
@@ -36,49 +36,38 @@ module _ (n : ℕ) (s : Session) (l w area : List ℕ) where
   fits = rowsFit (s .«row_count») (s .«row_bytes») (length l)
 
   -- of the call c, which answers as r
-  by : (c : Call) (r : Answer) → c ≡ reportingOf n w → ((b : Bus) → reads r (world s b (storeOf l) area) ≡ stepOf c (world s b (storeOf l) area)) → Steps r
-  by c r e h b = said c (reportingOf n w) (world s b (storeOf l) area) _ e (h b)
+  by : (c : Reading) (r : Answer) → Read c ≡ reportingOf n w → ((b : Bus) → r ≡ readOf c (world s b (storeOf l) area)) → Steps r
+  unfolding stepOf
+  by c r e h b =
+      let v = world s b (storeOf l) area in
+      said (Read c) (reportingOf n w) v _ e (ap (λ (z : Answer). reads z v) (h b))
 
   pub status-step : (r : Answer) (x : ReportAnswer) (id : RequestId) → id ≡ idAt w 1 → n ≡ 16 → r ≡ ofReport x → x ≡ statusOf s fits id (rowsOf l) → Steps r
-  unfolding stepOf storeOf reportingOf
-  status-step r x id ei e er h =
-      by (Status id) r (search (chain, ap Status ei) depth 20)
-      (λ b. ap (λ (z : Answer). reads z (world s b (storeOf l) area)) (er ∙ ap ofReport h))
+  unfolding readOf storeOf reportingOf
+  status-step r x id ei e er h = by (Status id) r (search (chain, ap (λ (z : RequestId). Read (Status z)) ei) depth 20) (λ b. er ∙ ap ofReport h)
 
   module _ (n16 : n ≡ 16 → ⊥) where
     pub reports-step : (r : Answer) (x : NextReport) (from : OptionId) → from ≡ optionIdOf w → n ≡ 17 → r ≡ ofNext x → x ≡ nextOf s fits from (rowsOf l) → Steps r
-    unfolding stepOf storeOf reportingOf
-    reports-step r x from ei e er h =
-        by (Reports from) r (search (chain, ap Reports ei) depth 20)
-        (λ b. ap (λ (z : Answer). reads z (world s b (storeOf l) area)) (er ∙ ap ofNext h))
+    unfolding readOf storeOf reportingOf
+    reports-step r x from ei e er h = by (Reports from) r (search (chain, ap (λ (z : OptionId). Read (Reports z)) ei) depth 20) (λ b. er ∙ ap ofNext h)
 
     module _ (n17 : n ≡ 17 → ⊥) where
       pub count-step : (r : Answer) (x : Tally) → n ≡ 18 → r ≡ ofTally x → x ≡ shownCount s fits (rowsOf l) → Steps r
-      unfolding stepOf storeOf reportingOf
-      count-step r x e er h =
-          by CountReports r (search chain depth 20)
-          (λ b. ap (λ (z : Answer). reads z (world s b (storeOf l) area)) (er ∙ ap ofTally h))
+      unfolding readOf storeOf reportingOf
+      count-step r x e er h = by CountReports r (search chain depth 20) (λ b. er ∙ ap ofTally h)
 
       module _ (n18 : n ≡ 18 → ⊥) where
         pub bytes-step : (x : Part) (id : RequestId) → id ≡ idAt w 1 → n ≡ 19
             → x ≡ completedPart s (fits && areaFits (s .«row_count») (s .«row_bytes») (length area)) id (rowsOf l) → Steps (answer.Bytes x)
-        unfolding stepOf storeOf reportingOf
+        unfolding readOf storeOf reportingOf
         bytes-step x id ei e h =
-            by (CompletedBytes id) (answer.Bytes x)
-            (search (chain, ap CompletedBytes ei) depth 20)
-            (λ b. ap (λ (z : Part). reads (answer.Bytes z) (world s b (storeOf l) area)) h)
+            by (CompletedBytes id) (answer.Bytes x) (search (chain, ap (λ (z : RequestId). Read (CompletedBytes z)) ei) depth 20) (λ b. ap answer.Bytes h)
 
         module _ (n19 : n ≡ 19 → ⊥) (r : Answer) (x : Tally) (er : r ≡ ofTally x) where
           pub held-count-step : n ≡ 20 → x ≡ heldCountOf fits (rowsOf l) → Steps r
-          unfolding stepOf storeOf reportingOf
-          held-count-step e h =
-              by HeldCount r
-              (search chain depth 20)
-              (λ b. ap (λ (z : Answer). reads z (world s b (storeOf l) area)) (er ∙ ap ofTally h))
+          unfolding readOf storeOf reportingOf
+          held-count-step e h = by HeldCount r (search chain depth 20) (λ b. er ∙ ap ofTally h)
 
           pub held-bytes-step : (n ≡ 20 → ⊥) → x ≡ heldBytesOf fits (rowsOf l) → Steps r
-          unfolding stepOf storeOf reportingOf
-          held-bytes-step n20 h =
-              by HeldBytes r
-              (search chain depth 20)
-              (λ b. ap (λ (z : Answer). reads z (world s b (storeOf l) area)) (er ∙ ap ofTally h))
+          unfolding readOf storeOf reportingOf
+          held-bytes-step n20 h = by HeldBytes r (search chain depth 20) (λ b. er ∙ ap ofTally h)

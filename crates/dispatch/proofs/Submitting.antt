@@ -17,8 +17,8 @@ use Rattle.submissions.specs.declared.PlanSubmitted.{PlanSubmitted}
 use Rattle.submissions.specs.declared.Submitted.{Submitted}
 use Rattle.calls.specs.Answers.{outcome, ofSubmit, ofPlan}
 use Rattle.call_words.specs.Arguments.{readingAt, specOf, planOf}
-use Rattle.calls.specs.Calls.{Submit, SubmitPlan}
-use Rattle.calls.specs.Step.{world, after, submits, plans, stepOf}
+use Rattle.calls.specs.Calls.{Submit, SubmitPlan, Begin}
+use Rattle.calls.specs.Step.{world, after, submits, plans, begunOf, stepOf}
 use Rattle.calls.specs.declared.Outcome.{Outcome}
 use Rattle.dispatch.specs.Decode.{submissionOf}
 use Rattle.dispatch.proofs.Steps.{said}
@@ -30,24 +30,24 @@ module _ (n : ℕ) (s : Session) (l m a l' m' a' w bytes : List ℕ) (r : Outcom
       → r ≡ outcome (ofSubmit (x .answer)) (x .session) → first ≡ readingAt w 14 → n ≡ 8 → q ≡ specOf w → given ≡ flagOf f → f ≡ getD w 26 0
       → packets ≡ drop 27 w → second ≡ readingAt w 20
       → after r (busOf l') (storeOf m') a' ≡ stepOf (submissionOf n w bytes) (world s (busOf l) (storeOf m) a)
-  unfolding stepOf storeOf busOf submissionOf
+  unfolding stepOf begunOf storeOf busOf submissionOf
   submit-step x q f given packets second h er e1 e eq eg ef ep e2 =
-      let c : Submit q bytes given packets first second ≡ Submit (specOf w) bytes (flagOf (getD w 26 0)) (drop 27 w) (readingAt w 14) (readingAt w 20) =
-      ap (λ (z : RequestSpec). Submit z bytes given packets first second) eq
-      ∙ ap (λ (z : Bool). Submit (specOf w) bytes z packets first second) (eg ∙ ap flagOf ef)
-      ∙ ap (λ (z : List ℕ). Submit (specOf w) bytes (flagOf (getD w 26 0)) z first second) ep
-      ∙ ap (λ (z : PortReading). Submit (specOf w) bytes (flagOf (getD w 26 0)) (drop 27 w) z second) e1
-      ∙ ap (Submit (specOf w) bytes (flagOf (getD w 26 0)) (drop 27 w) (readingAt w 14)) e2 in
-      said (Submit q bytes given packets first second) (submissionOf n w bytes) (world s (busOf l) (storeOf m) a) _ (search (chain, c) depth 20)
+      let c : Begin (Submit q bytes given packets first second) ≡ Begin (Submit (specOf w) bytes (flagOf (getD w 26 0)) (drop 27 w) (readingAt w 14) (readingAt w 20)) =
+      ap (λ (z : RequestSpec). Begin (Submit z bytes given packets first second)) eq
+      ∙ ap (λ (z : Bool). Begin (Submit (specOf w) bytes z packets first second)) (eg ∙ ap flagOf ef)
+      ∙ ap (λ (z : List ℕ). Begin (Submit (specOf w) bytes (flagOf (getD w 26 0)) z first second)) ep
+      ∙ ap (λ (z : PortReading). Begin (Submit (specOf w) bytes (flagOf (getD w 26 0)) (drop 27 w) z second)) e1
+      ∙ ap (λ (z : PortReading). Begin (Submit (specOf w) bytes (flagOf (getD w 26 0)) (drop 27 w) (readingAt w 14) z)) e2 in
+      said (Begin (Submit q bytes given packets first second)) (submissionOf n w bytes) (world s (busOf l) (storeOf m) a) _ (search (chain, c) depth 20)
       (ap (λ (z : Outcome). after z (busOf l') (storeOf m') a') er ∙ ap submits h)
 
   pub plan-step : (x : PlanSubmitted) (q : ControlPlan) → first ≡ readingAt w 14 → (n ≡ 8 → ⊥) → q ≡ planOf w
       → r ≡ outcome (ofPlan (x .answer)) (x .session)
       → planTo x (busOf l') (storeOf m') a' ≡ submitPlanOf s (storeFits s (length m) (length a) (length l)) q bytes first (busOf l) (storeOf m) a
       → after r (busOf l') (storeOf m') a' ≡ stepOf (submissionOf n w bytes) (world s (busOf l) (storeOf m) a)
-  unfolding stepOf storeOf busOf submissionOf
+  unfolding stepOf begunOf storeOf busOf submissionOf
   plan-step x q e1 n8 eq er h =
-      let c : SubmitPlan q bytes first ≡ SubmitPlan (planOf w) bytes (readingAt w 14) =
-      ap (λ (z : ControlPlan). SubmitPlan z bytes first) eq ∙ ap (SubmitPlan (planOf w) bytes) e1 in
-      said (SubmitPlan q bytes first) (submissionOf n w bytes) (world s (busOf l) (storeOf m) a) _ (search (chain, c) depth 20)
+      let c : Begin (SubmitPlan q bytes first) ≡ Begin (SubmitPlan (planOf w) bytes (readingAt w 14)) =
+      ap (λ (z : ControlPlan). Begin (SubmitPlan z bytes first)) eq ∙ ap (λ (z : PortReading). Begin (SubmitPlan (planOf w) bytes z)) e1 in
+      said (Begin (SubmitPlan q bytes first)) (submissionOf n w bytes) (world s (busOf l) (storeOf m) a) _ (search (chain, c) depth 20)
       (ap (λ (z : Outcome). after z (busOf l') (storeOf m') a') er ∙ ap plans h)

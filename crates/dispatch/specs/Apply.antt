@@ -4,7 +4,7 @@ use mathlib.Core.Bool.{not}
 use mathlib.Core.Path.{_≡_}
 use mathlib.Core.List.{List}
 use lib.ListN.{length}
-use lib.Dec.{eqb, ltb}
+use lib.Dec.{ltb}
 use Rattle.chain.specs.Chain.{_if_else_}
 use Rattle.words.specs.Records.{splice}
 use Rattle.rows.specs.Store.{Store}
@@ -13,7 +13,7 @@ use Rattle.session.specs.declared.Session.{Session}
 use Rattle.calls.specs.Calls.{Call}
 use Rattle.calls.specs.declared.Outcome.{Outcome}
 use Rattle.calls.specs.Step.{World, After, world, after, stepOf}
-use Rattle.session_words.specs.State.{Kept, sessionSize, keptOf, keptAs, sessionOf}
+use Rattle.session_words.specs.State.{Kept, keptOf, keptAs, sessionOf, isSession}
 use Rattle.call_words.specs.Form.{isCall}
 use Rattle.answer_words.specs.Encode.{answerSize, answerWords, written}
 use Rattle.answer_words.specs.Lists.{listSize, listsOf, putLists}
@@ -56,17 +56,21 @@ abbrev pub done : ℕ → Kept → Bus → Store → List ℕ → List ℕ → L
 done status session b store area out lists =
     record { status = status; session = session; bus = b; store = store; area = area; out = out; lists = lists }
 
--- the session, the answer and its lists are written
-abbrev pub answered : Call → World → List ℕ → List ℕ → List ℕ → Done
-answered c v s out lists =
-    let a = stepOf c v in
-    done 0 (keptAs s (a .result .session)) (a .bus) (a .store) (a .area) (written (answerWords (a .result .answer)) out) (splice 0 (listsOf c v) lists)
+-- the session and the answer of a call that ran are written
+abbrev pub wrote : Ran → List ℕ → List ℕ → Done
+wrote o s out =
+    let a = o .left in
+    done 0 (keptAs s (a .result .session)) (a .bus) (a .store) (a .area) (written (answerWords (a .result .answer)) out) (o .lists)
 
--- 1: no call; 2: not a session's words; 3: too few words for the answer; 4: too few words for lists. Then nothing changes
+-- and its lists, for which there is always room
+abbrev pub answered : Call → World → List ℕ → List ℕ → List ℕ → Done
+answered c v s out lists = wrote (ran (stepOf c v) (splice 0 (listsOf c v) lists)) s out
+
+-- 1: no call; 2: not a session's own words; 3: too few words for the answer; 4: too few words for lists. Then nothing changes
 unfoldable pub applyOf : List ℕ → Bus → Store → List ℕ → List ℕ → List ℕ → List ℕ → List ℕ → Done
 applyOf s b store area call bytes out lists =
     done 1 (keptOf s) b store area out lists if not (isCall call) else
-    done 2 (keptOf s) b store area out lists if not (eqb (length s) sessionSize) else
+    done 2 (keptOf s) b store area out lists if not (isSession s) else
     done 3 (keptOf s) b store area out lists if ltb (length out) answerSize else
     done 4 (keptOf s) b store area out lists if ltb (length lists) listSize else
     answered (callOf call bytes) (world (sessionOf s) b store area) s out lists

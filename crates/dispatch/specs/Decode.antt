@@ -5,7 +5,8 @@ use lib.ListN.{getD, drop}
 use lib.Dec.{eqb, leb}
 use Rattle.chain.specs.Chain.{_if_else_}
 use Rattle.words.specs.Words.{flagOf, optionU64Of}
-use Rattle.calls.specs.Calls.{Call, Open, SetDevice, SetPort, SetEndpoints, SetReconcile, Acquire, Initialize, Close, Submit, SubmitPlan, ReplySubmit, Poll, ReplyPoll, AbortRequest, ResetEndpoint, ReplyRecovery, Cancel, Timeout, Reclaim, Status, Reports, CountReports, CompletedBytes, HeldCount, HeldBytes}
+use Rattle.session.specs.declared.RecoveryKind.the-variants as kind
+use Rattle.calls.specs.Calls.{Device, Port, Endpoints, Reconcile, Acquire, Initialize, Close, Submit, SubmitPlan, Poll, Recover, ToSubmit, ToPoll, ToRecovery, Cancel, Timeout, Reclaim, Status, Reports, CountReports, CompletedBytes, HeldCount, HeldBytes, Call, Open, Place, Move, Begin, Reply, Change, Read}
 use Rattle.session_words.specs.State.{idAt}
 use Rattle.call_words.specs.Arguments.{optionErrorAt, readingAt, openingOf, snapshotOf, portRowOf, acquireReplyOf, specOf, planOf, submitReplyOf, pollReplyOf, optionIdOf, backendAbortOf, completedOf, completionsOf, abortedOf}
 
@@ -13,54 +14,54 @@ use Rattle.call_words.specs.Arguments.{optionErrorAt, readingAt, openingOf, sna
 unfoldable pub placingOf : ℕ → List ℕ → Call
 placingOf n w =
     Open (openingOf w) if eqb n 0 else
-    SetDevice (snapshotOf w) if eqb n 1 else
-    SetPort (getD w 1 0 % 2 ^ 8) (portRowOf w) if eqb n 2 else
-    SetEndpoints (getD w 1 0 % 2 ^ 8) (drop 2 w) if eqb n 3 else
-    SetReconcile (getD w 1 0 % 2 ^ 8) (flagOf (getD w 2 0))
+    Place (Device (snapshotOf w)) if eqb n 1 else
+    Place (Port (getD w 1 0 % 2 ^ 8) (portRowOf w)) if eqb n 2 else
+    Place (Endpoints (getD w 1 0 % 2 ^ 8) (drop 2 w)) if eqb n 3 else
+    Place (Reconcile (getD w 1 0 % 2 ^ 8) (flagOf (getD w 2 0)))
 
 -- 5 to 7
 unfoldable pub movingOf : ℕ → List ℕ → Call
 movingOf n w =
-    Acquire (acquireReplyOf w) if eqb n 5 else
-    Initialize (optionErrorAt w 1) if eqb n 6 else
-    Close (optionU64Of (getD w 1 0) (getD w 2 0)) (optionErrorAt w 3)
+    Move (Acquire (acquireReplyOf w)) if eqb n 5 else
+    Move (Initialize (optionErrorAt w 1)) if eqb n 6 else
+    Move (Close (optionU64Of (getD w 1 0) (getD w 2 0)) (optionErrorAt w 3))
 
 -- 8 and 9
 unfoldable pub submissionOf : ℕ → List ℕ → List ℕ → Call
 submissionOf n w bytes =
-    Submit (specOf w) bytes (flagOf (getD w 26 0)) (drop 27 w) (readingAt w 14) (readingAt w 20) if eqb n 8 else
-    SubmitPlan (planOf w) bytes (readingAt w 14)
+    Begin (Submit (specOf w) bytes (flagOf (getD w 26 0)) (drop 27 w) (readingAt w 14) (readingAt w 20)) if eqb n 8 else
+    Begin (SubmitPlan (planOf w) bytes (readingAt w 14))
 
 -- 10 to 12
 unfoldable pub replyingOf : ℕ → List ℕ → List ℕ → Call
 replyingOf n w bytes =
-    ReplySubmit (submitReplyOf w) if eqb n 10 else
-    Poll (idAt w 1) if eqb n 11 else
-    ReplyPoll (pollReplyOf w) bytes
+    Reply (ToSubmit (submitReplyOf w)) if eqb n 10 else
+    Begin (Poll (idAt w 1)) if eqb n 11 else
+    Reply (ToPoll (pollReplyOf w) bytes)
 
 -- 13 to 15
 unfoldable pub changingOf : ℕ → List ℕ → Call
 changingOf n w =
-    Cancel (idAt w 1) if eqb n 13 else
-    Timeout (idAt w 1) if eqb n 14 else
-    Reclaim (idAt w 1)
+    Change (idAt w 1) Cancel if eqb n 13 else
+    Change (idAt w 1) Timeout if eqb n 14 else
+    Change (idAt w 1) Reclaim
 
 -- 16 to 21
 unfoldable pub reportingOf : ℕ → List ℕ → Call
 reportingOf n w =
-    Status (idAt w 1) if eqb n 16 else
-    Reports (optionIdOf w) if eqb n 17 else
-    CountReports if eqb n 18 else
-    CompletedBytes (idAt w 1) if eqb n 19 else
-    HeldCount if eqb n 20 else
-    HeldBytes
+    Read (Status (idAt w 1)) if eqb n 16 else
+    Read (Reports (optionIdOf w)) if eqb n 17 else
+    Read CountReports if eqb n 18 else
+    Read (CompletedBytes (idAt w 1)) if eqb n 19 else
+    Read HeldCount if eqb n 20 else
+    Read HeldBytes
 
 -- 22 to 24
 unfoldable pub recoveringOf : ℕ → List ℕ → List ℕ → Call
 recoveringOf n w bytes =
-    AbortRequest (idAt w 1) if eqb n 22 else
-    ResetEndpoint (idAt w 1) (flagOf (getD w 4 0)) if eqb n 23 else
-    ReplyRecovery (backendAbortOf w) (completedOf w) (completionsOf w) (abortedOf w) bytes
+    Begin (Recover (idAt w 1) kind.Abort) if eqb n 22 else
+    Begin (Recover (idAt w 1) (kind.Reset (flagOf (getD w 4 0)))) if eqb n 23 else
+    Reply (ToRecovery (backendAbortOf w) (completedOf w) (completionsOf w) (abortedOf w) bytes)
 
 unfoldable pub callOf : List ℕ → List ℕ → Call
 callOf w bytes =

@@ -25,11 +25,11 @@ ghost use lib.ListN.{getD};
 ghost use Rattle.rows.specs.Store.{storeOf};
 ghost use Rattle.bus.specs.Tables.{busOf};
 ghost use Rattle.calls.specs.Step.{world, after, stepOf};
-ghost use Rattle.session_words.specs.State.{keptOf};
+ghost use Rattle.session_words.specs.State.{keptOf, sessionOf};
 ghost use Rattle.dispatch.specs.Decode.{placingOf, movingOf, submissionOf, replyingOf, changingOf, reportingOf, recoveringOf, callOf};
 ghost use Rattle.call_words.specs.Arguments.{backendAbortOf, completedOf, completionsOf, abortedOf};
-ghost use Rattle.calls.specs.Calls.{ReplyRecovery};
-ghost use Rattle.dispatch.specs.Apply.{StepsRows, StepsStore, RunsStore, ran, runOf, done, applyOf};
+ghost use Rattle.calls.specs.Calls.{Reply, ToRecovery};
+ghost use Rattle.dispatch.specs.Apply.{StepsRows, StepsStore, RunsStore, ran, runOf, done, wrote, applyOf};
 ghost use Rattle.calls.specs.Answers.{outcome};
 
 fn byte_at(w: &[u64], i: usize) -> u8
@@ -183,7 +183,7 @@ fn report_answer(number: u64, session: Session, rows: &[u64], area: &[u8], call:
         return answers::of_tally(status::count_reports(session, rows));
     }
     if number == 19 {
-        return Answer::Bytes(status::completed_part(session, rows, area.len(), id));
+        return answers::of_part(status::completed_part(session, rows, area.len(), id));
     }
     if number == 20 {
         return answers::of_tally(status::held_count(session, rows));
@@ -226,7 +226,7 @@ fn recovered(
     bytes: &[u8],
     lists: &mut [u64],
 ) -> Outcome
-    ensures { λ r. ⌜ RunsStore r (storeOf (now (rows .exit))) (now (area .exit)) (now (lists .exit)) (ReplyRecovery (backendAbortOf (now (call .entry))) (completedOf (now (call .entry))) (completionsOf (now (call .entry))) (abortedOf (now (call .entry))) (now (bytes .entry))) session (storeOf (now (rows .entry))) (now (area .entry)) (now (lists .entry)) ⌝ }
+    ensures { λ r. ⌜ RunsStore r (storeOf (now (rows .exit))) (now (area .exit)) (now (lists .exit)) (Reply (ToRecovery (backendAbortOf (now (call .entry))) (completedOf (now (call .entry))) (completionsOf (now (call .entry))) (abortedOf (now (call .entry))) (now (bytes .entry)))) session (storeOf (now (rows .entry))) (now (area .entry)) (now (lists .entry)) ⌝ }
 {
     let answer = arguments::backend_abort(call);
     let tokens = arguments::completed(call);
@@ -279,7 +279,28 @@ fn step(
     recover_call(number, session, rows, area, call, bytes, lists)
 }
 
-// Runs the call and writes the session, the answer and its lists. 0: it was answered; 1: no call; 2: not a session's words; 3: too few
+// Runs the call and writes the session, the answer and its lists.
+fn answer(
+    session: &mut [u64],
+    bus: &mut [u64],
+    rows: &mut [u64],
+    area: &mut [u8],
+    call: &[u64],
+    bytes: &[u8],
+    out: &mut [u64],
+    lists: &mut [u64],
+)
+    ensures { λ _. ⌜ done 0 (keptOf (now (session .exit))) (busOf (now (bus .exit))) (storeOf (now (rows .exit))) (now (area .exit)) (now (out .exit)) (now (lists .exit)) ≡ wrote (runOf (callOf (now (call .entry)) (now (bytes .entry))) (world (sessionOf (now (session .entry))) (busOf (now (bus .entry))) (storeOf (now (rows .entry))) (now (area .entry))) (now (lists .entry))) (now (session .entry)) (now (out .entry)) ⌝ }
+{
+    let before = state::to_session(session);
+    let outcome = step(before, bus, rows, area, call, bytes, lists);
+    let next = outcome.session;
+    let answer = outcome.answer;
+    state::write_session(session, next);
+    encode::write_answer(out, answer);
+}
+
+// The call that the words say, on the words of a session. 0: it was answered; 1: no call; 2: not a session's own words; 3: too few
 // words for the answer; 4: too few words for lists. In the last four nothing changes.
 pub fn apply(
     session: &mut [u64],
@@ -296,7 +317,7 @@ pub fn apply(
     if !form::is_call(call) {
         return 1;
     }
-    if session.len() != state::WORDS {
+    if !state::is_session(session) {
         return 2;
     }
     if out.len() < encode::WORDS {
@@ -305,11 +326,6 @@ pub fn apply(
     if lists.len() < lists::WORDS {
         return 4;
     }
-    let before = state::to_session(session);
-    let outcome = step(before, bus, rows, area, call, bytes, lists);
-    let next = outcome.session;
-    let answer = outcome.answer;
-    state::write_session(session, next);
-    encode::write_answer(out, answer);
+    answer(session, bus, rows, area, call, bytes, out, lists);
     0
 }

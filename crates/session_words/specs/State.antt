@@ -1,6 +1,6 @@
 -- The session as words. Every list of words says a session. Assumes nothing.
 use Prim.Native.Nat.{ℕ, _+_, _-_, _%_, _^_}
-use mathlib.Core.Bool.{cond, not}
+use mathlib.Core.Bool.{Bool, true, cond, not, _&&_}
 use mathlib.Core.List.{List, [], _∷_}
 use lib.ListN.{getD, length}
 use lib.Dec.{eqb}
@@ -156,6 +156,15 @@ sessionWords s =
     (stallTail (stallWords (s .«recoverable_stall»))
     (flightTail (flightWords (s .«in_flight»))
     (s .«row_count» ∷ s .«row_bytes» ∷ []))))
+
+-- whether the words p stand in w from word `at` on
+abbrev pub standsAt : List ℕ → ℕ → List ℕ → Bool
+standsAt w at [] = true
+standsAt w at (x ∷ p) = eqb (getD w at 0) x && standsAt w (at + 1) p
+
+-- a session's own words: they are those of the session that they say
+unfoldable pub isSession : List ℕ → Bool
+isSession w = eqb (length w) sessionSize && standsAt w 0 (sessionWords (sessionOf w))
 
 -- a session kept in words, as a store is
 pub record Kept : Type 0 where

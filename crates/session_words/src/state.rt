@@ -12,7 +12,10 @@ use session::Session;
 use words::slices;
 use words::slices::word_at;
 ghost use mathlib.Core.Path.{_≡_};
-ghost use Rattle.session_words.specs.State.{deviceAt, idAt, portsOf, portsIn, portsWords, deviceOf, requestOf, stallOf, stallIn, stallWords, kindOf, kindWord, flightOf, flightIn, idFlight, recoveryFlight, flightWords, sessionOf, sessionWords, keptOf, keptAs};
+ghost use mathlib.Core.List.{[], _∷_};
+ghost use Rattle.words.specs.Words.{optionU64Of, optionU64Words};
+ghost use lib.ListN.{getD};
+ghost use Rattle.session_words.specs.State.{deviceAt, idAt, portsOf, portsIn, portsWords, deviceOf, requestOf, stallOf, stallIn, stallWords, kindOf, kindWord, flightOf, flightIn, idFlight, recoveryFlight, flightWords, sessionOf, sessionWords, portsTail, revisionTail, stallTail, flightTail, standsAt, isSession, keptOf, keptAs};
 
 // How many words a session has.
 pub const WORDS: usize = 26;
@@ -290,6 +293,83 @@ pub fn session_words(session: Session) -> [u64; 26]
         session.row_count,
         session.row_bytes,
     ]
+}
+
+fn is_ports(w: &[u64]) -> bool
+    ensures { λ r. ⌜ r ≡ standsAt (now (w .entry)) 3 (portsTail (portsWords (portsIn (now (w .entry)))) []) ⌝ }
+{
+    let present = word_at(w, 3);
+    let session = word_at(w, 4);
+    let count = word_at(w, 5);
+    if present == 0 {
+        return (session == 0) & (count == 0);
+    }
+    (present == 1) & (count < 256)
+}
+
+fn is_revision(w: &[u64]) -> bool
+    ensures { λ r. ⌜ r ≡ standsAt (now (w .entry)) 7 (revisionTail (optionU64Words (optionU64Of (getD (now (w .entry)) 7 0) (getD (now (w .entry)) 8 0))) []) ⌝ }
+{
+    let present = word_at(w, 7);
+    let value = word_at(w, 8);
+    if present == 0 {
+        return value == 0;
+    }
+    present == 1
+}
+
+fn are_five_zeros(w: &[u64], at: u8) -> bool
+    ensures { λ r. ⌜ r ≡ standsAt (now (w .entry)) at (0 ∷ 0 ∷ 0 ∷ 0 ∷ 0 ∷ []) ⌝ }
+{
+    let i = at as usize;
+    let a = word_at(w, i);
+    let b = word_at(w, i + 1);
+    let c = word_at(w, i + 2);
+    let d = word_at(w, i + 3);
+    let e = word_at(w, i + 4);
+    (a == 0) & (b == 0) & (c == 0) & (d == 0) & (e == 0)
+}
+
+fn is_stall(w: &[u64]) -> bool
+    ensures { λ r. ⌜ r ≡ standsAt (now (w .entry)) 9 (stallTail (stallWords (stallIn (now (w .entry)))) []) ⌝ }
+{
+    let present = word_at(w, 9);
+    if present == 0 {
+        return are_five_zeros(w, 10);
+    }
+    let slot = word_at(w, 13);
+    let endpoint = word_at(w, 14);
+    (present == 1) & (slot < 256) & (endpoint < 256)
+}
+
+// A submission and a poll have an id alone.
+fn is_flight(w: &[u64]) -> bool
+    ensures { λ r. ⌜ r ≡ standsAt (now (w .entry)) 15 (flightTail (flightWords (flightIn (now (w .entry)))) []) ⌝ }
+{
+    let tag = word_at(w, 15);
+    if tag == 3 {
+        let slot = word_at(w, 21);
+        let endpoint = word_at(w, 22);
+        let kind = word_at(w, 23);
+        return (slot < 256) & (endpoint < 256) & (kind < 3);
+    }
+    let alone = are_five_zeros(w, 19);
+    if tag == 0 {
+        let session = word_at(w, 16);
+        let generation = word_at(w, 17);
+        let sequence = word_at(w, 18);
+        return (session == 0) & (generation == 0) & (sequence == 0) & alone;
+    }
+    (tag < 3) & alone
+}
+
+// Whether the words are a session's own, word by word: flags are 0 or 1, what a flag or a tag says is missing is 0, and every other word is
+// in its field's range.
+pub fn is_session(w: &[u64]) -> bool
+    ensures { λ r. ⌜ r ≡ isSession (now (w .entry)) ⌝ }
+{
+    let state = word_at(w, 6);
+    (w.len() == WORDS) & is_ports(w) & (state < 5) & is_revision(w) & is_stall(w) & is_flight(w)
 }
 
 // Writes the session to its words; slices of another size stay as they are.

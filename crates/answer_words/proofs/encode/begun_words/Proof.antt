@@ -3,17 +3,19 @@ use borrow.Author.Needs.{needs}
 use Rattle.answer_words.proofs.encode.begun_words.Statement.{statement}
 use Rattle.answer_words.proofs.encode.begun_words.Tie as tie
 
-returns : tie.Need-returns
-returns c = search begun-exact
-
 pub begun-words-spec : {M : Type 1} → statement M
 begun-words-spec =
     tie.close
     (tie.spec
     (λ c κs. search needs)
+    (λ c κs. search needs)
     (λ c. search needs)
     (λ c. search needs)
     (λ c κs. search needs)
+    (λ c. search needs)
+    (λ c. search needs)
     (λ c κs. search needs)
+    (λ c. search needs)
+    (λ c. search needs)
     (λ c κs. search needs)
-    returns)
+    (λ c. search begun-exact))

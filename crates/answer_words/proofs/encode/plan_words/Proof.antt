@@ -3,9 +3,6 @@ use borrow.Author.Needs.{needs}
 use Rattle.answer_words.proofs.encode.plan_words.Statement.{statement}
 use Rattle.answer_words.proofs.encode.plan_words.Tie as tie
 
-returns : tie.Need-returns
-returns c = search plan-exact
-
 pub plan-words-spec : {M : Type 1} → statement M
 plan-words-spec =
     tie.close
@@ -13,20 +10,17 @@ plan-words-spec =
     (λ c κs. search needs)
     (λ c κs. search needs)
     (λ c κs. search needs)
-    (λ c. search needs)
-    (λ c. search needs)
-    (λ c κs. search needs)
-    (λ c κs. search needs)
-    (λ c κs. search needs)
-    (λ c κs. search needs)
-    (λ c κs. search needs)
     (λ c κs. search needs)
     (λ c. search needs)
     (λ c. search needs)
+    (λ c κs. search needs)
     (λ c. search needs)
     (λ c. search needs)
+    (λ c κs. search needs)
     (λ c. search needs)
     (λ c. search needs)
+    (λ c κs. search needs)
     (λ c. search needs)
     (λ c. search needs)
-    returns)
+    (λ c κs. search needs)
+    (λ c. search plan-exact))

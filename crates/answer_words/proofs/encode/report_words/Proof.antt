@@ -3,19 +3,24 @@ use borrow.Author.Needs.{needs}
 use Rattle.answer_words.proofs.encode.report_words.Statement.{statement}
 use Rattle.answer_words.proofs.encode.report_words.Tie as tie
 
-returns : tie.Need-returns
-returns c = search report-exact
-
 pub report-words-spec : {M : Type 1} → statement M
 report-words-spec =
     tie.close
     (tie.spec
     (λ c κs. search needs)
     (λ c κs. search needs)
+    (λ c κs. search needs)
+    (λ c κs. search needs)
     (λ c. search needs)
     (λ c. search needs)
     (λ c κs. search needs)
+    (λ c. search needs)
+    (λ c. search needs)
     (λ c κs. search needs)
+    (λ c. search needs)
+    (λ c. search needs)
     (λ c κs. search needs)
+    (λ c. search needs)
+    (λ c. search needs)
     (λ c κs. search needs)
-    returns)
+    (λ c. search report-exact))

@@ -1,0 +1,273 @@
+-- An answer's words tell it whole, and so do the 32 words of `out`. Assumes nothing.
+use Prim.Native.Nat.{ℕ, _+_, _-_, _<_, _≤_, _^_}
+use mathlib.Core.Bool.{Bool, true, false}
+use mathlib.Core.List.{List, [], _++_}
+use mathlib.Core.Path.{_≡_, refl, sym, ap, _∙_}
+use mathlib.Core.Logic.{⊎-elim}
+use lib.IntN.{ℤ, pos, negsuc}
+use lib.ListN.{length, getD, take, drop, replicate, length-replicate, getD-replicate, List·getD-append, List·getD-eq-default}
+use lib.Seq.{getD-take, getD-drop, getD-append-add}
+use native.Mathlib.Omega.{arith}
+use borrow.Author.Tests.{le-ltb}
+use Rattle.chain.specs.Chain.{_if_else_}
+use Rattle.chain.proofs.Chain.{passes}
+use Rattle.words.specs.Records.{tab, splice}
+use Rattle.words.specs.Words.{flagWord, flagOf, optionU32Word, optionU32Of, optionI32Word, optionI32Of, signedWord, signedOf}
+use Rattle.words.specs.declared.OptionI32.{OptionI32}
+use Rattle.words.specs.declared.OptionI32.the-variants as i32
+use Rattle.words.specs.declared.OptionU32.{OptionU32}
+use Rattle.words.specs.declared.OptionU32.the-variants as u32
+use Rattle.words.proofs.Options.{low, flag-back, option-u32-back}
+use Rattle.words.proofs.Records.{tab-same, le-or-lt}
+use Rattle.words.proofs.Signed as signed
+use Rattle.models.specs.Codes.{categoryOf, categoryWord, transferOf, transferWord, directionOf, directionWord}
+use Rattle.models.specs.declared.ControlProfile.{ControlProfile}
+use Rattle.models.specs.declared.ControlProfile.the-variants as profile
+use Rattle.models.specs.declared.DeviceId.{DeviceId}
+use Rattle.models.specs.declared.Direction.{Direction}
+use Rattle.models.specs.declared.Direction.the-variants as direction
+use Rattle.models.specs.declared.ErrorCategory.{ErrorCategory}
+use Rattle.models.specs.declared.ErrorCategory.the-variants as category
+use Rattle.models.specs.declared.OperationError.{OperationError}
+use Rattle.models.specs.declared.OptionError.{OptionError}
+use Rattle.models.specs.declared.OptionError.the-variants as error
+use Rattle.models.specs.declared.OptionSetup.{OptionSetup}
+use Rattle.models.specs.declared.OptionSetup.the-variants as setup
+use Rattle.models.specs.declared.RequestMetadata.{RequestMetadata}
+use Rattle.models.specs.declared.RequestReport.{RequestReport}
+use Rattle.models.specs.declared.RequestState.{RequestState}
+use Rattle.models.specs.declared.RequestState.the-variants as state
+use Rattle.models.specs.declared.Refusal.{Refusal}
+use Rattle.models.specs.declared.TransferType.{TransferType}
+use Rattle.models.specs.declared.TransferType.the-variants as transfer
+use Rattle.standards.specs.Setup.{setupBytes}
+use Rattle.rows.specs.Codec.{setupOf, setupWords, metadataOf, errorOf, stateOf, stateWords}
+use Rattle.rows.specs.declared.codec.SetupWords.{SetupWords}
+use Rattle.rows.specs.declared.codec.StateWords.{StateWords}
+use Rattle.session.specs.declared.RecoveryKind.{RecoveryKind}
+use Rattle.session.specs.declared.RecoveryKind.the-variants as kind
+use Rattle.session_words.specs.State.{deviceOf, kindOf, kindWord}
+use Rattle.submissions.specs.declared.PlanSubmission.{PlanSubmission}
+use Rattle.submissions.specs.declared.Submission.{Submission}
+use Rattle.recovery.specs.declared.AbortReport.{AbortReport}
+use Rattle.recovery.specs.declared.Recovery.{Recovery}
+use Rattle.calls.specs.declared.Answer.{Answer}
+use Rattle.calls.specs.declared.Answer.the-variants as answer
+use Rattle.answer_words.specs.Encode.{answerSize, refusalWords, metadataTail, begunWords, profileWord, planWords, reportWords, recoveringWords, optionErrorWords, recoveredWords, answerWords, written}
+use Rattle.answer_words.specs.Read.{profileOf, optionErrorOf, readAnswer, IsI32, I32Fits, U32Fits, ErrorFits, OptionErrorFits, DeviceFits, SetupFits, MetadataFits, StateFits, AnswerFits}
+
+-- ---- what a value's word says is the value
+category-back : (c : ErrorCategory) → categoryOf (categoryWord c) ≡ c
+category-back category.Validation = refl
+category-back category.Unsupported = refl
+category-back category.OperatingSystem = refl
+category-back category.Controller = refl
+category-back category.Timeout = refl
+category-back category.Disconnect = refl
+category-back category.RecoveryRequired = refl
+
+transfer-back : (t : TransferType) → transferOf (transferWord t) ≡ t
+transfer-back transfer.Control = refl
+transfer-back transfer.Bulk = refl
+transfer-back transfer.Interrupt = refl
+transfer-back transfer.Isochronous = refl
+
+direction-back : (d : Direction) → directionOf (directionWord d) ≡ d
+direction-back direction.In = refl
+direction-back direction.Out = refl
+
+profile-back : (p : ControlProfile) → profileOf (profileWord p) ≡ p
+profile-back profile.Compliant = refl
+profile-back profile.DeviceCompatibility = refl
+
+kind-back : (k : RecoveryKind) → kindOf (kindWord k) ≡ k
+kind-back kind.Abort = refl
+kind-back (kind.Reset true) = refl
+kind-back (kind.Reset false) = refl
+
+u32-back : (o : OptionU32) → U32Fits o → optionU32Of (optionU32Word o) ≡ o
+u32-back u32.None h = refl
+u32-back (u32.Some v) h = option-u32-back v h
+
+signed-back : (v : ℤ) → IsI32 v → (signedOf (signedWord v) ≡ v) × (signedWord v < 2 ^ 32)
+unfolding signedWord
+signed-back (pos n) h = (signed.low n h, omega arith)
+signed-back (negsuc n) h = (signed.high n h, omega arith)
+
+i32-back : (o : OptionI32) → I32Fits o → optionI32Of (optionI32Word o) ≡ o
+i32-back i32.None h = sym (signed.option-none 0 refl)
+i32-back (i32.Some v) h = let b = signed-back v h in signed.option-back (signedWord v) v (b .1) (b .0)
+
+error-back : (e : OperationError) → ErrorFits e
+    → errorOf (categoryWord (e .category)) (e .message) (optionI32Word (e .«os_code»)) (optionU32Word (e .«completion_code»)) ≡ e
+error-back e (m, o, c) =
+    rw (category-back (e .category), low 16 m, i32-back (e .«os_code») o, u32-back (e .«completion_code») c)
+
+option-error-back : (o : OptionError) → OptionErrorFits o → optionErrorOf (optionErrorWords o) ≡ o
+unfolding optionErrorOf optionErrorWords
+option-error-back error.None h = refl
+option-error-back (error.Some e) h = ap error.Some (error-back e h)
+
+abbrev setupBy : SetupWords → OptionSetup
+setupBy p = setupOf (p .present) (p .«request_type») (p .request) (p .value) (p .index) (p .length)
+
+setup-back : (o : OptionSetup) → SetupFits o → setupBy (setupWords o) ≡ o
+setup-back setup.None h = refl
+setup-back (setup.Some p) (t, r, v, i, l) = rw (low 8 t, low 8 r, low 16 v, low 16 i, low 16 l)
+
+device-back : (d : DeviceId) → DeviceFits d → deviceOf (d .session) (d .generation) (d .slot) ≡ d
+device-back d h = rw (low 8 h)
+
+metadata-back : (m : RequestMetadata) → MetadataFits m → metadataOf (metadataTail m []) ≡ m
+unfolding metadataOf
+metadata-back m (d, e, s) =
+    rw (low 8 d, low 8 e, transfer-back (m .«transfer_type»), direction-back (m .direction), setup-back (m .setup) s)
+
+abbrev stateBy : StateWords → RequestState
+stateBy s = stateOf (s .tag) (s .a) (s .b) (s .c) (s .d) (s .e) (s .f)
+
+state-back : (s : RequestState) → StateFits s → stateBy (stateWords s) ≡ s
+state-back (state.Pending cancel late) h = rw (flag-back cancel, flag-back late)
+state-back (state.Completed actual code cancel) h = rw (low 32 h, flag-back cancel)
+state-back (state.Failed e code quiescent) (h, k) = rw (error-back e h, u32-back code k, flag-back quiescent)
+state-back state.Aborted h = refl
+
+-- ---- and what an answer's words say is the answer
+refused-back : (r : Refusal) → ErrorFits (r .error) → readAnswer (refusalWords r) ≡ answer.Refused r
+unfolding readAnswer refusalWords _if_else_
+refused-back r h = ap (λ (e : OperationError). answer.Refused (record { number = r .number; error = e })) (error-back (r .error) h)
+
+begun-back : (x : Submission) → MetadataFits (x .metadata) → readAnswer (begunWords x) ≡ answer.Begun x
+unfolding readAnswer begunWords _if_else_
+begun-back x h =
+    let f : RequestMetadata → Bool → Answer = λ m p. answer.Begun (record { id = x .id; row = x .row; metadata = m; «has_packets» = p }) in
+    ap (λ (m : RequestMetadata). f m (flagOf (flagWord (x .«has_packets»)))) (metadata-back (x .metadata) h) ∙ ap (f (x .metadata)) (flag-back (x .«has_packets»))
+
+plan-back : (x : PlanSubmission) → MetadataFits (x .plan .metadata) → readAnswer (planWords x) ≡ answer.PlanBegun x
+unfolding readAnswer planWords _if_else_
+plan-back x h =
+    let p = x .plan in
+    let f : RequestMetadata → Bool → Direction → Direction → ControlProfile → Answer =
+    λ m d a b g.
+    answer.PlanBegun (record { id = x .id; row = x .row; plan = record { metadata = m; «has_data» = d; «data_direction» = a; «status_direction» = b; profile = g } }) in
+    let e1 = metadata-back (p .metadata) h in
+    let e2 = flag-back (p .«has_data») in
+    let e3 = direction-back (p .«data_direction») in
+    let e4 = direction-back (p .«status_direction») in
+    let e5 = profile-back (p .profile) in
+    λ i. f (e1 i) (e2 i) (e3 i) (e4 i) (e5 i)
+
+report-back : (x : RequestReport) → MetadataFits (x .metadata) → StateFits (x .state) → readAnswer (reportWords x) ≡ answer.Report x
+unfolding readAnswer reportWords _if_else_
+report-back x h k =
+    let e1 = metadata-back (x .metadata) h in
+    let e2 = state-back (x .state) k in
+    let e3 = flag-back (x .«logical_cancel») in
+    let e4 = flag-back (x .«timed_out») in
+    λ i. answer.Report (record { id = x .id; metadata = e1 i; state = e2 i; «logical_cancel» = e3 i; «timed_out» = e4 i })
+
+recovering-back : (x : Recovery) → DeviceFits (x .device) → readAnswer (recoveringWords x) ≡ answer.Recovering x
+unfolding readAnswer recoveringWords _if_else_
+recovering-back x h =
+    let e1 = device-back (x .device) h in
+    let e2 = kind-back (x .kind) in
+    λ i. answer.Recovering (record { target = x .target; device = e1 i; endpoint = x .endpoint; kind = e2 i })
+
+recovered-back : (x : AbortReport) → DeviceFits (x .device) → OptionErrorFits (x .error) → readAnswer (recoveredWords x) ≡ answer.Recovered x
+unfolding readAnswer recoveredWords optionErrorOf _if_else_
+recovered-back x h k =
+    let e1 = device-back (x .device) h in
+    let e2 = flag-back (x .«restart_ready») in
+    let e3 = option-error-back (x .error) k in
+    λ i. answer.Recovered (record {
+      target = x .target;
+      device = e1 i;
+      endpoint = x .endpoint;
+      completed = x .completed;
+      aborted = x .aborted;
+      «restart_ready» = e2 i;
+      error = e3 i;
+    })
+
+pub answer-back : (a : Answer) → AnswerFits a → readAnswer (answerWords a) ≡ a
+unfolding readAnswer _if_else_
+answer-back (answer.Refused r) h = refused-back r h
+answer-back answer.Pass h = refl
+answer-back (answer.Begun x) h = begun-back x h
+answer-back (answer.PlanBegun x) h = plan-back x h
+answer-back (answer.Report x) (h, k) = report-back x h k
+answer-back answer.NoReport h = refl
+answer-back (answer.Asked token) h = refl
+answer-back (answer.Number n) h = refl
+answer-back (answer.Bytes p) h = refl
+answer-back (answer.Recovering x) h = recovering-back x h
+answer-back (answer.Recovered x) (h, k) = recovered-back x h k
+
+-- two answers of the same words are the same
+pub answer-told : (a b : Answer) → AnswerFits a → AnswerFits b → answerWords a ≡ answerWords b → a ≡ b
+answer-told a b h k e = sym (answer-back a h) ∙ ap readAnswer e ∙ answer-back b k
+
+-- ---- in `out`
+option-error-many : (o : OptionError) → length (optionErrorWords o) ≡ 5
+unfolding optionErrorWords
+option-error-many error.None = refl
+option-error-many (error.Some e) = refl
+
+words-few : (a : Answer) → length (answerWords a) ≤ answerSize
+unfolding refusalWords begunWords planWords reportWords recoveringWords recoveredWords setupBytes
+words-few (answer.Refused r) = omega arith
+words-few answer.Pass = omega arith
+words-few (answer.Begun x) = omega arith
+words-few (answer.PlanBegun x) = omega arith
+words-few (answer.Report x) = omega arith
+words-few answer.NoReport = omega arith
+words-few (answer.Asked token) = omega arith
+words-few (answer.Number n) = omega arith
+words-few (answer.Bytes p) = omega arith
+words-few (answer.Recovering x) = omega arith
+words-few (answer.Recovered x) = omega (arith, option-error-many (x .error))
+
+-- word i of the first 32: the answer's, and then zeros
+module _ (w out : List ℕ) (few : length w ≤ answerSize) (room : answerSize ≤ length out) (i : ℕ) (below : i < answerSize) where
+  abbrev zeroed : List ℕ
+  zeroed = splice 0 (replicate answerSize 0) out
+
+  zeroed-at : getD zeroed i 0 ≡ 0
+  unfolding splice
+  zeroed-at =
+      List·getD-append (replicate answerSize 0) (drop answerSize out) 0 i (omega (arith, length-replicate {A = ℕ} answerSize 0))
+      ∙ getD-replicate answerSize i 0 0 below
+
+  put-all : splice 0 w zeroed ≡ written w out
+  unfolding written
+  put-all = passes (List ℕ) _ _ _ _ (le-ltb _ _ room) (passes (List ℕ) _ _ _ _ (le-ltb _ _ few) refl)
+
+  own-at : i < length w → getD (splice 0 w zeroed) i 0 ≡ getD w i 0
+  unfolding splice
+  own-at h = List·getD-append w (drop (0 + length w) zeroed) 0 i h
+
+  zero-at : length w ≤ i → getD (splice 0 w zeroed) i 0 ≡ getD w i 0
+  unfolding splice
+  zero-at h =
+      let k = i - length w in
+      let e : length w + k ≡ i = omega arith in
+      let d : 0 + length w + k ≡ i = omega arith in
+      ap (λ (j : ℕ). getD (w ++ drop (0 + length w) zeroed) j 0) (sym e) ∙ getD-append-add w (drop (0 + length w) zeroed) k 0
+      ∙ getD-drop (0 + length w) zeroed k 0 ∙ ap (λ (j : ℕ). getD zeroed j 0) d ∙ zeroed-at ∙ sym (List·getD-eq-default w 0 h)
+
+  written-at : getD (take answerSize (written w out)) i 0 ≡ getD w i 0
+  written-at =
+      getD-take answerSize (written w out) i 0 below ∙ ap (λ (l : List ℕ). getD l i 0) (sym put-all) ∙ ⊎-elim zero-at own-at (le-or-lt (length w) i)
+
+-- an answer is read from the first 32 words
+reads-first : (w : List ℕ) → readAnswer w ≡ readAnswer (tab (λ (k : ℕ). getD w k 0) answerSize)
+unfolding readAnswer
+reads-first w = refl
+
+pub out-told : (a : Answer) (out : List ℕ) → AnswerFits a → answerSize ≤ length out → readAnswer (take answerSize (written (answerWords a) out)) ≡ a
+out-told a out h room =
+    let w = answerWords a in
+    let l = take answerSize (written w out) in
+    reads-first l
+    ∙ ap readAnswer (tab-same (λ (k : ℕ). getD w k 0) (λ (k : ℕ). getD l k 0) answerSize (λ j below. written-at w out (words-few a) room j below))
+    ∙ sym (reads-first w) ∙ answer-back a h

@@ -1,0 +1,131 @@
+-- What an answer's words say, and the answers that they tell whole: those with every number in the range of its type. Assumes nothing.
+use Prim.Native.Nat.{ℕ, _+_, _<_, _^_}
+use mathlib.Core.Bool.{cond}
+use mathlib.Core.List.{List}
+use lib.Dec.{eqb}
+use lib.IntN.{ℤ, pos, negsuc}
+use lib.ListN.{getD}
+use Rattle.chain.specs.Chain.{_if_else_}
+use Rattle.words.specs.Records.{tab}
+use Rattle.words.specs.Words.{flagOf}
+use Rattle.words.specs.declared.OptionI32.{OptionI32}
+use Rattle.words.specs.declared.OptionI32.the-variants as i32
+use Rattle.words.specs.declared.OptionU32.{OptionU32}
+use Rattle.words.specs.declared.OptionU32.the-variants as u32
+use Rattle.models.specs.Codes.{directionOf}
+use Rattle.models.specs.declared.ControlProfile.{ControlProfile}
+use Rattle.models.specs.declared.ControlProfile.the-variants as profile
+use Rattle.models.specs.declared.DeviceId.{DeviceId}
+use Rattle.models.specs.declared.OperationError.{OperationError}
+use Rattle.models.specs.declared.OptionError.{OptionError}
+use Rattle.models.specs.declared.OptionError.the-variants as error
+use Rattle.models.specs.declared.OptionSetup.{OptionSetup}
+use Rattle.models.specs.declared.OptionSetup.the-variants as setup
+use Rattle.models.specs.declared.RequestMetadata.{RequestMetadata}
+use Rattle.models.specs.declared.RequestState.{RequestState}
+use Rattle.models.specs.declared.RequestState.the-variants as state
+use Rattle.rows.specs.Codec.{metadataOf, errorOf, stateOf}
+use Rattle.session_words.specs.State.{idAt, deviceAt, kindOf}
+use Rattle.calls.specs.declared.Answer.{Answer}
+use Rattle.calls.specs.declared.Answer.the-variants as answer
+
+-- the n words from `at` on; a word that is missing is 0
+abbrev pub wordsFrom : List ℕ → ℕ → ℕ → List ℕ
+wordsFrom w at n = tab (λ (k : ℕ). getD w (at + k) 0) n
+
+abbrev pub profileOf : ℕ → ControlProfile
+profileOf w = cond (eqb w 0) profile.Compliant profile.DeviceCompatibility
+
+-- a flag, then the error
+unfoldable pub optionErrorOf : List ℕ → OptionError
+optionErrorOf w = cond (eqb (getD w 0 0) 0) error.None (error.Some (errorOf (getD w 1 0) (getD w 2 0) (getD w 3 0) (getD w 4 0)))
+
+-- by the tag in word 0
+unfoldable pub readAnswer : List ℕ → Answer
+readAnswer w =
+    answer.Refused (record { number = getD w 1 0; error = errorOf (getD w 2 0) (getD w 3 0) (getD w 4 0) (getD w 5 0) }) if eqb (getD w 0 0) 0 else
+    answer.Pass if eqb (getD w 0 0) 1 else
+    answer.Begun (record { id = idAt w 1; row = getD w 4 0; metadata = metadataOf (wordsFrom w 5 13); «has_packets» = flagOf (getD w 18 0) })
+    if eqb (getD w 0 0) 2 else
+    answer.PlanBegun (record {
+      id = idAt w 1;
+      row = getD w 4 0;
+      plan = record {
+        metadata = metadataOf (wordsFrom w 5 13);
+        «has_data» = flagOf (getD w 18 0);
+        «data_direction» = directionOf (getD w 19 0);
+        «status_direction» = directionOf (getD w 20 0);
+        profile = profileOf (getD w 21 0);
+      };
+    }) if eqb (getD w 0 0) 3 else
+    answer.Report (record {
+      id = idAt w 1;
+      metadata = metadataOf (wordsFrom w 4 13);
+      state = stateOf (getD w 17 0) (getD w 18 0) (getD w 19 0) (getD w 20 0) (getD w 21 0) (getD w 22 0) (getD w 23 0);
+      «logical_cancel» = flagOf (getD w 24 0);
+      «timed_out» = flagOf (getD w 25 0);
+    }) if eqb (getD w 0 0) 4 else
+    answer.NoReport if eqb (getD w 0 0) 5 else
+    answer.Asked (getD w 1 0) if eqb (getD w 0 0) 6 else
+    answer.Number (getD w 1 0) if eqb (getD w 0 0) 7 else
+    answer.Bytes (record { start = getD w 1 0; length = getD w 2 0 }) if eqb (getD w 0 0) 8 else
+    answer.Recovering (record { target = idAt w 1; device = deviceAt w 4; endpoint = getD w 7 0; kind = kindOf (getD w 8 0) }) if eqb (getD w 0 0) 9 else
+    answer.Recovered (record {
+      target = idAt w 1;
+      device = deviceAt w 4;
+      endpoint = getD w 7 0;
+      completed = getD w 8 0;
+      aborted = getD w 9 0;
+      «restart_ready» = flagOf (getD w 10 0);
+      error = optionErrorOf (wordsFrom w 11 5);
+    })
+
+-- ---- in the range of its type
+abbrev pub IsI32 : ℤ → Type 0
+IsI32 (pos n) = n < 2 ^ 31
+IsI32 (negsuc n) = n < 2 ^ 31
+
+abbrev pub I32Fits : OptionI32 → Type 0
+I32Fits i32.None = Unit {0}
+I32Fits (i32.Some v) = IsI32 v
+
+abbrev pub U32Fits : OptionU32 → Type 0
+U32Fits u32.None = Unit {0}
+U32Fits (u32.Some v) = v < 2 ^ 32
+
+abbrev pub ErrorFits : OperationError → Type 0
+ErrorFits e = (e .message < 2 ^ 16) × I32Fits (e .«os_code») × U32Fits (e .«completion_code»)
+
+abbrev pub OptionErrorFits : OptionError → Type 0
+OptionErrorFits error.None = Unit {0}
+OptionErrorFits (error.Some e) = ErrorFits e
+
+abbrev pub DeviceFits : DeviceId → Type 0
+DeviceFits d = d .slot < 2 ^ 8
+
+abbrev pub SetupFits : OptionSetup → Type 0
+SetupFits setup.None = Unit {0}
+SetupFits (setup.Some p) =
+    (p .«request_type» < 2 ^ 8) × (p .request < 2 ^ 8) × (p .value < 2 ^ 16) × (p .index < 2 ^ 16) × (p .length < 2 ^ 16)
+
+abbrev pub MetadataFits : RequestMetadata → Type 0
+MetadataFits m = DeviceFits (m .device) × (m .endpoint < 2 ^ 8) × SetupFits (m .setup)
+
+abbrev pub StateFits : RequestState → Type 0
+StateFits (state.Pending cancel late) = Unit {0}
+StateFits (state.Completed actual code cancel) = code < 2 ^ 32
+StateFits (state.Failed e code quiescent) = ErrorFits e × U32Fits code
+StateFits state.Aborted = Unit {0}
+
+abbrev pub AnswerFits : Answer → Type 0
+AnswerFits (answer.Refused r) = ErrorFits (r .error)
+AnswerFits answer.Pass = Unit {0}
+AnswerFits (answer.Begun x) = MetadataFits (x .metadata)
+AnswerFits (answer.PlanBegun x) = MetadataFits (x .plan .metadata)
+AnswerFits (answer.Report x) = MetadataFits (x .metadata) × StateFits (x .state)
+AnswerFits answer.NoReport = Unit {0}
+AnswerFits (answer.Asked token) = Unit {0}
+AnswerFits (answer.Number n) = Unit {0}
+AnswerFits (answer.Bytes p) = Unit {0}
+AnswerFits (answer.Recovering x) = DeviceFits (x .device)
+AnswerFits (answer.Recovered x) = DeviceFits (x .device) × OptionErrorFits (x .error)
