@@ -16,7 +16,6 @@ use Rattle.models.specs.declared.RequestState.the-variants.{Pending, Completed,
 use Rattle.rows.specs.declared.Row.{Row}
 use Rattle.rows.specs.declared.codec.SetupWords.{SetupWords}
 use Rattle.rows.specs.declared.codec.StateWords.{StateWords}
-use Rattle.rows.specs.declared.codec.KindWords.{KindWords}
 use Rattle.rows.specs.declared.codec.StatusWords.{StatusWords}
 
 abbrev pub setupOf : ℕ → ℕ → ℕ → ℕ → ℕ → ℕ → OptionSetup
@@ -70,8 +69,14 @@ stateWords (Completed actual code cancel) = shortWords 1 actual code (flagWord c
 stateWords (Failed x code quiescent) = failedWords x code quiescent
 stateWords Aborted = shortWords 3 0 0 0
 
--- a row's state by its words; kinds: 1 Pending, 2 Completed, 3 Failed and not quiescent, 4 Failed and quiescent, 6 Aborted. A kind is odd
--- where the row is held. Of the other words 0 says what 1 says, an odd one what 3 says, an even one what 6 says.
+-- the kind of a row's state, odd where the row is held: 1 Pending, 2 Completed, 3 Failed and not quiescent, 4 Failed and quiescent, 6 Aborted
+abbrev pub kindWord : RequestState → ℕ
+kindWord (Pending cancel late) = 1
+kindWord (Completed actual code cancel) = 2
+kindWord (Failed x code quiescent) = cond quiescent 4 3
+kindWord Aborted = 6
+
+-- a row's state by its kind and its words. Of the other kinds 0 says what 1 says, an odd one what 3 says, an even one what 6 says
 abbrev pub kindOf : ℕ → ℕ → ℕ → ℕ → ℕ → ℕ → RequestState
 kindOf k a b d e f =
     cond (ltb k 2) (Pending (flagOf a) (flagOf b))
@@ -80,27 +85,8 @@ kindOf k a b d e f =
     (cond (eqb k 4) (Failed (errorOf a b d e) (optionU32Of f) true)
     Aborted)))
 
-abbrev pub shortKind : ℕ → ℕ → ℕ → ℕ → KindWords
-shortKind kind a b d = record { kind = kind; a = a; b = b; d = d; e = 0; f = 0 }
-
-abbrev pub failedKind : OperationError → OptionU32 → Bool → KindWords
-failedKind x code quiescent = record {
-  kind = cond quiescent 4 3;
-  a = categoryWord (x .category);
-  b = x .message;
-  d = optionI32Word (x .«os_code»);
-  e = optionU32Word (x .«completion_code»);
-  f = optionU32Word code;
-}
-
-abbrev pub kindWords : RequestState → KindWords
-kindWords (Pending cancel late) = shortKind 1 (flagWord cancel) (flagWord late) 0
-kindWords (Completed actual code cancel) = shortKind 2 actual code (flagWord cancel)
-kindWords (Failed x code quiescent) = failedKind x code quiescent
-kindWords Aborted = shortKind 6 0 0 0
-
--- a row's status: 0 where it is free, else the kind of its state. What a free row keeps of its state's kind (0: Pending) is a word of
--- its record, `rest`, which is 0 in a row that is used
+-- a row's status: 0 where it is free, else the kind of its state. A free row keeps the kind (0: Pending) in a word of its record, `rest`,
+-- which is 0 in a row that is used
 abbrev pub kindBy : ℕ → ℕ → ℕ
 kindBy status rest = cond (eqb status 0) rest status
 
@@ -110,11 +96,20 @@ statusOf used kind = cond used kind 0
 abbrev pub restOf : Bool → ℕ → ℕ
 restOf used kind = cond used 0 (cond (eqb kind 1) 0 kind)
 
-abbrev pub statusBy : Bool → KindWords → StatusWords
-statusBy used k = record { status = statusOf used (k .kind); rest = restOf used (k .kind); a = k .a; b = k .b; d = k .d; e = k .e; f = k .f }
+-- a row's words of a state are a report's, without the tag and the third, which a Completed state has as its fourth
+abbrev pub statusBy : Bool → ℕ → StateWords → StatusWords
+statusBy used kind w = record {
+  status = statusOf used kind;
+  rest = restOf used kind;
+  a = w .a;
+  b = w .b;
+  d = cond (eqb kind 2) (w .c) (w .d);
+  e = w .e;
+  f = w .f;
+}
 
 abbrev pub statusWords : Bool → RequestState → StatusWords
-statusWords used s = statusBy used (kindWords s)
+statusWords used s = statusBy used (kindWord s) (stateWords s)
 
 -- a row's words: the two that stand in columns (sequence, status), then its record
 unfoldable pub rowOf : List ℕ → Row

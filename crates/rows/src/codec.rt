@@ -15,11 +15,11 @@ ghost use mathlib.Core.Bool.{cond};
 ghost use lib.Dec.{eqb};
 ghost use lib.ListN.{length};
 ghost use Rattle.words.specs.Words.{flagOf, optionU32Of};
-ghost use Rattle.rows.specs.Codec.{setupOf, setupWords, metadataOf, stateOf, shortWords, failedWords, stateWords, errorOf, kindOf, shortKind, failedKind, kindWords, kindBy, statusBy, statusWords, rowOf, recordOf};
+ghost use Rattle.rows.specs.Codec.{setupOf, setupWords, metadataOf, stateOf, shortWords, failedWords, stateWords, errorOf, kindWord, kindOf, kindBy, statusBy, statusWords, rowOf, recordOf};
 ghost use Rattle.models.specs.declared.RequestState.the-variants as RequestState;
 
 // The kinds of a row's state: odd, where the row is held.
-const PENDING: u64 = 1;
+pub(crate) const PENDING: u64 = 1;
 
 const COMPLETED: u64 = 2;
 
@@ -50,17 +50,8 @@ pub struct StateWords {
     pub f: u64,
 }
 
-// The words of a row's state. What a to f hold depends on the kind.
-struct KindWords {
-    kind: u64,
-    a: u64,
-    b: u64,
-    d: u64,
-    e: u64,
-    f: u64,
-}
-
-// The words of a row's state with its status: 0 where the row is free, else the kind. `rest` is what a free row keeps of the kind.
+// The words of a row's state with its status: 0 where the row is free, else the kind. `rest` is what a free row keeps of the kind; what a to f
+// hold depends on the kind.
 pub struct StatusWords {
     pub status: u64,
     pub rest: u64,
@@ -201,71 +192,31 @@ pub fn state_words(s: RequestState) -> StateWords
     }
 }
 
-// Of a state that needs three words beside its kind.
-fn short_kind(kind: u64, a: u64, b: u64, d: u64) -> KindWords
-    ensures { λ r. ⌜ r ≡ shortKind kind a b d ⌝ }
-{
-    KindWords {
-        kind,
-        a,
-        b,
-        d,
-        e: 0,
-        f: 0,
-    }
-}
-
-fn failed_kind(error: OperationError, code: OptionU32, quiescent: bool) -> KindWords
-    ensures { λ r. ⌜ (kindOf (r .kind) (r .a) (r .b) (r .d) (r .e) (r .f) ≡ RequestState.Failed error code quiescent) × (r ≡ failedKind error code quiescent) ⌝ }
-{
-    let category = error.category;
-    let os_code = error.os_code;
-    let inner = error.completion_code;
-    KindWords {
-        kind: failed_word(quiescent),
-        a: codes::category_word(category),
-        b: error.message as u64,
-        d: words::option_i32_word(os_code),
-        e: words::option_u32_word(inner),
-        f: words::option_u32_word(code),
-    }
-}
-
-fn failed_word(quiescent: bool) -> u64
+fn failed_kind(quiescent: bool) -> u64
     ensures { λ r. ⌜ r ≡ cond quiescent 4 3 ⌝ }
 {
     if quiescent { QUIESCENT } else { UNCERTAIN }
 }
 
-fn kind_words(s: RequestState) -> KindWords
-    ensures { λ r. ⌜ (kindOf (r .kind) (r .a) (r .b) (r .d) (r .e) (r .f) ≡ s) × (r ≡ kindWords s) ⌝ }
+fn kind_word(s: RequestState) -> u64
+    ensures { λ r. ⌜ r ≡ kindWord s ⌝ }
 {
     match s {
         RequestState::Pending {
-            logical_cancel,
-            timed_out,
-        } => short_kind(
-            PENDING,
-            words::flag_word(logical_cancel),
-            words::flag_word(timed_out),
-            0,
-        ),
+            logical_cancel: _,
+            timed_out: _,
+        } => PENDING,
         RequestState::Completed {
-            actual_length,
-            completion_code,
-            logical_cancel,
-        } => short_kind(
-            COMPLETED,
-            actual_length,
-            completion_code as u64,
-            words::flag_word(logical_cancel),
-        ),
+            actual_length: _,
+            completion_code: _,
+            logical_cancel: _,
+        } => COMPLETED,
         RequestState::Failed {
-            error,
-            completion_code,
+            error: _,
+            completion_code: _,
             quiescent,
-        } => failed_kind(error, completion_code, quiescent),
-        RequestState::Aborted => short_kind(ABORTED, 0, 0, 0),
+        } => failed_kind(quiescent),
+        RequestState::Aborted => ABORTED,
     }
 }
 
@@ -325,36 +276,48 @@ fn rest_of(kind: u64) -> u64
     kind
 }
 
-fn status_by(used: bool, k: KindWords) -> StatusWords
-    ensures { λ r. ⌜ r ≡ statusBy used k ⌝ }
+// The fourth word of a row's state.
+fn fourth(kind: u64, c: u64, d: u64) -> u64
+    ensures { λ r. ⌜ r ≡ cond (eqb kind 2) c d ⌝ }
 {
+    if kind == COMPLETED {
+        return c;
+    }
+    d
+}
+
+fn status_by(used: bool, kind: u64, w: StateWords) -> StatusWords
+    ensures { λ r. ⌜ r ≡ statusBy used kind w ⌝ }
+{
+    let d = fourth(kind, w.c, w.d);
     if used {
         return StatusWords {
-            status: k.kind,
+            status: kind,
             rest: 0,
-            a: k.a,
-            b: k.b,
-            d: k.d,
-            e: k.e,
-            f: k.f,
+            a: w.a,
+            b: w.b,
+            d,
+            e: w.e,
+            f: w.f,
         };
     }
     StatusWords {
         status: 0,
-        rest: rest_of(k.kind),
-        a: k.a,
-        b: k.b,
-        d: k.d,
-        e: k.e,
-        f: k.f,
+        rest: rest_of(kind),
+        a: w.a,
+        b: w.b,
+        d,
+        e: w.e,
+        f: w.f,
     }
 }
 
 pub(crate) fn status_words(used: bool, s: RequestState) -> StatusWords
     ensures { λ r. ⌜ (flagOf (r .status) ≡ used) × (kindOf (kindBy (r .status) (r .rest)) (r .a) (r .b) (r .d) (r .e) (r .f) ≡ s) × (r ≡ statusWords used s) ⌝ }
 {
-    let k = kind_words(s);
-    status_by(used, k)
+    let w = state_words(s);
+    let kind = kind_word(s);
+    status_by(used, kind, w)
 }
 
 fn kind_by(status: u64, rest: u64) -> u64

@@ -4,6 +4,7 @@ use crate::RECORD_WORDS;
 use crate::ROW_WORDS;
 use crate::SEQUENCE;
 use crate::STATUS;
+use crate::codec::PENDING;
 use models::DeviceId;
 use models::RequestId;
 ghost use mathlib.Core.Path.{_≡_};
@@ -143,7 +144,7 @@ pub fn uncertain_at(rows: &[u64], i: usize) -> bool
     ensures { λ r. ⌜ r ≡ isUncertain (rowAt (now (rows .entry)) i) ⌝ }
 {
     let status = column(rows, i, STATUS);
-    (status % 2 == 1) & (status != 1)
+    (status % 2 == 1) & (status != PENDING)
 }
 
 // The controller may still write to the row's bytes.
