@@ -38,7 +38,7 @@ fn port_index(number: u8) -> usize
     }
 }
 
-pub fn read_port(bus: &[u64], number: u8) -> PortRow
+fn read_port(bus: &[u64], number: u8) -> PortRow
     requires { ⌜ length (now bus) ≡ busWords ⌝ }
     ensures { λ r. ⌜ r ≡ portAt (busOf (now (bus .entry))) number ⌝ }
 {
@@ -50,7 +50,7 @@ pub fn read_port(bus: &[u64], number: u8) -> PortRow
     }
 }
 
-pub fn write_port(bus: &mut [u64], number: u8, row: PortRow)
+fn write_port(bus: &mut [u64], number: u8, row: PortRow)
     requires { ⌜ length (now bus) ≡ busWords ⌝ }
     ensures { λ _. ⌜ busOf (now (bus .exit)) ≡ putPort (busOf (now (bus .entry))) number row ⌝ }
 {
@@ -119,7 +119,7 @@ fn validate_row(ports: OptionPorts, id: PortId, row: PortRow) -> PortChecked
 }
 
 // 29, 30, 31, 32.
-pub fn validate(bus: &[u64], ports: OptionPorts, id: PortId) -> PortChecked
+fn validate(bus: &[u64], ports: OptionPorts, id: PortId) -> PortChecked
     requires { ⌜ length (now bus) ≡ busWords ⌝ }
     ensures { λ r. ⌜ r ≡ validated ports id (busOf (now (bus .entry))) ⌝ }
 {
@@ -147,7 +147,7 @@ fn raise(row: PortRow, raw: u32) -> Observed
 }
 
 // A reading whose connected bit differs from the row's raises the generation.
-pub fn observe_row(row: PortRow, raw: u32) -> Observed
+fn observe_row(row: PortRow, raw: u32) -> Observed
     ensures { λ r. ⌜ r ≡ observedRow row raw ⌝ }
 {
     let next = PortRow {
@@ -165,7 +165,7 @@ pub fn observe_row(row: PortRow, raw: u32) -> Observed
 }
 
 // Observes a port, and writes its row unless 34.
-pub fn observe(bus: &mut [u64], number: u8, raw: u32) -> Observed
+fn observe(bus: &mut [u64], number: u8, raw: u32) -> Observed
     requires { ⌜ length (now bus) ≡ busWords ⌝ }
     ensures { λ r. ⌜ observedTo r (busOf (now (bus .exit))) ≡ observePort number raw (busOf (now (bus .entry))) ⌝ }
 {

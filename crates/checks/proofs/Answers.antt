@@ -1,4 +1,4 @@
--- Laws of the callers of a verdict: a refusal is passed on, and a pass is answered with what is ready. Assumes nothing.
+-- Laws of the callers of a verdict (a refusal is passed on, a pass is answered with what is ready), and of the status of a Compliant plan. Assumes nothing.
 use Prim.Native.Nat.{ℕ}
 use mathlib.Core.Bool.{Bool, true, false, cond, not, _&&_, Bool·beq}
 use mathlib.Core.Path.{_≡_, refl, ap, sym, _∙_}

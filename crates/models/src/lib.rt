@@ -4,7 +4,7 @@ use words::OptionI32;
 use words::OptionU32;
 use words::OptionU64;
 ghost use mathlib.Core.Path.{_≡_};
-ghost use Rattle.models.specs.Requests.{deviceMayAccess, isPending, isUncertainFailure, sameRequest, sameDevice, requestBefore};
+ghost use Rattle.models.specs.Requests.{deviceMayAccess, isPending, sameRequest, sameDevice, requestBefore};
 ghost use Rattle.models.specs.Refusals.{ownError, tableCategory, refusalOf, rejected, fromBackend, invalidCompletion};
 
 pub mod codes;
@@ -258,29 +258,6 @@ pub fn is_pending(state: RequestState) -> bool
             completion_code: _,
             quiescent: _,
         } => false,
-        RequestState::Aborted => false,
-    }
-}
-
-// Failed, and not known to be quiescent.
-pub fn is_uncertain_failure(state: RequestState) -> bool
-    ensures { λ r. ⌜ r ≡ isUncertainFailure state ⌝ }
-{
-    match state {
-        RequestState::Pending {
-            logical_cancel: _,
-            timed_out: _,
-        } => false,
-        RequestState::Completed {
-            actual_length: _,
-            completion_code: _,
-            logical_cancel: _,
-        } => false,
-        RequestState::Failed {
-            error: _,
-            completion_code: _,
-            quiescent,
-        } => !quiescent,
         RequestState::Aborted => false,
     }
 }

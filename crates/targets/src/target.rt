@@ -91,7 +91,7 @@ fn fresh_device(
 }
 
 // 26 to 35. What was read before a refusal stays written.
-pub fn check_device(
+fn check_device(
     bus: &mut [u64],
     initialized: bool,
     ports: OptionPorts,
@@ -147,7 +147,7 @@ fn check_read(bus: &[u64], port: PortChecked, metadata: RequestMetadata) -> Verd
 }
 
 // 36, the second reading (33, 34, 31), 37, 38.
-pub fn check_endpoint(
+fn check_endpoint(
     bus: &mut [u64],
     ports: OptionPorts,
     device: DeviceSnapshot,
