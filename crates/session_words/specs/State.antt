@@ -6,6 +6,7 @@ use lib.ListN.{getD, length}
 use lib.Dec.{eqb}
 use Rattle.chain.specs.Chain.{_if_else_}
 use Rattle.words.specs.Words.{flagWord, flagOf, optionU64Of, optionU64Words}
+use Rattle.words.specs.declared.OptionU64.{OptionU64}
 use Rattle.words.specs.declared.OptionWords.{OptionWords}
 use Rattle.models.specs.Codes.{controllerOf, controllerWord}
 use Rattle.models.specs.declared.DeviceId.{DeviceId}
@@ -110,9 +111,12 @@ flightWords (flight.Submission id) = idFlight 1 id
 flightWords (flight.Poll id) = idFlight 2 id
 flightWords (flight.Recovery id device endpoint k) = recoveryFlight id device endpoint k
 
--- the ports, the stall and what is in flight of a session's words
+-- the ports, the revision, the stall and what is in flight of a session's words
 abbrev pub portsIn : List ℕ → OptionPorts
 portsIn w = portsOf (getD w 3 0) (getD w 4 0) (getD w 5 0)
+
+abbrev pub revisionIn : List ℕ → OptionU64
+revisionIn w = optionU64Of (getD w 7 0) (getD w 8 0)
 
 abbrev pub stallIn : List ℕ → OptionStall
 stallIn w = stallOf (getD w 9 0) (getD w 10 0) (deviceAt w 11) (getD w 14 0)
@@ -127,7 +131,7 @@ sessionOf w = record {
   «next_sequence» = getD w 2 0;
   ports = portsIn w;
   state = controllerOf (getD w 6 0);
-  «recovery_revision» = optionU64Of (getD w 7 0) (getD w 8 0);
+  «recovery_revision» = revisionIn w;
   «recoverable_stall» = stallIn w;
   «in_flight» = flightIn w;
   «row_count» = getD w 24 0;
@@ -161,6 +165,19 @@ sessionWords s =
 abbrev pub standsAt : List ℕ → ℕ → List ℕ → Bool
 standsAt w at [] = true
 standsAt w at (x ∷ p) = eqb (getD w at 0) x && standsAt w (at + 1) p
+
+-- whether each part that may be missing has the words of what it says
+abbrev pub portsStand : List ℕ → Bool
+portsStand w = standsAt w 3 (portsTail (portsWords (portsIn w)) [])
+
+abbrev pub revisionStands : List ℕ → Bool
+revisionStands w = standsAt w 7 (revisionTail (optionU64Words (revisionIn w)) [])
+
+abbrev pub stallStands : List ℕ → Bool
+stallStands w = standsAt w 9 (stallTail (stallWords (stallIn w)) [])
+
+abbrev pub flightStands : List ℕ → Bool
+flightStands w = standsAt w 15 (flightTail (flightWords (flightIn w)) [])
 
 -- a session's own words: they are those of the session that they say
 unfoldable pub isSession : List ℕ → Bool

@@ -13,9 +13,7 @@ use words::slices;
 use words::slices::word_at;
 ghost use mathlib.Core.Path.{_≡_};
 ghost use mathlib.Core.List.{[], _∷_};
-ghost use Rattle.words.specs.Words.{optionU64Of, optionU64Words};
-ghost use lib.ListN.{getD};
-ghost use Rattle.session_words.specs.State.{deviceAt, idAt, portsOf, portsIn, portsWords, deviceOf, requestOf, stallOf, stallIn, stallWords, kindOf, kindWord, flightOf, flightIn, idFlight, recoveryFlight, flightWords, sessionOf, sessionWords, portsTail, revisionTail, stallTail, flightTail, standsAt, isSession, keptOf, keptAs};
+ghost use Rattle.session_words.specs.State.{deviceAt, idAt, portsOf, portsIn, portsWords, deviceOf, requestOf, stallOf, stallIn, stallWords, kindOf, kindWord, flightOf, flightIn, idFlight, recoveryFlight, flightWords, sessionOf, sessionWords, standsAt, portsStand, revisionStands, stallStands, flightStands, isSession, keptOf, keptAs};
 
 // How many words a session has.
 pub const WORDS: usize = 26;
@@ -296,7 +294,7 @@ pub fn session_words(session: Session) -> [u64; 26]
 }
 
 fn is_ports(w: &[u64]) -> bool
-    ensures { λ r. ⌜ r ≡ standsAt (now (w .entry)) 3 (portsTail (portsWords (portsIn (now (w .entry)))) []) ⌝ }
+    ensures { λ r. ⌜ r ≡ portsStand (now (w .entry)) ⌝ }
 {
     let present = word_at(w, 3);
     let session = word_at(w, 4);
@@ -308,7 +306,7 @@ fn is_ports(w: &[u64]) -> bool
 }
 
 fn is_revision(w: &[u64]) -> bool
-    ensures { λ r. ⌜ r ≡ standsAt (now (w .entry)) 7 (revisionTail (optionU64Words (optionU64Of (getD (now (w .entry)) 7 0) (getD (now (w .entry)) 8 0))) []) ⌝ }
+    ensures { λ r. ⌜ r ≡ revisionStands (now (w .entry)) ⌝ }
 {
     let present = word_at(w, 7);
     let value = word_at(w, 8);
@@ -331,7 +329,7 @@ fn are_five_zeros(w: &[u64], at: u8) -> bool
 }
 
 fn is_stall(w: &[u64]) -> bool
-    ensures { λ r. ⌜ r ≡ standsAt (now (w .entry)) 9 (stallTail (stallWords (stallIn (now (w .entry)))) []) ⌝ }
+    ensures { λ r. ⌜ r ≡ stallStands (now (w .entry)) ⌝ }
 {
     let present = word_at(w, 9);
     if present == 0 {
@@ -344,7 +342,7 @@ fn is_stall(w: &[u64]) -> bool
 
 // A submission and a poll have an id alone.
 fn is_flight(w: &[u64]) -> bool
-    ensures { λ r. ⌜ r ≡ standsAt (now (w .entry)) 15 (flightTail (flightWords (flightIn (now (w .entry)))) []) ⌝ }
+    ensures { λ r. ⌜ r ≡ flightStands (now (w .entry)) ⌝ }
 {
     let tag = word_at(w, 15);
     if tag == 3 {
