@@ -1,3 +1,6 @@
 pub mod Forming
 pub mod Parts
 pub mod Reading
+pub mod PartWords
+pub mod CallWords
+pub mod WordsCall

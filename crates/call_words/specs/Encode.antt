@@ -107,3 +107,25 @@ callWords (Begin b) = beginningWords b
 callWords (Reply r) = replyingWords r
 callWords (Change id c) = changingNumber c ∷ idWords id
 callWords (Read r) = readingCallWords r
+
+-- ---- the bytes lent beside the words
+
+abbrev pub beginningBytes : Beginning → List ℕ
+beginningBytes (Submit q bytes given packets first second) = bytes
+beginningBytes (SubmitPlan p bytes reading) = bytes
+beginningBytes (Poll id) = []
+beginningBytes (Recover id k) = []
+
+abbrev pub replyingBytes : Replying → List ℕ
+replyingBytes (ToSubmit r) = []
+replyingBytes (ToPoll r bytes) = bytes
+replyingBytes (ToRecovery r completed completions aborted bytes) = bytes
+
+abbrev pub callBytes : Call → List ℕ
+callBytes (Open o) = []
+callBytes (Place p) = []
+callBytes (Move m) = []
+callBytes (Begin b) = beginningBytes b
+callBytes (Reply r) = replyingBytes r
+callBytes (Change id c) = []
+callBytes (Read r) = []
