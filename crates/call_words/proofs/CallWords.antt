@@ -4,12 +4,11 @@ use mathlib.Core.Path.{_≡_, refl, sym, ap, _∙_}
 use mathlib.Core.Bool.{Bool, true, false, not, _&&_, false≢true}
 use mathlib.Core.List.{List, [], _∷_, _++_, append-assoc}
 use native.Mathlib.Omega.{arith}
-use lib.Dec.{eqb, leb, ltb}
+use lib.Dec.{eqb, leb}
 use lib.ListN.{length, getD, take, drop, take-append-drop}
 use lib.Seq.{drop-drop}
 use borrow.Author.Tests.{eqb-true, eqb-false, leb-true, leb-false}
 use Rattle.chain.specs.Chain.{_if_else_}
-use Rattle.chain.specs.Lists.{anyIn}
 use Rattle.chain.proofs.Chain.{caseB, both, and3, if-by}
 use Rattle.words.specs.Records.{tab, part}
 use Rattle.words.specs.Words.{flagOf, optionU64Of}
@@ -18,12 +17,13 @@ use Rattle.scope.specs.Returned.{completionWords, readOptionError, readCompleti
 use Rattle.session_words.specs.State.{idAt}
 use Rattle.session.specs.declared.RecoveryKind.the-variants as kind
 use Rattle.calls.specs.Calls.{Call, Open, Place, Device, Port, Endpoints, Reconcile, Move, Acquire, Initialize, Close, Begin, Submit, SubmitPlan, Recover, Reply, ToSubmit, ToPoll, ToRecovery, Change, Cancel, Timeout, Read, Reports, HeldCount, HeldBytes}
-use Rattle.call_words.specs.Parts.{isZero, isFlag, isByte, isOption, isPlace, atMost, areZero, byFlag, zeros, idWords, backendCompletionWords, isOptionNumber, isError, isOptionError, isSetup, isOptionSetup, isReading, readReading, isCompletion, isStage}
-use Rattle.call_words.specs.Form.{has, isOpening, isSetDevice, isSetPort, isSetEndpoints, isSetReconcile, isAcquire, isInitialize, isClose, isSubmit, isPlan, isSubmitReply, isPollReply, isReports, isReset, areCompletions, isRecovered, isRecoveryReply, isPlacing, isMoving, isSubmission, isReplying, isReporting, isRecovering, isCall}
+use Rattle.call_words.specs.Parts.{isZero, isFlag, isByte, areZero, byFlag, zeros, idWords, backendCompletionWords, isError, isOptionError, readReading, isCompletion}
+use Rattle.call_words.specs.Form.{has, isOpening, isSetDevice, isSetPort, isSetEndpoints, isSetReconcile, isAcquire, isInitialize, isClose, isSubmit, isPlan, isSubmitReply, isPollReply, isReports, isReset, isRecovered, isRecoveryReply, isPlacing, isMoving, isSubmission, isReplying, isReporting, isRecovering, isCall}
 use Rattle.call_words.specs.Arguments.{readOpening, readSnapshot, readPortRow, readAcquireReply, readSpec, readPlan, readSubmitReply, readPollReply, readOptionId, readRecoveryReply, readCompleted, readCompletions, readAborted}
 use Rattle.call_words.specs.Decode.{placingOf, movingOf, submissionOf, replyingOf, changingOf, reportingOf, recoveringOf, callOf}
 use Rattle.call_words.specs.Encode.{recoveryReplyWords, callWords}
-use Rattle.call_words.proofs.PartWords.{word, from, cut, whole, and4, and5, by-flag, zeros-words, flag-word, transfer-word, direction-word, device-state-word, profile-word, status-word, byte-word, option-u32-word, number-words, error-words, setup-words, option-error-words, option-setup-words, reading-words, stage-words, ports-words, completion-words}
+use Rattle.call_words.proofs.Told.{and4, opening-told, device-told, port-told, endpoints-told, reconcile-told, acquire-told, initialize-told, close-told, submit-reply-told, reports-told, reset-told, recovery-reply-told, submit-told, plan-told}
+use Rattle.call_words.proofs.PartWords.{word, from, cut, whole, by-flag, zeros-words, flag-word, transfer-word, direction-word, device-state-word, profile-word, status-word, byte-word, option-u32-word, number-words, error-words, setup-words, option-error-words, option-setup-words, reading-words, stage-words, ports-words, completion-words}
 
 -- the way that two chains with the same tests take
 pub same-way : {A : Type 0} (P : A → Type 0) (b : Bool) {x y : Bool} {u v : A} → (b ≡ true → x ≡ true → P u) → (b ≡ false → y ≡ true → P v)
@@ -52,55 +52,55 @@ module _ (w : List ℕ) where
   after at = from (word w) at
 
   opening-says : getD w 0 0 ≡ 0 → isOpening w ≡ true → Says (Open (readOpening w))
-  unfolding isOpening readOpening callWords
+  unfolding readOpening callWords
   opening-says e t =
-      let p = and3 (has w 9) (isOptionNumber w 3) (byFlag (getD w 5 0) (isZero w 6) (isByte w 6)) t in
+      let p = opening-told w t in
       let q = ports-words (after 5) (p .2) in
       rw (number-words (after 3) (p .1), q .0, q .1) (all 8 0 (p .0) e)
 
   device-says : getD w 0 0 ≡ 1 → isSetDevice w ≡ true → Says (Place (Device (readSnapshot w)))
-  unfolding isSetDevice readSnapshot callWords
+  unfolding readSnapshot callWords
   device-says e t =
-      let p = and4 (has w 8) (isPlace w 1) (isPlace w 4) (atMost w 7 6) t in
+      let p = device-told w t in
       rw (byte 3 (p .1), byte 6 (p .2), device-state-word (getD w 7 0) (p .3)) (all 7 1 (p .0) e)
 
   port-says : getD w 0 0 ≡ 2 → isSetPort w ≡ true → Says (Place (Port (getD w 1 0 % 2 ^ 8) (readPortRow w)))
-  unfolding isSetPort readPortRow callWords
+  unfolding readPortRow callWords
   port-says e t =
-      let p = and3 (has w 4) (isByte w 1) (isOption w 3) t in
+      let p = port-told w t in
       rw (byte 1 (p .1), option-u32-word (getD w 3 0) (p .2)) (all 3 2 (p .0) e)
 
   endpoints-says : getD w 0 0 ≡ 3 → isSetEndpoints w ≡ true → Says (Place (Endpoints (getD w 1 0 % 2 ^ 8) (drop 2 w)))
-  unfolding isSetEndpoints callWords
+  unfolding callWords
   endpoints-says e t =
-      let p = and3 (leb 2 (length w)) (isByte w 1) (not (anyIn (ltb 1023) w)) t in
+      let p = endpoints-told w t in
       rw (byte 1 (p .1)) (rw e at (cut w 2 (leb-true 2 (length w) (p .0))))
 
   reconcile-says : getD w 0 0 ≡ 4 → isSetReconcile w ≡ true → Says (Place (Reconcile (getD w 1 0 % 2 ^ 8) (flagOf (getD w 2 0))))
-  unfolding isSetReconcile callWords
+  unfolding callWords
   reconcile-says e t =
-      let p = and3 (has w 3) (isByte w 1) (isFlag w 2) t in
+      let p = reconcile-told w t in
       rw (byte 1 (p .1), flag-word (getD w 2 0) (p .2)) (all 2 4 (p .0) e)
 
   acquire-says : getD w 0 0 ≡ 5 → isAcquire w ≡ true → Says (Move (Acquire (readAcquireReply w)))
-  unfolding isAcquire readAcquireReply callWords
+  unfolding readAcquireReply callWords
   acquire-says e t =
-      let p = both (has w 7) (byFlag (getD w 1 0) (areZero w 2 5) (isFlag w 2 && isError w 3)) t in
+      let p = acquire-told w t in
       let h = all 6 5 (p .0) e in
       by-flag (getD w 1 0) (areZero w 2 5) (isFlag w 2 && isError w 3) (p .1)
       (λ k z. rw k (rw (k, zeros-words (after 2) 5 z) at h))
       (λ k z. let q = both (isFlag w 2) (isError w 3) z in rw (k, flag-word (getD w 2 0) (q .0), error-words (after 3) (q .1)) (rw k at h))
 
   initialize-says : getD w 0 0 ≡ 6 → isInitialize w ≡ true → Says (Move (Initialize (readOptionError w 1)))
-  unfolding isInitialize callWords
+  unfolding callWords
   initialize-says e t =
-      let p = both (has w 6) (isOptionError w 1) t in
+      let p = initialize-told w t in
       rw (option-error-words (after 1) (p .1)) (all 5 6 (p .0) e)
 
   close-says : getD w 0 0 ≡ 7 → isClose w ≡ true → Says (Move (Close (optionU64Of (getD w 1 0) (getD w 2 0)) (readOptionError w 3)))
-  unfolding isClose callWords
+  unfolding callWords
   close-says e t =
-      let p = and3 (has w 8) (isOptionNumber w 1) (isOptionError w 3) t in
+      let p = close-told w t in
       rw (number-words (after 1) (p .1), option-error-words (after 3) (p .2)) (all 7 7 (p .0) e)
 
   -- packets not given are none
@@ -112,50 +112,45 @@ module _ (w : List ℕ) where
 
   submit-says : (bytes : List ℕ) → getD w 0 0 ≡ 8 → isSubmit w ≡ true
       → Says (Begin (Submit (readSpec w) bytes (flagOf (getD w 26 0)) (drop 27 w) (readReading w 14) (readReading w 20)))
-  unfolding isSubmit readSpec callWords
+  unfolding readSpec callWords
   submit-says bytes e t =
-      let p = and3 (isPlace w 1 && isByte w 4 && atMost w 5 3 && isFlag w 6 && isOptionSetup w 8) (isReading w 14 && isReading w 20)
-      (byFlag (getD w 26 0) (has w 27) (leb 27 (length w))) t in
-      let q = and5 (isPlace w 1) (isByte w 4) (atMost w 5 3) (isFlag w 6) (isOptionSetup w 8) (p .0) in
-      let r = both (isReading w 14) (isReading w 20) (p .1) in
-      let g = packets (p .2) in
+      let p = submit-told w t in
+      let g = packets (p .7) in
       rw (
-        byte 3 (q .0),
-        byte 4 (q .1),
-        transfer-word (getD w 5 0) (q .2),
-        direction-word (getD w 6 0) (q .3),
-        option-setup-words (after 8) (q .4),
-        reading-words (after 14) (r .0),
-        reading-words (after 20) (r .1),
+        byte 3 (p .0),
+        byte 4 (p .1),
+        transfer-word (getD w 5 0) (p .2),
+        direction-word (getD w 6 0) (p .3),
+        option-setup-words (after 8) (p .4),
+        reading-words (after 14) (p .5),
+        reading-words (after 20) (p .6),
         flag-word (getD w 26 0) (g .1),
       )
       (rw e at (cut w 27 (g .0)))
 
   plan-says : (bytes : List ℕ) → getD w 0 0 ≡ 9 → isPlan w ≡ true → Says (Begin (SubmitPlan (readPlan w) bytes (readReading w 14)))
-  unfolding isPlan readPlan callWords
+  unfolding readPlan callWords
   plan-says bytes e t =
-      let p = both (has w 20 && isPlace w 1 && isFlag w 4 && isSetup w 5) (isStage w 10 && atMost w 13 2 && isReading w 14) t in
-      let q = and4 (has w 20) (isPlace w 1) (isFlag w 4) (isSetup w 5) (p .0) in
-      let r = and3 (isStage w 10) (atMost w 13 2) (isReading w 14) (p .1) in
-      let u = setup-words (after 5) (q .3) in
+      let p = plan-told w t in
+      let u = setup-words (after 5) (p .3) in
       rw (
-        byte 3 (q .1),
-        profile-word (getD w 4 0) (q .2),
+        byte 3 (p .1),
+        profile-word (getD w 4 0) (p .2),
         u .0,
         u .1,
         u .2,
         u .3,
         u .4,
-        stage-words (after 10) (r .0),
-        status-word (getD w 13 0) (r .1),
-        reading-words (after 14) (r .2),
+        stage-words (after 10) (p .4),
+        status-word (getD w 13 0) (p .5),
+        reading-words (after 14) (p .6),
       )
-      (all 19 9 (q .0) e)
+      (all 19 9 (p .0) e)
 
   submit-reply-says : getD w 0 0 ≡ 10 → isSubmitReply w ≡ true → Says (Reply (ToSubmit (readSubmitReply w)))
-  unfolding isSubmitReply readSubmitReply callWords
+  unfolding readSubmitReply callWords
   submit-reply-says e t =
-      let p = both (has w 7) (byFlag (getD w 1 0) (areZero w 3 4) (isZero w 2 && isError w 3)) t in
+      let p = submit-reply-told w t in
       let h = all 6 10 (p .0) e in
       by-flag (getD w 1 0) (areZero w 3 4) (isZero w 2 && isError w 3) (p .1)
       (λ k z. rw k (rw (k, zeros-words (after 3) 4 z) at h))
@@ -186,15 +181,15 @@ module _ (w : List ℕ) where
       ∙ polled 2 (eqb-true (getD w 1 0) 2 (p .1)) (p .0) e)))
 
   reports-says : getD w 0 0 ≡ 17 → isReports w ≡ true → Says (Read (Reports (readOptionId w)))
-  unfolding isReports readOptionId callWords
+  unfolding readOptionId callWords
   reports-says e t =
-      let p = both (has w 5) (byFlag (getD w 1 0) (areZero w 2 3) true) t in
+      let p = reports-told w t in
       let h = all 4 17 (p .0) e in
       by-flag (getD w 1 0) (areZero w 2 3) true (p .1) (λ k z. rw k (rw (k, zeros-words (after 2) 3 z) at h)) (λ k z. rw k (rw k at h))
 
   reset-says : getD w 0 0 ≡ 23 → isReset w ≡ true → Says (Begin (Recover (idAt w 1) (kind.Reset (flagOf (getD w 4 0)))))
-  unfolding isReset callWords
-  reset-says e t = let p = both (has w 5) (isFlag w 4) t in rw (flag-word (getD w 4 0) (p .1)) (all 4 23 (p .0) e)
+  unfolding callWords
+  reset-says e t = let p = reset-told w t in rw (flag-word (getD w 4 0) (p .1)) (all 4 23 (p .0) e)
 
   recovered-says : isRecovered w ≡ true → recoveryReplyWords (readRecoveryReply w) ≡ tab (after 1) 7
   unfolding readRecoveryReply
@@ -213,11 +208,11 @@ module _ (w : List ℕ) where
 
   recovery-reply-says : (bytes : List ℕ) → getD w 0 0 ≡ 24 → isRecoveryReply w ≡ true
       → Says (Reply (ToRecovery (readRecoveryReply w) (readCompleted w) (readCompletions w) (readAborted w) bytes))
-  unfolding isRecoveryReply readCompleted readCompletions readAborted callWords
+  unfolding readCompleted readCompletions readAborted callWords
   recovery-reply-says bytes e t =
       let n = getD w 8 0 in
       let m = getD w 9 0 in
-      let p = and3 (leb (10 + n + m * completionWords) (length w)) (isRecovered w) (areCompletions w (10 + n) m) t in
+      let p = recovery-reply-told w t in
       let room = leb-true (10 + n + m * completionWords) (length w) (p .0) in
       let a = part 10 n w in
       let b = part (10 + n) (m * completionWords) w in

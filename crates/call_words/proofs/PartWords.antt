@@ -9,7 +9,7 @@ use lib.Dec.{eqb, leb, ltb}
 use lib.ListN.{length, getD, take, drop, take-append-drop}
 use lib.Seq.{getD-take, length-take-le}
 use borrow.Author.Tests.{eqb-true, eqb-false, leb-true, ltb-false}
-use Rattle.chain.proofs.Chain.{caseB, both, and3}
+use Rattle.chain.proofs.Chain.{caseB, both}
 use Rattle.words.specs.Records.{tab}
 use Rattle.words.specs.Words.{flagOf, flagWord, optionU64Words, optionU32Of, optionU32Word, optionU64Of, signedOf, signedWord, optionI32Of, optionI32Word}
 use Rattle.words.specs.declared.OptionWords.{OptionWords}
@@ -19,6 +19,7 @@ use Rattle.models.specs.Codes.{categoryOf, categoryWord, transferOf, transferWo
 use Rattle.rows.specs.Codec.{setupWords}
 use Rattle.rows.specs.declared.codec.SetupWords.{SetupWords}
 use Rattle.scope.specs.Returned.{readError, readOptionError, readCompletion}
+use Rattle.call_words.proofs.Told.{and4, and5}
 use Rattle.call_words.specs.Parts.{areZero, byFlag, zeros, isOptionNumber, isError, errorWords, isOptionError, optionErrorWords, isSetup, isOptionSetup, readOptionSetup, isReading, readReading, readingWords, isCompletion, backendCompletionWords, readProfile, profileWord, isStage, readStage, stageWords, readStatus, statusWord}
 
 -- ---- one word
@@ -95,12 +96,6 @@ pub by-flag : {P : Type 0} (k : ℕ) (x y : Bool) → byFlag k x y ≡ true → 
 by-flag k x y t a b =
     caseB (eqb k 0) (λ e. a (eqb-true k 0 e) (rw e at t))
     (λ e. let z : (eqb k 1 && y) ≡ true = rw e at t in let p = both (eqb k 1) y z in b (eqb-true k 1 (p .0)) (p .1))
-
-pub and4 : (a b c d : Bool) → (a && b && c && d) ≡ true → (a ≡ true) × (b ≡ true) × (c ≡ true) × (d ≡ true)
-and4 a b c d t = let p = both (a && b && c) d t in let q = and3 a b c (p .0) in (q .0, q .1, q .2, p .1)
-
-pub and5 : (a b c d e : Bool) → (a && b && c && d && e) ≡ true → (a ≡ true) × (b ≡ true) × (c ≡ true) × (d ≡ true) × (e ≡ true)
-and5 a b c d e t = let p = both (a && b && c && d) e t in let q = and4 a b c d (p .0) in (q .0, q .1, q .2, q .3, p .1)
 
 -- ---- parts
 module _ (f : ℕ → ℕ) where

@@ -1,16 +1,15 @@
 -- A call is what its words say: the laws of the parts, then of each call. Assumes nothing.
 use Prim.Native.Nat.{ℕ, _+_, _-_, _*_, _/_, _%_, _<_, _≤_, _^_}
 use mathlib.Core.Path.{_≡_, refl, sym, ap, _∙_}
-use mathlib.Core.Bool.{Bool, true, not, _&&_}
+use mathlib.Core.Bool.{Bool, true}
 use mathlib.Core.List.{List, [], _∷_, _++_, append-assoc}
 use native.Mathlib.Omega.{arith}
-use lib.Dec.{eqb, leb, ltb}
+use lib.Dec.{eqb, leb}
 use lib.IntN.{ℤ, pos, negsuc}
 use lib.ListN.{length, getD, take, drop}
 use lib.Seq.{drop-drop, take-at, drop-at}
 use borrow.Author.Tests.{eqb-true, leb-true, ltb-true, lt-ltb, le-ltb, ne-eqb}
 use Rattle.chain.specs.Chain.{_if_else_}
-use Rattle.chain.specs.Lists.{anyIn}
 use Rattle.chain.proofs.Chain.{both, and3}
 use Rattle.words.specs.Records.{tab, part}
 use Rattle.words.specs.Words.{flagWord, optionU32Of, optionU32Word, optionU64Of, optionU64Words, optionI32Of, optionI32Word, signedOf, signedWord}
@@ -58,13 +57,14 @@ use Rattle.submissions.specs.declared.SubmitReply.the-variants as submit
 use Rattle.recovery.specs.declared.RecoveryReply.{RecoveryReply}
 use Rattle.recovery.specs.declared.RecoveryReply.the-variants as recovery
 use Rattle.calls.specs.Calls.{Call, Open, Placing, Place, Device, Port, Endpoints, Reconcile, Moving, Move, Acquire, Initialize, Close, Beginning, Begin, Submit, SubmitPlan, Poll, Recover, Replying, Reply, ToSubmit, ToPoll, ToRecovery, Changing, Change, Cancel, Timeout, Reclaim, Reading, Read, Status, Reports, CountReports, CompletedBytes, HeldCount, HeldBytes}
-use Rattle.call_words.specs.Parts.{atMost, isZero, isFlag, isByte, isHalf, isOption, areZero, byFlag, isPlace, deviceWords, packetWords, isSetup, isStage, isOptionNumber, isError, errorWords, isOptionError, optionErrorWords, isOptionSetup, isReading, readReading, readingWords, isCompletion, backendCompletionWords, readStage, stageWords, readProfile, profileWord, readStatus, statusWord}
-use Rattle.call_words.specs.Form.{has, areCompletions, isOpening, isSetDevice, isSetPort, isSetEndpoints, isSetReconcile, isAcquire, isInitialize, isClose, isSubmit, isPlan, isSubmitReply, isPollReply, isReports, isReset, isRecovered, isRecoveryReply, isPlacing, isMoving, isSubmission, isReplying, isReporting, isRecovering, isCall}
+use Rattle.call_words.specs.Parts.{isZero, isFlag, isByte, isHalf, areZero, deviceWords, packetWords, isError, errorWords, isOptionError, optionErrorWords, isOptionSetup, isReading, readReading, readingWords, isCompletion, backendCompletionWords, readStage, stageWords, readProfile, profileWord, readStatus, statusWord}
+use Rattle.call_words.specs.Form.{has, isOpening, isSetDevice, isSetPort, isSetEndpoints, isSetReconcile, isAcquire, isInitialize, isClose, isSubmit, isPlan, isSubmitReply, isPollReply, isReports, isReset, isRecovered, isRecoveryReply, isPlacing, isMoving, isSubmission, isReplying, isReporting, isRecovering, isCall}
 use Rattle.call_words.specs.Arguments.{readOpening, readSnapshot, readPortRow, readAcquireReply, readSpec, readPlan, readSubmitReply, readPollReply, readOptionId, readRecoveryReply, readCompleted, readCompletions, readAborted}
 use Rattle.call_words.specs.Decode.{placingOf, movingOf, submissionOf, replyingOf, changingOf, reportingOf, recoveringOf, callOf}
-use Rattle.call_words.specs.Encode.{recoveryReplyWords, callWords, callBytes}
+use Rattle.call_words.specs.Encode.{specWords, recoveryReplyWords, callWords, callBytes}
 use Rattle.call_words.specs.Typed.{isSigned, signedError, signedReading, signedRecovery, typedMoving, typedBeginning, typedReplying, isTyped}
-use Rattle.call_words.proofs.PartWords.{byte-word, half-word, full-word, and4, and5, ports-words}
+use Rattle.call_words.proofs.Told.{and4, and5, opening-told, device-told, port-told, endpoints-told, reconcile-told, acquire-told, initialize-told, close-told, submit-reply-told, recovery-reply-told, submit-told, plan-told}
+use Rattle.call_words.proofs.PartWords.{byte-word, half-word, full-word, ports-words}
 
 -- ---- one word
 pub category-back : (x : ErrorCategory) → categoryOf (categoryWord x) ≡ x
@@ -224,28 +224,23 @@ Back c = isCall (callWords c) ≡ true → callOf (callWords c) (callBytes c) �
 open-back : (o : Opening) → Back (Open o)
 unfolding isCall isPlacing isOpening callOf placingOf readOpening callWords _if_else_
 open-back o t =
-    let w = callWords (Open o) in
-    let p = and3 (has w 9) (isOptionNumber w 3) (byFlag (getD w 5 0) (isZero w 6) (isByte w 6)) t in
+    let p = opening-told (callWords (Open o)) t in
     let q = ports-words (λ (k : ℕ). getD (flagWord (o .«has_ports») ∷ o .«port_count» ∷ []) k 0) (p .2) in
     rw (number-says (o .«recovery_revision»), flag-back (o .«has_ports»), q .1)
 
 place-back : (p : Placing) → Back (Place p)
 unfolding isCall isPlacing isSetDevice isSetPort isSetEndpoints isSetReconcile callOf placingOf readSnapshot readPortRow callWords _if_else_
 place-back (Device x) t =
-    let w = callWords (Place (Device x)) in
-    let p = and4 (has w 8) (isPlace w 1) (isPlace w 4) (atMost w 7 6) t in
+    let p = device-told (callWords (Place (Device x))) t in
     rw (byte-word (x .id .slot) (p .1), byte-word (x .port .number) (p .2), device-state-back (x .state))
 place-back (Port n r) t =
-    let w = callWords (Place (Port n r)) in
-    let p = and3 (has w 4) (isByte w 1) (isOption w 3) t in
+    let p = port-told (callWords (Place (Port n r))) t in
     rw (byte-word n (p .1), option-u32-says (r .reading) (p .2))
 place-back (Endpoints slot list) t =
-    let w = callWords (Place (Endpoints slot list)) in
-    let p = and3 (leb 2 (length w)) (isByte w 1) (not (anyIn (ltb 1023) w)) t in
+    let p = endpoints-told (callWords (Place (Endpoints slot list))) t in
     rw (byte-word slot (p .1))
 place-back (Reconcile slot mark) t =
-    let w = callWords (Place (Reconcile slot mark)) in
-    let p = and3 (has w 3) (isByte w 1) (isFlag w 2) t in
+    let p = reconcile-told (callWords (Place (Reconcile slot mark))) t in
     rw (byte-word slot (p .1), flag-back mark)
 
 move-back : (m : Moving) → typedMoving m ≡ true → Back (Move m)
@@ -253,16 +248,14 @@ unfolding isCall isMoving isAcquire isInitialize isClose callOf movingOf readAcq
 move-back (Acquire acquire.Acquired) s t = refl
 move-back (Acquire (acquire.Failed e retained)) s t =
     let w = callWords (Move (Acquire (acquire.Failed e retained))) in
-    let p = both (has w 7) (isFlag w 2 && isError w 3) t in
+    let p = acquire-told w t in
     let q = both (isFlag w 2) (isError w 3) (p .1) in
     rw (error-says e (q .1) s, flag-back retained)
 move-back (Initialize e) s t =
-    let w = callWords (Move (Initialize e)) in
-    let p = both (has w 6) (isOptionError w 1) t in
+    let p = initialize-told (callWords (Move (Initialize e))) t in
     rw (option-error-says e (p .1) s)
 move-back (Close fresh e) s t =
-    let w = callWords (Move (Close fresh e)) in
-    let p = and3 (has w 8) (isOptionNumber w 1) (isOptionError w 3) t in
+    let p = close-told (callWords (Move (Close fresh e))) t in
     rw (number-says fresh, option-error-says e (p .2) s)
 
 submit-back : (q : RequestSpec) (bytes : List ℕ) (given : Bool) (packets : List ℕ) (first second : PortReading) → signedReading first ≡ true → signedReading second ≡ true
@@ -270,17 +263,17 @@ submit-back : (q : RequestSpec) (bytes : List ℕ) (given : Bool) (packets : Lis
 unfolding isCall isSubmission isSubmit callOf submissionOf readSpec callWords _if_else_
 submit-back q bytes given packets first second sf ss =
     rw (reading-shape first, reading-shape second) λ t.
-    let p = and3 _ _ _ t in
-    let a = and5 _ _ _ _ _ (p .0) in
-    let b = both _ _ (p .1) in
+    let w : List ℕ =
+    8 ∷ specWords q ++ tab (λ (k : ℕ). getD (readingWords first) k 0) 6 ++ tab (λ (k : ℕ). getD (readingWords second) k 0) 6 ++ flagWord given ∷ packets in
+    let p = submit-told w t in
     rw (
-      byte-word (q .device .slot) (a .0),
-      byte-word (q .endpoint) (a .1),
+      byte-word (q .device .slot) (p .0),
+      byte-word (q .endpoint) (p .1),
       transfer-back (q .«transfer_type»),
       direction-back (q .direction),
-      option-setup-says (q .setup) (a .4),
-      reading-says first (b .0) sf,
-      reading-says second (b .1) ss,
+      option-setup-says (q .setup) (p .4),
+      reading-says first (p .5) sf,
+      reading-says second (p .6) ss,
       flag-back given,
     )
 
@@ -291,12 +284,10 @@ plan-back x bytes r s =
     let w : List ℕ =
     9 ∷ deviceWords (x .device) ++ profileWord (x .profile) ∷ packetWords (x .setup)
     ++ tab (λ (k : ℕ). getD (stageWords (x .«data_stage»)) k 0) 3 ++ statusWord (x .«status_direction») ∷ [] ++ readingWords r in
-    let p = both (has w 20 && isPlace w 1 && isFlag w 4 && isSetup w 5) (isStage w 10 && atMost w 13 2 && isReading w 14) t in
-    let a = and4 (has w 20) (isPlace w 1) (isFlag w 4) (isSetup w 5) (p .0) in
-    let b = and3 (isStage w 10) (atMost w 13 2) (isReading w 14) (p .1) in
-    let u = and5 (isByte w 5) (isByte w 6) (isHalf w 7) (isHalf w 8) (isHalf w 9) (a .3) in
+    let p = plan-told w t in
+    let u = and5 (isByte w 5) (isByte w 6) (isHalf w 7) (isHalf w 8) (isHalf w 9) (p .3) in
     rw (
-      byte-word (x .device .slot) (a .1),
+      byte-word (x .device .slot) (p .1),
       profile-back (x .profile),
       byte-word (x .setup .«request_type») (u .0),
       byte-word (x .setup .request) (u .1),
@@ -305,7 +296,7 @@ plan-back x bytes r s =
       half-word (x .setup .length) (u .4),
       stage-says (x .«data_stage»),
       status-back (x .«status_direction»),
-      reading-says r (b .2) s,
+      reading-says r (p .6) s,
     )
 
 begin-back : (b : Beginning) → typedBeginning b ≡ true → Back (Begin b)
@@ -325,7 +316,7 @@ recovery-back r a b c bytes s whole =
     let em : m * completionWords ≡ length b = omega arith in
     rw (recovery-shape r) λ t.
     let w : List ℕ = 24 ∷ tab (λ (k : ℕ). getD (recoveryReplyWords r) k 0) 7 ++ length a ∷ m ∷ a ++ b ++ c in
-    let p = and3 (leb (10 + length a + m * completionWords) (length w)) (isRecovered w) (areCompletions w (10 + length a) m) t in
+    let p = recovery-reply-told w t in
     rw (completed-is w a b c refl m em, completions-are w a b c refl m em, aborted-is w a b c refl m em)
     (ap (λ (x : RecoveryReply). Reply (ToRecovery x a b c bytes)) (recovered-says r (p .1) s))
 
@@ -334,7 +325,7 @@ unfolding isCall isReplying isSubmitReply isPollReply callOf replyingOf readSubm
 reply-back (ToSubmit (submit.Token x)) s t = refl
 reply-back (ToSubmit (submit.Error e)) s t =
     let w = callWords (Reply (ToSubmit (submit.Error e))) in
-    let p = both (has w 7) (isZero w 2 && isError w 3) t in
+    let p = submit-reply-told w t in
     let q = both (isZero w 2) (isError w 3) (p .1) in
     rw (error-says e (q .1) s)
 reply-back (ToPoll poll.Nothing bytes) s t = refl

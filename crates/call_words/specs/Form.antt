@@ -9,7 +9,7 @@ use Rattle.chain.specs.Chain.{_if_else_}
 use Rattle.chain.specs.Lists.{anyIn}
 use Rattle.words.specs.Records.{part}
 use Rattle.scope.specs.Returned.{completionWords}
-use Rattle.call_words.specs.Parts.{atMost, isZero, isFlag, isByte, isOption, areZero, byFlag, isPlace, isOptionNumber, isError, isOptionError, isSetup, isOptionSetup, isReading, isCompletion, isStage}
+use Rattle.call_words.specs.Parts.{atMost, isZero, isFlag, isByte, isOption, areZero, byFlag, isBusId, isOptionNumber, isError, isOptionError, isSetup, isOptionSetup, isReading, isCompletion, isStage}
 
 abbrev pub has : List ℕ → ℕ → Bool
 has w n = eqb (length w) n
@@ -20,7 +20,7 @@ isOpening w = has w 9 && isOptionNumber w 3 && byFlag (getD w 5 0) (isZero w 6) 
 
 -- device id, port id, state
 unfoldable pub isSetDevice : List ℕ → Bool
-isSetDevice w = has w 8 && isPlace w 1 && isPlace w 4 && atMost w 7 6
+isSetDevice w = has w 8 && isBusId w 1 && isBusId w 4 && atMost w 7 6
 
 -- number, generation, reading
 unfoldable pub isSetPort : List ℕ → Bool
@@ -48,13 +48,13 @@ isClose w = has w 8 && isOptionNumber w 1 && isOptionError w 3
 -- device, endpoint, type, direction, length, SETUP (optional), two readings, packets given, then the packets
 unfoldable pub isSubmit : List ℕ → Bool
 isSubmit w =
-    (isPlace w 1 && isByte w 4 && atMost w 5 3 && isFlag w 6 && isOptionSetup w 8)
+    (isBusId w 1 && isByte w 4 && atMost w 5 3 && isFlag w 6 && isOptionSetup w 8)
     && (isReading w 14 && isReading w 20)
     && byFlag (getD w 26 0) (has w 27) (leb 27 (length w))
 
 -- device, profile, SETUP, stage (flag, direction, length), status, reading
 unfoldable pub isPlan : List ℕ → Bool
-isPlan w = (has w 20 && isPlace w 1 && isFlag w 4 && isSetup w 5) && (isStage w 10 && atMost w 13 2 && isReading w 14)
+isPlan w = (has w 20 && isBusId w 1 && isFlag w 4 && isSetup w 5) && (isStage w 10 && atMost w 13 2 && isReading w 14)
 
 -- 0, a token and zeros; or 1, 0 and an error
 unfoldable pub isSubmitReply : List ℕ → Bool

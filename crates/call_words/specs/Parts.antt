@@ -65,8 +65,8 @@ byFlag flag unset set = cond (eqb flag 0) unset (eqb flag 1 && set)
 
 -- ---- ids: two words of 64 bits, and a third; a device's and a port's is a byte
 
-abbrev pub isPlace : List ℕ → ℕ → Bool
-isPlace w at = isByte w (at + 2)
+abbrev pub isBusId : List ℕ → ℕ → Bool
+isBusId w at = isByte w (at + 2)
 
 abbrev pub readPortId : List ℕ → ℕ → PortId
 readPortId w at = record { session = getD w at 0; generation = getD w (at + 1) 0; number = getD w (at + 2) 0 % 2 ^ 8 }

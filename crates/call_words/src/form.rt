@@ -9,7 +9,7 @@ ghost use lib.ListN.{length};
 ghost use lib.Dec.{ltb};
 ghost use Rattle.chain.specs.Lists.{anyIn};
 ghost use Rattle.scope.specs.Returned.{completionWords};
-ghost use Rattle.call_words.specs.Parts.{atMost, isZero, isFlag, isByte, isHalf, isOption, areZero, byFlag, isPlace, isOptionNumber, isError, isOptionError, isSetup, isOptionSetup, isReading, isCompletion, isStage};
+ghost use Rattle.call_words.specs.Parts.{atMost, isZero, isFlag, isByte, isHalf, isOption, areZero, byFlag, isBusId, isOptionNumber, isError, isOptionError, isSetup, isOptionSetup, isReading, isCompletion, isStage};
 ghost use Rattle.call_words.specs.Form.{has, isOpening, isSetDevice, isSetPort, isSetEndpoints, isSetReconcile, isAcquire, isInitialize, isClose, isSubmit, isPlan, isSubmitReply, isPollReply, isReports, isReset, areCompletions, isRecovered, isRecoveryReply, isPlacing, isMoving, isSubmission, isReplying, isReporting, isRecovering, isCall};
 
 fn at_most(w: &[u64], i: usize, limit: u64) -> bool
@@ -71,8 +71,8 @@ fn by_flag(flag: u64, unset: bool, set: bool) -> bool
 }
 
 // A device's or a port's id.
-fn is_place(w: &[u64], at: u8) -> bool
-    ensures { λ r. ⌜ r ≡ isPlace (now (w .entry)) at ⌝ }
+fn is_bus_id(w: &[u64], at: u8) -> bool
+    ensures { λ r. ⌜ r ≡ isBusId (now (w .entry)) at ⌝ }
 {
     is_byte(w, at as usize + 2)
 }
@@ -162,7 +162,7 @@ fn is_opening(w: &[u64]) -> bool
 fn is_set_device(w: &[u64]) -> bool
     ensures { λ r. ⌜ r ≡ isSetDevice (now (w .entry)) ⌝ }
 {
-    has(w, 8) & is_place(w, 1) & is_place(w, 4) & at_most(w, 7, 6)
+    has(w, 8) & is_bus_id(w, 1) & is_bus_id(w, 4) & at_most(w, 7, 6)
 }
 
 fn is_set_port(w: &[u64]) -> bool
@@ -218,7 +218,7 @@ fn is_close(w: &[u64]) -> bool
 fn is_submit(w: &[u64]) -> bool
     ensures { λ r. ⌜ r ≡ isSubmit (now (w .entry)) ⌝ }
 {
-    let target = is_place(w, 1)
+    let target = is_bus_id(w, 1)
         & is_byte(w, 4)
         & at_most(w, 5, 3)
         & is_flag(w, 6)
@@ -231,7 +231,7 @@ fn is_submit(w: &[u64]) -> bool
 fn is_plan(w: &[u64]) -> bool
     ensures { λ r. ⌜ r ≡ isPlan (now (w .entry)) ⌝ }
 {
-    let target = has(w, 20) & is_place(w, 1) & is_flag(w, 4) & is_setup(w, 5);
+    let target = has(w, 20) & is_bus_id(w, 1) & is_flag(w, 4) & is_setup(w, 5);
     let stages = is_stage(w, 10) & at_most(w, 13, 2) & is_reading(w, 14);
     target & stages
 }
