@@ -257,7 +257,7 @@ fn lists_that_disagree_leave_the_recovery_in_flight() {
         assert_eq!(words(&store), before);
     }
     // An error's lists come first too.
-    let error = [24, 1, 0, 1, 4, 77, 0, 0, 1, 0, 7];
+    let error = [24, 1, 0, 0, 4, 77, 0, 0, 1, 0, 7];
     assert_eq!(refusal(store.apply_words(&error, &[]).unwrap()), 49);
     let report = reported(store.apply_words(&good, &[1, 3]).unwrap());
     assert_eq!(report.completed, [id(0), id(1)]);
@@ -282,19 +282,22 @@ fn skipped_bytes_belong_to_their_completion() {
 }
 
 #[test]
-fn a_flag_of_an_error_reply_is_not_read() {
-    for flag in [0, 1] {
-        let mut store = three();
-        started(&mut store, &Call::AbortRequest(id(0)));
-        let answer = store.apply_words(&[24, 1, 1, flag, 4, 77, 0, 0, 0, 0], &[]);
-        let refused = Refusal {
-            number: 45,
-            error: ERROR,
-        };
-        assert_eq!(answer, Ok(Answer::Refused(refused)));
-        assert_eq!(store.state(), ControllerState::RecoveryRequired);
-        assert_eq!(store.apply(&Call::HeldCount), Answer::Number(3));
+fn an_error_reply_has_its_error_alone() {
+    let mut store = three();
+    started(&mut store, &Call::AbortRequest(id(0)));
+    let reply = |ready, flag| [24, 1, ready, flag, 4, 77, 0, 0, 0, 0];
+    for (ready, flag) in [(1, 0), (0, 1)] {
+        let answer = store.apply_words(&reply(ready, flag), &[]);
+        assert_eq!(answer, Err(Status::NoCall));
     }
+    let refused = Refusal {
+        number: 45,
+        error: ERROR,
+    };
+    let answer = store.apply_words(&reply(0, 0), &[]);
+    assert_eq!(answer, Ok(Answer::Refused(refused)));
+    assert_eq!(store.state(), ControllerState::RecoveryRequired);
+    assert_eq!(store.apply(&Call::HeldCount), Answer::Number(3));
 }
 
 #[test]

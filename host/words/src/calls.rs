@@ -318,7 +318,7 @@ mod tests {
         let ids = "completed 1 0 1\naborted 1 0 0";
         assert_eq!(answers[1], format!("{report}\n{ids}"));
         let failed = last(&format!("{READY}{submits}abort id=1.0.0 reply=err:T.5.-.6"));
-        assert_eq!(failed.0, ["22 1 0 0", "24 1 0 1 4 5 0 7 0 0"]);
+        assert_eq!(failed.0, ["22 1 0 0", "24 1 0 0 4 5 0 7 0 0"]);
         assert_eq!(failed.1[0], "recover 1 0 0 1 0 1 129 0\ntokens 7 9 7");
         assert_eq!(failed.1[1], "refused 45 4 5 0 7");
         let unknown = last(&format!("{READY}abort id=1.0.0 reply=err:T.5.-.6"));

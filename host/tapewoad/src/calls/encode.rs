@@ -212,43 +212,48 @@ impl Writer<'_> {
     }
 
     fn poll_reply(&mut self, reply: &Result<Option<Completion<'_>>, Error>) {
-        let (kind, error, completion) = match reply {
-            Ok(None) => (0, None, None),
-            Err(error) => (1, Some(error), None),
-            Ok(Some(completion)) => (2, completion.error.as_ref(), Some(completion)),
-        };
-        self.put(&[12, kind]);
-        self.completion(error, completion);
+        match reply {
+            Ok(None) => self.put(&[12, 0, 0, 0, 0, 0, 0, 0, 0, 0, 0, 0]),
+            Err(error) => {
+                self.put(&[12, 1, 0]);
+                self.error(Some(error));
+                self.put(&[0; 5]);
+            }
+            Ok(Some(completion)) => {
+                self.put(&[12, 2]);
+                self.completion(completion);
+            }
+        }
     }
 
-    /// A completion, or an error without one.
-    fn completion(&mut self, error: Option<&Error>, completion: Option<&Completion<'_>>) {
-        self.option_error(error);
-        self.option_u64(completion.and_then(|it| it.actual_length));
+    fn completion(&mut self, completion: &Completion<'_>) {
+        self.option_error(completion.error.as_ref());
+        self.option_u64(completion.actual_length);
         self.put(&[
-            option_u32(completion.and_then(|it| it.completion_code)),
-            u64::from(completion.is_some_and(|it| it.data.is_some())),
-            u64::from(completion.is_some_and(|it| it.quiescent)),
+            option_u32(completion.completion_code),
+            u64::from(completion.data.is_some()),
+            u64::from(completion.quiescent),
         ]);
     }
 
     fn recovery_reply(&mut self, reply: &Result<Abort<'_>, Error>) {
-        let (error, ready, completed, aborted) = match reply {
-            Err(error) => (Some(error), false, &[][..], &[][..]),
-            Ok(it) => (
-                it.error.as_ref(),
-                it.restart_ready,
-                it.completed,
-                it.aborted,
-            ),
+        let (completed, aborted) = match reply {
+            Err(error) => {
+                self.put(&[24, 1, 0, 0]);
+                self.error(Some(error));
+                (&[][..], &[][..])
+            }
+            Ok(it) => {
+                self.put(&[24, 0, u64::from(it.restart_ready)]);
+                self.option_error(it.error.as_ref());
+                (it.completed, it.aborted)
+            }
         };
-        self.put(&[24, u64::from(reply.is_err()), u64::from(ready)]);
-        self.option_error(error);
         let count = completed.len() as u64;
         self.put(&[count, count]);
         self.0.extend(completed.iter().map(|(token, _)| *token));
         for (_, done) in completed {
-            self.completion(done.error.as_ref(), Some(done));
+            self.completion(done);
             self.put(&[done.data.map_or(0, <[u8]>::len) as u64]);
         }
         self.put(aborted);

@@ -162,7 +162,7 @@ fn replies() {
     let nothing = Call::PollReply(Ok(None)).words();
     assert_eq!(nothing, [12, 0, 0, 0, 0, 0, 0, 0, 0, 0, 0, 0]);
     let failed = Call::PollReply(Err(ERROR)).words();
-    let expected = [&[12, 1, 1], &ERROR_WORDS[..], &[0; 5]].concat();
+    let expected = [&[12, 1, 0], &ERROR_WORDS[..], &[0; 5]].concat();
     assert_eq!(failed, expected);
     let done = Call::PollReply(Ok(Some(completion()))).words();
     assert_eq!(done, [12, 2, 0, 0, 0, 0, 0, 1, 0, 14, 1, 1]);
@@ -207,7 +207,7 @@ fn calls_of_one_request_and_counts() {
 #[test]
 fn replies_of_recoveries() {
     let failed = Call::RecoveryReply(Err(ERROR)).words();
-    assert_eq!(failed, [&[24, 1, 0, 1], &ERROR_WORDS[..], &[0, 0]].concat());
+    assert_eq!(failed, [&[24, 1, 0, 0], &ERROR_WORDS[..], &[0, 0]].concat());
     let empty = Abort {
         completed: &[],
         aborted: &[],
