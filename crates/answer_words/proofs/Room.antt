@@ -21,6 +21,7 @@ use Rattle.models.specs.declared.Verdict.the-variants as verdict
 use Rattle.rows.specs.Table.{rowIn, idIn, tokenIn}
 use Rattle.rows.specs.Store.{Store}
 use Rattle.rows.specs.declared.Row.{Row}
+use Rattle.session.specs.Start.{guarded}
 use Rattle.session.specs.declared.InFlight.{InFlight}
 use Rattle.session.specs.declared.InFlight.the-variants as flight
 use Rattle.session.specs.declared.RecoveryKind.{RecoveryKind}
@@ -85,7 +86,7 @@ module _ (s : Session) (id : RequestId) (k : RecoveryKind) (rows : List Row) whe
   found-begun (found.At i) = row-begun _
 
   begin-short : (fits : Bool) → ShortBegun (beginOf s fits id k rows)
-  unfolding beginOf
+  unfolding beginOf guarded
   begin-short fits = if-all ShortBegun _ _ _ (refused-begun _) (if-all ShortBegun _ _ _ (refused-begun _) (found-begun _))
 
 -- ---- and of its reply

@@ -1,7 +1,7 @@
 -- Laws of words that are read. Assumes nothing.
 use Prim.Native.Nat.{ℕ, _+_, _<_, _≤_, _%_, _^_}
 use mathlib.Core.Path.{_≡_, sym, _∙_}
-use mathlib.Core.Bool.{Bool, true, false, cond}
+use mathlib.Core.Bool.{Bool, true, false}
 use mathlib.Core.List.{List}
 use lib.ListN.{getD, length}
 use lib.Dec.{eqb, ltb}
@@ -11,24 +11,20 @@ use Rattle.chain.specs.Lists.{find, anyIn}
 use Rattle.chain.proofs.Lists.{find-on, find-here}
 use Rattle.words.specs.Words.{flagOf}
 use Rattle.models.specs.Codes.{transferOf, directionOf}
+use Rattle.models.specs.declared.BackendCompletion.{BackendCompletion}
 use Rattle.models.specs.declared.DeviceId.{DeviceId}
 use Rattle.models.specs.declared.Direction.{Direction}
 use Rattle.models.specs.declared.OperationError.{OperationError}
 use Rattle.models.specs.declared.OptionError.{OptionError}
 use Rattle.models.specs.declared.OptionSetup.{OptionSetup}
+use Rattle.models.specs.declared.OptionStage.the-variants as stage
 use Rattle.models.specs.declared.TransferType.{TransferType}
 use Rattle.rows.specs.Codec.{setupOf}
 use Rattle.recovery.specs.declared.RecoveryReply.the-variants as recovery
 use Rattle.session_words.specs.State.{deviceAt}
-use Rattle.call_words.specs.Arguments.{errorAt, optionErrorAt, specOf, backendAbortOf}
-
--- what a tag r, read as v, says: x where it is k, y where not
-module _ (A : Type 0) (x y z : A) (r v k : ℕ) where
-  pub tagged : r ≡ v → r ≡ k → z ≡ x → z ≡ cond (eqb v k) x y
-  tagged e f q = rw (eq-eqb v k (sym e ∙ f)) q
-
-  pub untagged : r ≡ v → (r ≡ k → ⊥) → z ≡ y → z ≡ cond (eqb v k) x y
-  untagged e f q = rw (ne-eqb v k (λ g. f (e ∙ g))) q
+use Rattle.scope.specs.Returned.{readError, readOptionError, readCompletion}
+use Rattle.polls.specs.declared.PollReply.the-variants as poll
+use Rattle.call_words.specs.Arguments.{readSpec, readRecoveryReply}
 
 -- what a word r, read as v, says
 pub low-read : (r v n : ℕ) → r ≡ v → r % n ≡ v % n
@@ -37,23 +33,32 @@ low-read r v n e = rw e
 pub flag-read : (f : Bool) (r v : ℕ) → f ≡ flagOf r → r ≡ v → f ≡ flagOf v
 flag-read f r v q e = cc
 
+-- a stage from its words
+pub stage-read : (w : List ℕ) (at a l : ℕ) (d : Direction) → a ≡ getD w (at + 1) 0 → d ≡ directionOf a → l ≡ getD w (at + 2) 0
+    → stage.Some (record { direction = d; length = l }) ≡ stage.Some (record { direction = directionOf (getD w (at + 1) 0); length = getD w (at + 2) 0 })
+stage-read w at a l d ea ed el = cc
+
+-- a completion from a part of a reply's words
+pub completion-read : (x : BackendCompletion) (v u : List ℕ) → x ≡ readCompletion v → v ≡ u → poll.Completion x ≡ poll.Completion (readCompletion u)
+completion-read x v u e f = rw (e, f)
+
 -- a request from its device, its codes and its words
 pub spec-read : (w : List ℕ) (d : DeviceId) (e x y l a b c f g h : ℕ) (t : TransferType) (i : Direction) (s : OptionSetup)
     → d ≡ deviceAt w 1 → e ≡ getD w 4 0 → x ≡ getD w 5 0 → t ≡ transferOf x → y ≡ getD w 6 0 → i ≡ directionOf y → l ≡ getD w 7 0
     → a ≡ getD w 8 0 → b ≡ getD w 9 0 → c ≡ getD w 10 0 → f ≡ getD w 11 0 → g ≡ getD w 12 0 → h ≡ getD w 13 0 → s ≡ setupOf a b c f g h
-    → record { device = d; endpoint = e % 2 ^ 8; «transfer_type» = t; direction = i; length = l; setup = s } ≡ specOf w
-unfolding specOf
+    → record { device = d; endpoint = e % 2 ^ 8; «transfer_type» = t; direction = i; length = l; setup = s } ≡ readSpec w
+unfolding readSpec
 spec-read w d e x y l a b c f g h t i s hd he hx ht hy hi hl ha hb hc hf hg hh hs = cc
 
 -- what a recovery's reply says
 module _ (w : List ℕ) (k : ℕ) (ek : k ≡ getD w 1 0) where
-  pub abort-done : (n : ℕ) (ready : Bool) (e : OptionError) → k ≡ 0 → n ≡ getD w 2 0 → ready ≡ flagOf n → e ≡ optionErrorAt w 3
-      → recovery.Done (record { «restart_ready» = ready; error = e }) ≡ backendAbortOf w
-  unfolding backendAbortOf
+  pub abort-done : (n : ℕ) (ready : Bool) (e : OptionError) → k ≡ 0 → n ≡ getD w 2 0 → ready ≡ flagOf n → e ≡ readOptionError w 3
+      → recovery.Done (record { «restart_ready» = ready; error = e }) ≡ readRecoveryReply w
+  unfolding readRecoveryReply
   abort-done n ready e z en er ee = rw (eq-eqb (getD w 1 0) 0 (sym ek ∙ z), er, en, ee)
 
-  pub abort-failed : (e : OperationError) → (k ≡ 0 → ⊥) → e ≡ errorAt w 4 → recovery.Error e ≡ backendAbortOf w
-  unfolding backendAbortOf
+  pub abort-failed : (e : OperationError) → (k ≡ 0 → ⊥) → e ≡ readError w 4 → recovery.Error e ≡ readRecoveryReply w
+  unfolding readRecoveryReply
   abort-failed e z ee = rw (ne-eqb (getD w 1 0) 0 (λ q. z (ek ∙ q)), ee)
 
 -- a search for a word above a limit that has come to i

@@ -1,13 +1,10 @@
-// The arguments of calls, read from their words. Every word says something, and one that is missing says 0; `form` tests the ranges.
+// The arguments of calls, read from their words. Every word says something, and one that is missing says 0; `form` tests which words are calls.
 use bus::PortRow;
-use models::BackendCompletion;
 use models::ControlPlan;
 use models::ControlProfile;
 use models::DataStage;
 use models::DeviceSnapshot;
-use models::OperationError;
 use models::OptionDirection;
-use models::OptionError;
 use models::OptionStage;
 use models::PortId;
 use models::PortReading;
@@ -19,6 +16,9 @@ use recovery::Outcome;
 use recovery::RecoveryReply;
 use reports::OptionId;
 use rows::codec;
+use scope::returned;
+use scope::returned::error_at;
+use scope::returned::option_error_at;
 use session::lifecycle::AcquireReply;
 use session::lifecycle::Opening;
 use session_words::state;
@@ -30,13 +30,14 @@ ghost use Prim.Native.Nat.{_+_, _*_, min};
 ghost use lib.ListN.{getD, take, drop};
 ghost use Rattle.scope.specs.Returned.{completionWords};
 ghost use Rattle.session_words.specs.State.{deviceAt, idAt};
-ghost use Rattle.call_words.specs.Arguments.{errorAt, optionErrorAt, portIdAt, setupAt, readingAt, openingOf, snapshotOf, portRowOf, acquireReplyOf, specOf, profileOf, stageOf, statusOf, planOf, submitReplyOf, completionOf, pollReplyOf, optionIdOf, backendAbortOf, completedOf, completionsOf, abortedOf};
+ghost use Rattle.call_words.specs.Parts.{readPortId, readSetup, readReading, readProfile, readStage, readStatus};
+ghost use Rattle.call_words.specs.Arguments.{readOpening, readSnapshot, readPortRow, readAcquireReply, readSpec, readPlan, readSubmitReply, readPollReply, readOptionId, readRecoveryReply, readCompleted, readCompletions, readAborted};
 
 // How many words a completion of a recovery's reply has.
 pub(crate) const COMPLETION: usize = 11;
 
 fn port_id_at(w: &[u64], at: u8) -> PortId
-    ensures { λ r. ⌜ r ≡ portIdAt (now (w .entry)) at ⌝ }
+    ensures { λ r. ⌜ r ≡ readPortId (now (w .entry)) at ⌝ }
 {
     let i = at as usize;
     PortId {
@@ -46,30 +47,8 @@ fn port_id_at(w: &[u64], at: u8) -> PortId
     }
 }
 
-// Four words: category, message, system number, completion code.
-fn error_at(w: &[u64], at: u16) -> OperationError
-    ensures { λ r. ⌜ r ≡ errorAt (now (w .entry)) at ⌝ }
-{
-    let i = at as usize;
-    codec::to_error(
-        word_at(w, i),
-        word_at(w, i + 1),
-        word_at(w, i + 2),
-        word_at(w, i + 3),
-    )
-}
-
-pub fn option_error_at(w: &[u64], at: u8) -> OptionError
-    ensures { λ r. ⌜ r ≡ optionErrorAt (now (w .entry)) at ⌝ }
-{
-    if word_at(w, at as usize) == 0 {
-        return OptionError::None;
-    }
-    OptionError::Some(error_at(w, at as u16 + 1))
-}
-
 fn setup_at(w: &[u64], at: u8) -> SetupPacket
-    ensures { λ r. ⌜ r ≡ setupAt (now (w .entry)) at ⌝ }
+    ensures { λ r. ⌜ r ≡ readSetup (now (w .entry)) at ⌝ }
 {
     let i = at as usize;
     SetupPacket {
@@ -83,7 +62,7 @@ fn setup_at(w: &[u64], at: u8) -> SetupPacket
 
 // The port's word, or the error.
 pub fn reading_at(w: &[u64], at: u8) -> PortReading
-    ensures { λ r. ⌜ r ≡ readingAt (now (w .entry)) at ⌝ }
+    ensures { λ r. ⌜ r ≡ readReading (now (w .entry)) at ⌝ }
 {
     let i = at as usize;
     if word_at(w, i) == 0 {
@@ -93,7 +72,7 @@ pub fn reading_at(w: &[u64], at: u8) -> PortReading
 }
 
 pub fn opening(w: &[u64]) -> Opening
-    ensures { λ r. ⌜ r ≡ openingOf (now (w .entry)) ⌝ }
+    ensures { λ r. ⌜ r ≡ readOpening (now (w .entry)) ⌝ }
 {
     Opening {
         session: word_at(w, 1),
@@ -107,7 +86,7 @@ pub fn opening(w: &[u64]) -> Opening
 }
 
 pub fn snapshot(w: &[u64]) -> DeviceSnapshot
-    ensures { λ r. ⌜ r ≡ snapshotOf (now (w .entry)) ⌝ }
+    ensures { λ r. ⌜ r ≡ readSnapshot (now (w .entry)) ⌝ }
 {
     DeviceSnapshot {
         id: state::device_at(w, 1),
@@ -117,7 +96,7 @@ pub fn snapshot(w: &[u64]) -> DeviceSnapshot
 }
 
 pub fn port_row(w: &[u64]) -> PortRow
-    ensures { λ r. ⌜ r ≡ portRowOf (now (w .entry)) ⌝ }
+    ensures { λ r. ⌜ r ≡ readPortRow (now (w .entry)) ⌝ }
 {
     PortRow {
         generation: word_at(w, 2),
@@ -126,7 +105,7 @@ pub fn port_row(w: &[u64]) -> PortRow
 }
 
 pub fn acquire_reply(w: &[u64]) -> AcquireReply
-    ensures { λ r. ⌜ r ≡ acquireReplyOf (now (w .entry)) ⌝ }
+    ensures { λ r. ⌜ r ≡ readAcquireReply (now (w .entry)) ⌝ }
 {
     if word_at(w, 1) == 0 {
         return AcquireReply::Acquired;
@@ -135,7 +114,7 @@ pub fn acquire_reply(w: &[u64]) -> AcquireReply
 }
 
 pub fn spec(w: &[u64]) -> RequestSpec
-    ensures { λ r. ⌜ r ≡ specOf (now (w .entry)) ⌝ }
+    ensures { λ r. ⌜ r ≡ readSpec (now (w .entry)) ⌝ }
 {
     let setup = codec::to_setup(
         word_at(w, 8),
@@ -156,7 +135,7 @@ pub fn spec(w: &[u64]) -> RequestSpec
 }
 
 fn to_profile(w: u64) -> ControlProfile
-    ensures { λ r. ⌜ r ≡ profileOf w ⌝ }
+    ensures { λ r. ⌜ r ≡ readProfile w ⌝ }
 {
     if w == 0 {
         return ControlProfile::Compliant;
@@ -164,20 +143,21 @@ fn to_profile(w: u64) -> ControlProfile
     ControlProfile::DeviceCompatibility
 }
 
-fn to_stage(present: u64, direction: u64, length: u64) -> OptionStage
-    ensures { λ r. ⌜ r ≡ stageOf present direction length ⌝ }
+fn stage_at(w: &[u64], at: u8) -> OptionStage
+    ensures { λ r. ⌜ r ≡ readStage (now (w .entry)) at ⌝ }
 {
-    if present == 0 {
+    let i = at as usize;
+    if word_at(w, i) == 0 {
         return OptionStage::None;
     }
     OptionStage::Some(DataStage {
-        direction: codes::to_direction(direction),
-        length,
+        direction: codes::to_direction(word_at(w, i + 1)),
+        length: word_at(w, i + 2),
     })
 }
 
 fn to_status(w: u64) -> OptionDirection
-    ensures { λ r. ⌜ r ≡ statusOf w ⌝ }
+    ensures { λ r. ⌜ r ≡ readStatus w ⌝ }
 {
     if w == 0 {
         return OptionDirection::None;
@@ -186,19 +166,19 @@ fn to_status(w: u64) -> OptionDirection
 }
 
 pub fn plan(w: &[u64]) -> ControlPlan
-    ensures { λ r. ⌜ r ≡ planOf (now (w .entry)) ⌝ }
+    ensures { λ r. ⌜ r ≡ readPlan (now (w .entry)) ⌝ }
 {
     ControlPlan {
         device: state::device_at(w, 1),
         profile: to_profile(word_at(w, 4)),
         setup: setup_at(w, 5),
-        data_stage: to_stage(word_at(w, 10), word_at(w, 11), word_at(w, 12)),
+        data_stage: stage_at(w, 10),
         status_direction: to_status(word_at(w, 13)),
     }
 }
 
 pub fn submit_reply(w: &[u64]) -> SubmitReply
-    ensures { λ r. ⌜ r ≡ submitReplyOf (now (w .entry)) ⌝ }
+    ensures { λ r. ⌜ r ≡ readSubmitReply (now (w .entry)) ⌝ }
 {
     if word_at(w, 1) == 0 {
         return SubmitReply::Token(word_at(w, 2));
@@ -206,21 +186,9 @@ pub fn submit_reply(w: &[u64]) -> SubmitReply
     SubmitReply::Error(error_at(w, 3))
 }
 
-fn completion(w: &[u64]) -> BackendCompletion
-    ensures { λ r. ⌜ r ≡ completionOf (now (w .entry)) ⌝ }
-{
-    BackendCompletion {
-        actual_length: words::to_option_u64(word_at(w, 7), word_at(w, 8)),
-        completion_code: words::to_option_u32(word_at(w, 9)),
-        has_data: words::to_flag(word_at(w, 10)),
-        error: option_error_at(w, 2),
-        quiescent: words::to_flag(word_at(w, 11)),
-    }
-}
-
 // Nothing came, an error, or a completion.
 pub fn poll_reply(w: &[u64]) -> PollReply
-    ensures { λ r. ⌜ r ≡ pollReplyOf (now (w .entry)) ⌝ }
+    ensures { λ r. ⌜ r ≡ readPollReply (now (w .entry)) ⌝ }
 {
     let kind = word_at(w, 1);
     if kind == 0 {
@@ -229,11 +197,11 @@ pub fn poll_reply(w: &[u64]) -> PollReply
     if kind == 1 {
         return PollReply::Error(error_at(w, 3));
     }
-    PollReply::Completion(completion(w))
+    PollReply::Completion(returned::completion(slices::rest(w, 2)))
 }
 
 pub fn option_id(w: &[u64]) -> OptionId
-    ensures { λ r. ⌜ r ≡ optionIdOf (now (w .entry)) ⌝ }
+    ensures { λ r. ⌜ r ≡ readOptionId (now (w .entry)) ⌝ }
 {
     if word_at(w, 1) == 0 {
         return OptionId::None;
@@ -242,7 +210,7 @@ pub fn option_id(w: &[u64]) -> OptionId
 }
 
 pub fn backend_abort(w: &[u64]) -> RecoveryReply
-    ensures { λ r. ⌜ r ≡ backendAbortOf (now (w .entry)) ⌝ }
+    ensures { λ r. ⌜ r ≡ readRecoveryReply (now (w .entry)) ⌝ }
 {
     if word_at(w, 1) == 0 {
         return RecoveryReply::Done(Outcome {
@@ -255,7 +223,7 @@ pub fn backend_abort(w: &[u64]) -> RecoveryReply
 
 // The tokens of completed requests.
 pub fn completed(w: &[u64]) -> &[u64]
-    ensures { λ r. ⌜ now r ≡ completedOf (now (w .entry)) ⌝ }
+    ensures { λ r. ⌜ now r ≡ readCompleted (now (w .entry)) ⌝ }
 {
     let n = word_at(w, 8) as usize;
     slices::first(slices::rest(w, 10), n)
@@ -280,7 +248,7 @@ fn completion_words(n: usize, most: usize) -> usize
 
 // Their completions' words.
 pub fn completions(w: &[u64]) -> &[u64]
-    ensures { λ r. ⌜ now r ≡ completionsOf (now (w .entry)) ⌝ }
+    ensures { λ r. ⌜ now r ≡ readCompletions (now (w .entry)) ⌝ }
 {
     let left = past_completed(w);
     let n = completion_words(word_at(w, 9) as usize, left.len());
@@ -289,7 +257,7 @@ pub fn completions(w: &[u64]) -> &[u64]
 
 // The tokens of aborted requests.
 pub fn aborted(w: &[u64]) -> &[u64]
-    ensures { λ r. ⌜ now r ≡ abortedOf (now (w .entry)) ⌝ }
+    ensures { λ r. ⌜ now r ≡ readAborted (now (w .entry)) ⌝ }
 {
     let left = past_completed(w);
     let n = completion_words(word_at(w, 9) as usize, left.len());

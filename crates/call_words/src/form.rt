@@ -1,5 +1,7 @@
-// Which lists of words are calls: the number is known, the words are as many as the call has, and each is in its field's range.
+// Which lists of words are calls: the number is known, the words are as many as the call has, each is in its field's range, and one that
+// the call does not read is 0.
 use crate::arguments::COMPLETION;
+use words::slices;
 use words::slices::word_at;
 ghost use mathlib.Core.Path.{_≡_};
 ghost use Prim.Native.Nat.{_+_, _*_, _≤_};
@@ -7,12 +9,19 @@ ghost use lib.ListN.{length};
 ghost use lib.Dec.{ltb};
 ghost use Rattle.chain.specs.Lists.{anyIn};
 ghost use Rattle.scope.specs.Returned.{completionWords};
-ghost use Rattle.call_words.specs.Form.{atMost, isFlag, isByte, isHalf, isOption, isError, isOptionError, isSetup, isReading, has, isOpen, isSetDevice, isSetPort, isSetEndpoints, isSetReconcile, isAcquire, isInitialize, isClose, isSubmit, isPlan, isSubmitReply, isPollReply, isReports, isReset, isCompletion, areCompletions, isRecoveryReply, isPlacing, isMoving, isRequesting, isReporting, isRecovering, isCall};
+ghost use Rattle.call_words.specs.Parts.{atMost, isZero, isFlag, isByte, isHalf, isOption, areZero, byFlag, isBusId, isOptionNumber, isError, isOptionError, isSetup, isOptionSetup, isReading, isCompletion, isStage};
+ghost use Rattle.call_words.specs.Form.{has, isOpening, isSetDevice, isSetPort, isSetEndpoints, isSetReconcile, isAcquire, isInitialize, isClose, isSubmit, isPlan, isSubmitReply, isPollReply, isReports, isReset, areCompletions, isRecovered, isRecoveryReply, isPlacing, isMoving, isSubmission, isReplying, isReporting, isRecovering, isCall};
 
 fn at_most(w: &[u64], i: usize, limit: u64) -> bool
     ensures { λ r. ⌜ r ≡ atMost (now (w .entry)) i limit ⌝ }
 {
     word_at(w, i) <= limit
+}
+
+fn is_zero(w: &[u64], i: usize) -> bool
+    ensures { λ r. ⌜ r ≡ isZero (now (w .entry)) i ⌝ }
+{
+    word_at(w, i) == 0
 }
 
 fn is_flag(w: &[u64], i: usize) -> bool
@@ -39,6 +48,42 @@ fn is_option(w: &[u64], i: usize) -> bool
     at_most(w, i, 4294967296)
 }
 
+fn are_zero(w: &[u64], at: u16, n: u8) -> bool
+    ensures { λ r. ⌜ r ≡ areZero (now (w .entry)) at n ⌝ }
+{
+    let mut good = true;
+    let mut k: u8 = 0;
+    while k < n {
+        good = good & is_zero(w, at as usize + k as usize);
+        k += 1;
+    }
+    good
+}
+
+// By a flag: the one test where it is 0, the other where it is 1.
+fn by_flag(flag: u64, unset: bool, set: bool) -> bool
+    ensures { λ r. ⌜ r ≡ byFlag flag unset set ⌝ }
+{
+    if flag == 0 {
+        return unset;
+    }
+    (flag == 1) & set
+}
+
+// A device's or a port's id.
+fn is_bus_id(w: &[u64], at: u8) -> bool
+    ensures { λ r. ⌜ r ≡ isBusId (now (w .entry)) at ⌝ }
+{
+    is_byte(w, at as usize + 2)
+}
+
+fn is_option_number(w: &[u64], at: u8) -> bool
+    ensures { λ r. ⌜ r ≡ isOptionNumber (now (w .entry)) at ⌝ }
+{
+    let i = at as usize;
+    by_flag(word_at(w, i), is_zero(w, i + 1), true)
+}
+
 fn is_error(w: &[u64], at: u16) -> bool
     ensures { λ r. ⌜ r ≡ isError (now (w .entry)) at ⌝ }
 {
@@ -49,21 +94,57 @@ fn is_error(w: &[u64], at: u16) -> bool
 fn is_option_error(w: &[u64], at: u8) -> bool
     ensures { λ r. ⌜ r ≡ isOptionError (now (w .entry)) at ⌝ }
 {
-    is_flag(w, at as usize) & is_error(w, at as u16 + 1)
+    let past = at as u16 + 1;
+    by_flag(
+        word_at(w, at as usize),
+        are_zero(w, past, 4),
+        is_error(w, past),
+    )
 }
 
-fn is_setup(w: &[u64], at: u8) -> bool
+fn is_setup(w: &[u64], at: u16) -> bool
     ensures { λ r. ⌜ r ≡ isSetup (now (w .entry)) at ⌝ }
 {
     let i = at as usize;
     is_byte(w, i) & is_byte(w, i + 1) & is_half(w, i + 2) & is_half(w, i + 3) & is_half(w, i + 4)
 }
 
+fn is_option_setup(w: &[u64], at: u8) -> bool
+    ensures { λ r. ⌜ r ≡ isOptionSetup (now (w .entry)) at ⌝ }
+{
+    let past = at as u16 + 1;
+    by_flag(
+        word_at(w, at as usize),
+        are_zero(w, past, 5),
+        is_setup(w, past),
+    )
+}
+
 fn is_reading(w: &[u64], at: u8) -> bool
     ensures { λ r. ⌜ r ≡ isReading (now (w .entry)) at ⌝ }
 {
     let i = at as usize;
-    is_flag(w, i) & at_most(w, i + 1, 4294967295) & is_error(w, at as u16 + 2)
+    let past = at as u16 + 2;
+    let port = at_most(w, i + 1, 4294967295) & are_zero(w, past, 4);
+    let error = is_zero(w, i + 1) & is_error(w, past);
+    by_flag(word_at(w, i), port, error)
+}
+
+fn is_completion(w: &[u64]) -> bool
+    ensures { λ r. ⌜ r ≡ isCompletion (now (w .entry)) ⌝ }
+{
+    is_option_error(w, 0) & is_option_number(w, 5) & is_option(w, 7) & is_flag(w, 8) & is_flag(w, 9)
+}
+
+fn is_stage(w: &[u64], at: u8) -> bool
+    ensures { λ r. ⌜ r ≡ isStage (now (w .entry)) at ⌝ }
+{
+    let i = at as usize;
+    by_flag(
+        word_at(w, i),
+        are_zero(w, at as u16 + 1, 2),
+        is_flag(w, i + 1),
+    )
 }
 
 fn has(w: &[u64], n: usize) -> bool
@@ -72,16 +153,16 @@ fn has(w: &[u64], n: usize) -> bool
     w.len() == n
 }
 
-fn is_open(w: &[u64]) -> bool
-    ensures { λ r. ⌜ r ≡ isOpen (now (w .entry)) ⌝ }
+fn is_opening(w: &[u64]) -> bool
+    ensures { λ r. ⌜ r ≡ isOpening (now (w .entry)) ⌝ }
 {
-    has(w, 9) & is_flag(w, 3) & is_flag(w, 5) & is_byte(w, 6)
+    has(w, 9) & is_option_number(w, 3) & by_flag(word_at(w, 5), is_zero(w, 6), is_byte(w, 6))
 }
 
 fn is_set_device(w: &[u64]) -> bool
     ensures { λ r. ⌜ r ≡ isSetDevice (now (w .entry)) ⌝ }
 {
-    has(w, 8) & is_byte(w, 3) & is_byte(w, 6) & at_most(w, 7, 6)
+    has(w, 8) & is_bus_id(w, 1) & is_bus_id(w, 4) & at_most(w, 7, 6)
 }
 
 fn is_set_port(w: &[u64]) -> bool
@@ -118,7 +199,8 @@ fn is_set_reconcile(w: &[u64]) -> bool
 fn is_acquire(w: &[u64]) -> bool
     ensures { λ r. ⌜ r ≡ isAcquire (now (w .entry)) ⌝ }
 {
-    has(w, 7) & is_flag(w, 1) & is_flag(w, 2) & is_error(w, 3)
+    let failed = is_flag(w, 2) & is_error(w, 3);
+    has(w, 7) & by_flag(word_at(w, 1), are_zero(w, 2, 5), failed)
 }
 
 fn is_initialize(w: &[u64]) -> bool
@@ -130,55 +212,60 @@ fn is_initialize(w: &[u64]) -> bool
 fn is_close(w: &[u64]) -> bool
     ensures { λ r. ⌜ r ≡ isClose (now (w .entry)) ⌝ }
 {
-    has(w, 8) & is_flag(w, 1) & is_option_error(w, 3)
+    has(w, 8) & is_option_number(w, 1) & is_option_error(w, 3)
 }
 
 fn is_submit(w: &[u64]) -> bool
     ensures { λ r. ⌜ r ≡ isSubmit (now (w .entry)) ⌝ }
 {
-    let target = (w.len() >= 27) & is_byte(w, 3) & is_byte(w, 4) & at_most(w, 5, 3) & is_flag(w, 6);
-    let setup = is_flag(w, 8) & is_setup(w, 9);
-    let rest = is_reading(w, 14) & is_reading(w, 20) & is_flag(w, 26);
-    target & setup & rest
+    let target = is_bus_id(w, 1)
+        & is_byte(w, 4)
+        & at_most(w, 5, 3)
+        & is_flag(w, 6)
+        & is_option_setup(w, 8);
+    let readings = is_reading(w, 14) & is_reading(w, 20);
+    let packets = by_flag(word_at(w, 26), has(w, 27), w.len() >= 27);
+    target & readings & packets
 }
 
 fn is_plan(w: &[u64]) -> bool
     ensures { λ r. ⌜ r ≡ isPlan (now (w .entry)) ⌝ }
 {
-    let target = has(w, 20) & is_byte(w, 3) & is_flag(w, 4) & is_setup(w, 5);
-    let stages = is_flag(w, 10) & is_flag(w, 11) & at_most(w, 13, 2);
-    target & stages & is_reading(w, 14)
+    let target = has(w, 20) & is_bus_id(w, 1) & is_flag(w, 4) & is_setup(w, 5);
+    let stages = is_stage(w, 10) & at_most(w, 13, 2) & is_reading(w, 14);
+    target & stages
 }
 
 fn is_submit_reply(w: &[u64]) -> bool
     ensures { λ r. ⌜ r ≡ isSubmitReply (now (w .entry)) ⌝ }
 {
-    has(w, 7) & is_flag(w, 1) & is_error(w, 3)
+    let failed = is_zero(w, 2) & is_error(w, 3);
+    has(w, 7) & by_flag(word_at(w, 1), are_zero(w, 3, 4), failed)
 }
 
 fn is_poll_reply(w: &[u64]) -> bool
     ensures { λ r. ⌜ r ≡ isPollReply (now (w .entry)) ⌝ }
 {
-    let reply = has(w, 12) & at_most(w, 1, 2) & is_option_error(w, 2);
-    reply & is_flag(w, 7) & is_option(w, 9) & is_flag(w, 10) & is_flag(w, 11)
+    let kind = word_at(w, 1);
+    if kind == 0 {
+        return has(w, 12) & are_zero(w, 2, 10);
+    }
+    if kind == 1 {
+        return has(w, 12) & is_zero(w, 2) & is_error(w, 3) & are_zero(w, 7, 5);
+    }
+    has(w, 12) & (kind == 2) & is_completion(slices::rest(w, 2))
 }
 
 fn is_reports(w: &[u64]) -> bool
     ensures { λ r. ⌜ r ≡ isReports (now (w .entry)) ⌝ }
 {
-    has(w, 5) & is_flag(w, 1)
+    has(w, 5) & by_flag(word_at(w, 1), are_zero(w, 2, 3), true)
 }
 
 fn is_reset(w: &[u64]) -> bool
     ensures { λ r. ⌜ r ≡ isReset (now (w .entry)) ⌝ }
 {
     has(w, 5) & is_flag(w, 4)
-}
-
-fn is_completion(w: &[u64]) -> bool
-    ensures { λ r. ⌜ r ≡ isCompletion (now (w .entry)) ⌝ }
-{
-    is_option_error(w, 0) & is_flag(w, 5) & is_option(w, 7) & is_flag(w, 8) & is_flag(w, 9)
 }
 
 // The first n completions from `at` on.
@@ -197,6 +284,14 @@ fn are_completions(w: &[u64], at: usize, n: usize) -> bool
     good
 }
 
+fn is_recovered(w: &[u64]) -> bool
+    ensures { λ r. ⌜ r ≡ isRecovered (now (w .entry)) ⌝ }
+{
+    let done = is_flag(w, 2) & is_option_error(w, 3);
+    let failed = are_zero(w, 2, 2) & is_error(w, 4);
+    by_flag(word_at(w, 1), done, failed)
+}
+
 fn is_recovery_reply(w: &[u64]) -> bool
     ensures { λ r. ⌜ r ≡ isRecoveryReply (now (w .entry)) ⌝ }
 {
@@ -212,15 +307,14 @@ fn is_recovery_reply(w: &[u64]) -> bool
     if m > (left - n) / COMPLETION {
         return false;
     }
-    let head = is_flag(w, 1) & is_flag(w, 2) & is_option_error(w, 3);
-    head & are_completions(w, 10 + n, m)
+    is_recovered(w) & are_completions(w, 10 + n, m)
 }
 
 fn is_placing(number: u64, w: &[u64]) -> bool
     ensures { λ r. ⌜ r ≡ isPlacing number (now (w .entry)) ⌝ }
 {
     if number == 0 {
-        return is_open(w);
+        return is_opening(w);
     }
     if number == 1 {
         return is_set_device(w);
@@ -246,15 +340,19 @@ fn is_moving(number: u64, w: &[u64]) -> bool
     is_close(w)
 }
 
-fn is_requesting(number: u64, w: &[u64]) -> bool
-    ensures { λ r. ⌜ r ≡ isRequesting number (now (w .entry)) ⌝ }
+fn is_submission(number: u64, w: &[u64]) -> bool
+    ensures { λ r. ⌜ r ≡ isSubmission number (now (w .entry)) ⌝ }
 {
     if number == 8 {
         return is_submit(w);
     }
-    if number == 9 {
-        return is_plan(w);
-    }
+    is_plan(w)
+}
+
+// A poll takes an id.
+fn is_replying(number: u64, w: &[u64]) -> bool
+    ensures { λ r. ⌜ r ≡ isReplying number (now (w .entry)) ⌝ }
+{
     if number == 10 {
         return is_submit_reply(w);
     }
@@ -264,17 +362,20 @@ fn is_requesting(number: u64, w: &[u64]) -> bool
     is_poll_reply(w)
 }
 
-// Cancel, timeout, reclaim, status and completed bytes take an id; counts take nothing.
+// Status and completed bytes take an id; counts take nothing.
 fn is_reporting(number: u64, w: &[u64]) -> bool
     ensures { λ r. ⌜ r ≡ isReporting number (now (w .entry)) ⌝ }
 {
+    if number == 16 {
+        return has(w, 4);
+    }
     if number == 17 {
         return is_reports(w);
     }
     if number == 18 {
         return has(w, 1);
     }
-    if number <= 19 {
+    if number == 19 {
         return has(w, 4);
     }
     has(w, 1)
@@ -302,8 +403,14 @@ pub fn is_call(w: &[u64]) -> bool
     if number <= 7 {
         return is_moving(number, w);
     }
+    if number <= 9 {
+        return is_submission(number, w);
+    }
     if number <= 12 {
-        return is_requesting(number, w);
+        return is_replying(number, w);
+    }
+    if number <= 15 {
+        return has(w, 4);
     }
     if number <= 21 {
         return is_reporting(number, w);

@@ -15,9 +15,9 @@ use Rattle.calls.specs.declared.Outcome.{Outcome}
 use Rattle.calls.specs.Step.{World, After, world, after, stepOf}
 use Rattle.session_words.specs.State.{Kept, keptOf, keptAs, sessionOf, isSession}
 use Rattle.call_words.specs.Form.{isCall}
+use Rattle.call_words.specs.Decode.{callOf}
 use Rattle.answer_words.specs.Encode.{answerSize, answerWords, written}
 use Rattle.answer_words.specs.Lists.{listSize, listsOf, putLists}
-use Rattle.dispatch.specs.Decode.{callOf}
 
 -- what a call leaves, and the words lent for lists after it
 pub record Ran : Type 0 where

@@ -1,7 +1,7 @@
 -- Laws of what a reply brings, in words. Assumes nothing.
 use Prim.Native.Nat.{ℕ, suc, _+_, _-_, _*_, _/_, _%_, _<_, _≤_}
 use mathlib.Core.Path.{_≡_, refl, sym, ap, _∙_}
-use mathlib.Core.Bool.{Bool, true, false, not, _||_, true≢false, false≢true}
+use mathlib.Core.Bool.{Bool, true, false, cond, not, _||_, true≢false, false≢true}
 use mathlib.Core.List.{List}
 use native.Mathlib.Omega.{arith}
 use native.Mathlib.Numerals.{add-one}
@@ -13,20 +13,19 @@ use Rattle.chain.specs.Lists.{sumBy}
 use Rattle.chain.proofs.Lists.{sum-suc, sum-take}
 use Rattle.words.specs.Records.{tab, part}
 use Rattle.words.proofs.Records.{part-getD, length-tab, getD-tab, sum-tab}
-use Rattle.models.specs.declared.OperationError.{OperationError}
-use Rattle.models.specs.declared.OptionError.the-variants as error
-use Rattle.rows.specs.Codec.{errorOf}
-use Rattle.scope.specs.Returned.{completionWords, errorIn, broughtOf, broughtAt, returnedAt, returnedOf, givenOf, listsAgree}
+use Rattle.scope.specs.Returned.{completionWords, broughtOf, broughtAt, returnedAt, returnedOf, givenOf, listsAgree}
 use Rattle.scope.specs.declared.returned.Brought.{Brought}
+
+-- what a tag r, read as v, says: x where it is k, y where not
+module _ (A : Type 0) (x y z : A) (r v k : ℕ) where
+  pub tagged : r ≡ v → r ≡ k → z ≡ x → z ≡ cond (eqb v k) x y
+  tagged e f q = rw (eq-eqb v k (sym e ∙ f)) q
+
+  pub untagged : r ≡ v → (r ≡ k → ⊥) → z ≡ y → z ≡ cond (eqb v k) x y
+  untagged e f q = rw (ne-eqb v k (λ g. f (e ∙ g))) q
 
 -- ---- one completion
 module _ (w : List ℕ) where
-  pub error-none : getD w 0 0 ≡ 0 → error.None ≡ errorIn w
-  error-none e = rw (eq-eqb (getD w 0 0) 0 e)
-
-  pub error-some : (e : OperationError) → (getD w 0 0 ≡ 0 → ⊥) → e ≡ errorOf (getD w 1 0) (getD w 2 0) (getD w 3 0) (getD w 4 0) → error.Some e ≡ errorIn w
-  error-some e n ee = rw (ne-eqb (getD w 0 0) 0 n, ee)
-
   pub brought-is : (k : ℕ) (r : Brought) → r ≡ broughtOf (take (k * completionWords + completionWords - k * completionWords) (drop (k * completionWords) w)) → r ≡ broughtAt w k
   unfolding part broughtAt
   brought-is k r e = let z : k * completionWords + completionWords - k * completionWords ≡ completionWords = omega arith in e ∙ rw z

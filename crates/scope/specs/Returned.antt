@@ -1,5 +1,5 @@
 -- What a reply brings of each request that the backend completed, in words (the Rust's `BackendAbort::completed`). Assumes nothing.
-use Prim.Native.Nat.{ℕ, _*_}
+use Prim.Native.Nat.{ℕ, _+_, _*_}
 use mathlib.Core.Bool.{Bool, cond, _&&_}
 use mathlib.Core.List.{List}
 use lib.Dec.{eqb}
@@ -7,6 +7,8 @@ use lib.ListN.{length, getD}
 use Rattle.chain.specs.Lists.{sumBy}
 use Rattle.words.specs.Records.{tab, part}
 use Rattle.words.specs.Words.{flagOf, optionU32Of, optionU64Of}
+use Rattle.models.specs.declared.BackendCompletion.{BackendCompletion}
+use Rattle.models.specs.declared.OperationError.{OperationError}
 use Rattle.models.specs.declared.OptionError.{OptionError}
 use Rattle.models.specs.declared.OptionError.the-variants as error
 use Rattle.rows.specs.Codec.{errorOf}
@@ -17,20 +19,26 @@ use Rattle.scope.specs.declared.returned.Brought.{Brought}
 abbrev pub completionWords : ℕ
 completionWords = 11
 
-abbrev pub errorIn : List ℕ → OptionError
-errorIn w = cond (eqb (getD w 0 0) 0) error.None (error.Some (errorOf (getD w 1 0) (getD w 2 0) (getD w 3 0) (getD w 4 0)))
+-- an error, four words from `at` on: category, message, system number, completion code
+abbrev pub readError : List ℕ → ℕ → OperationError
+readError w at = errorOf (getD w at 0) (getD w (at + 1) 0) (getD w (at + 2) 0) (getD w (at + 3) 0)
+
+-- an optional one, five: a flag, and the error
+abbrev pub readOptionError : List ℕ → ℕ → OptionError
+readOptionError w at = cond (eqb (getD w at 0) 0) error.None (error.Some (readError w (at + 1)))
+
+-- what the first ten words say
+abbrev pub readCompletion : List ℕ → BackendCompletion
+readCompletion w = record {
+  «actual_length» = optionU64Of (getD w 5 0) (getD w 6 0);
+  «completion_code» = optionU32Of (getD w 7 0);
+  «has_data» = flagOf (getD w 8 0);
+  error = readOptionError w 0;
+  quiescent = flagOf (getD w 9 0);
+}
 
 unfoldable pub broughtOf : List ℕ → Brought
-broughtOf w = record {
-  completion = record {
-    «actual_length» = optionU64Of (getD w 5 0) (getD w 6 0);
-    «completion_code» = optionU32Of (getD w 7 0);
-    «has_data» = flagOf (getD w 8 0);
-    error = errorIn w;
-    quiescent = flagOf (getD w 9 0);
-  };
-  given = getD w 10 0;
-}
+broughtOf w = record { completion = readCompletion w; given = getD w 10 0 }
 
 unfoldable pub broughtAt : List ℕ → ℕ → Brought
 broughtAt w k = broughtOf (part (k * completionWords) completionWords w)

@@ -1,14 +1,16 @@
 // What a reply brings of each request that the backend completed, in words.
 use models::BackendCompletion;
+use models::OperationError;
 use models::OptionError;
 use rows::codec;
+use words::slices::word_at;
 ghost use mathlib.Core.Path.{_≡_};
 ghost use Prim.Native.Nat.{_+_, _*_, _≤_};
 ghost use lib.ListN.{length};
 ghost use lib.Dec.{eqb};
 ghost use Rattle.chain.specs.Lists.{sumBy};
 ghost use Rattle.words.specs.Records.{tab};
-ghost use Rattle.scope.specs.Returned.{completionWords, errorIn, broughtOf, broughtAt, listsAgree};
+ghost use Rattle.scope.specs.Returned.{completionWords, readError, readOptionError, readCompletion, broughtOf, broughtAt, listsAgree};
 ghost use Rattle.scope.specs.declared.returned.Brought.{Brought};
 
 // A completion, and how many bytes of the data area are its own.
@@ -19,30 +21,47 @@ pub struct Brought {
 
 const WORDS: usize = 11;
 
-fn error_in(w: &[u64]) -> OptionError
-    requires { ⌜ length (now w) ≡ completionWords ⌝ }
-    ensures { λ r. ⌜ r ≡ errorIn (now (w .entry)) ⌝ }
+// Four words: category, message, system number, completion code.
+pub fn error_at(w: &[u64], at: u16) -> OperationError
+    ensures { λ r. ⌜ r ≡ readError (now (w .entry)) at ⌝ }
 {
-    if w[0] == 0 {
+    let i = at as usize;
+    codec::to_error(
+        word_at(w, i),
+        word_at(w, i + 1),
+        word_at(w, i + 2),
+        word_at(w, i + 3),
+    )
+}
+
+pub fn option_error_at(w: &[u64], at: u8) -> OptionError
+    ensures { λ r. ⌜ r ≡ readOptionError (now (w .entry)) at ⌝ }
+{
+    if word_at(w, at as usize) == 0 {
         return OptionError::None;
     }
-    OptionError::Some(codec::to_error(w[1], w[2], w[3], w[4]))
+    OptionError::Some(error_at(w, at as u16 + 1))
+}
+
+// A completion by its first ten words.
+pub fn completion(w: &[u64]) -> BackendCompletion
+    ensures { λ r. ⌜ r ≡ readCompletion (now (w .entry)) ⌝ }
+{
+    BackendCompletion {
+        actual_length: words::to_option_u64(word_at(w, 5), word_at(w, 6)),
+        completion_code: words::to_option_u32(word_at(w, 7)),
+        has_data: words::to_flag(word_at(w, 8)),
+        error: option_error_at(w, 0),
+        quiescent: words::to_flag(word_at(w, 9)),
+    }
 }
 
 fn decode(w: &[u64]) -> Brought
-    requires { ⌜ length (now w) ≡ completionWords ⌝ }
     ensures { λ r. ⌜ r ≡ broughtOf (now (w .entry)) ⌝ }
 {
-    let completion = BackendCompletion {
-        actual_length: words::to_option_u64(w[5], w[6]),
-        completion_code: words::to_option_u32(w[7]),
-        has_data: words::to_flag(w[8]),
-        error: error_in(w),
-        quiescent: words::to_flag(w[9]),
-    };
     Brought {
-        completion,
-        given: w[10],
+        completion: completion(w),
+        given: word_at(w, 10),
     }
 }
 

@@ -1,11 +1,12 @@
 use borrow.Author.Needs.{needs}
-use Rattle.call_words.proofs.Reading.{tagged, untagged, flag-read}
-use Rattle.call_words.specs.Arguments.{acquireReplyOf}
+use Rattle.scope.proofs.Returning.{tagged, untagged}
+use Rattle.call_words.proofs.Reading.{flag-read}
+use Rattle.call_words.specs.Arguments.{readAcquireReply}
 use Rattle.call_words.proofs.arguments.acquire_reply.Statement.{statement}
 use Rattle.call_words.proofs.arguments.acquire_reply.Tie as tie
 
 pub acquire-reply-spec : {M : Type 1} → statement M
-unfolding acquireReplyOf
+unfolding readAcquireReply
 acquire-reply-spec =
     tie.close
     (tie.spec

@@ -1,11 +1,11 @@
 use borrow.Author.Needs.{needs}
-use Rattle.call_words.proofs.Reading.{tagged, untagged}
-use Rattle.call_words.specs.Arguments.{optionIdOf}
+use Rattle.scope.proofs.Returning.{tagged, untagged}
+use Rattle.call_words.specs.Arguments.{readOptionId}
 use Rattle.call_words.proofs.arguments.option_id.Statement.{statement}
 use Rattle.call_words.proofs.arguments.option_id.Tie as tie
 
 pub option-id-spec : {M : Type 1} → statement M
-unfolding optionIdOf
+unfolding readOptionId
 option-id-spec =
     tie.close
     (tie.spec

@@ -1,11 +1,12 @@
 use borrow.Author.Needs.{needs}
-use Rattle.call_words.proofs.Reading.{tagged, untagged}
-use Rattle.call_words.specs.Arguments.{pollReplyOf}
+use Rattle.call_words.proofs.Reading.{completion-read}
+use Rattle.scope.proofs.Returning.{tagged, untagged}
+use Rattle.call_words.specs.Arguments.{readPollReply}
 use Rattle.call_words.proofs.arguments.poll_reply.Statement.{statement}
 use Rattle.call_words.proofs.arguments.poll_reply.Tie as tie
 
 pub poll-reply-spec : {M : Type 1} → statement M
-unfolding pollReplyOf
+unfolding readPollReply
 poll-reply-spec =
     tie.close
     (tie.spec
@@ -14,4 +15,5 @@ poll-reply-spec =
     (λ c κs. search needs)
     (λ c. search (tagged, untagged))
     (λ c κs. search needs)
-    (λ c. search untagged))
+    (λ c κs. search needs)
+    (λ c. search (untagged, completion-read)))

@@ -1,10 +1,10 @@
 use borrow.Author.Needs.{needs}
-use Rattle.call_words.specs.Arguments.{portRowOf}
+use Rattle.call_words.specs.Arguments.{readPortRow}
 use Rattle.call_words.proofs.arguments.port_row.Statement.{statement}
 use Rattle.call_words.proofs.arguments.port_row.Tie as tie
 
 pub port-row-spec : {M : Type 1} → statement M
-unfolding portRowOf
+unfolding readPortRow
 port-row-spec =
     tie.close
     (tie.spec

@@ -1,5 +1,6 @@
 use borrow.Author.Needs.{needs}
-use Rattle.call_words.proofs.Reading.{tagged, untagged, low-read}
+use Rattle.scope.proofs.Returning.{tagged, untagged}
+use Rattle.call_words.proofs.Reading.{low-read}
 use Rattle.call_words.proofs.arguments.reading_at.Statement.{statement}
 use Rattle.call_words.proofs.arguments.reading_at.Tie as tie
 

@@ -1,11 +1,11 @@
 use borrow.Author.Needs.{needs}
-use Rattle.call_words.proofs.Reading.{tagged, untagged}
-use Rattle.call_words.specs.Arguments.{submitReplyOf}
+use Rattle.scope.proofs.Returning.{tagged, untagged}
+use Rattle.call_words.specs.Arguments.{readSubmitReply}
 use Rattle.call_words.proofs.arguments.submit_reply.Statement.{statement}
 use Rattle.call_words.proofs.arguments.submit_reply.Tie as tie
 
 pub submit-reply-spec : {M : Type 1} → statement M
-unfolding submitReplyOf
+unfolding readSubmitReply
 submit-reply-spec =
     tie.close
     (tie.spec

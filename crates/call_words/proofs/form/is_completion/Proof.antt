@@ -1,10 +1,8 @@
-use Rattle.call_words.specs.Form.{isCompletion}
 use borrow.Author.Needs.{needs}
 use Rattle.call_words.proofs.form.is_completion.Statement.{statement}
 use Rattle.call_words.proofs.form.is_completion.Tie as tie
 
 pub is-completion-spec : {M : Type 1} → statement M
-unfolding isCompletion
 is-completion-spec =
     tie.close
     (tie.spec

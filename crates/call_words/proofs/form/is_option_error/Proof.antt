@@ -6,7 +6,9 @@ pub is-option-error-spec : {M : Type 1} → statement M
 is-option-error-spec =
     tie.close
     (tie.spec
-    (λ c κs. search needs)
     (λ c. search needs)
+    (λ c κs. search needs)
+    (λ c κs. search needs)
+    (λ c κs. search needs)
     (λ c κs. search needs)
     (λ c. cc))

@@ -1,5 +1,5 @@
-use Rattle.call_words.proofs.Forming.{reply-short, reply-tokens, reply-completions, reply-is}
 use borrow.Author.Needs.{needs}
+use Rattle.call_words.proofs.Forming.{reply-short, reply-tokens, reply-completions, reply-is}
 use Rattle.call_words.proofs.form.is_recovery_reply.Statement.{statement}
 use Rattle.call_words.proofs.form.is_recovery_reply.Tie as tie
 
@@ -13,8 +13,6 @@ is-recovery-reply-spec =
     (λ c. search needs)
     (λ c. search reply-tokens)
     (λ c. search reply-completions)
-    (λ c κs. search needs)
-    (λ c κs. search needs)
     (λ c κs. search needs)
     (λ c. search needs)
     (λ c κs. search needs)

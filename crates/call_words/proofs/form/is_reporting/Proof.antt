@@ -16,4 +16,6 @@ is-reporting-spec =
     (λ c κs. search needs)
     (λ c. search chain depth 20)
     (λ c κs. search needs)
+    (λ c. search chain depth 20)
+    (λ c κs. search needs)
     (λ c. search chain depth 20))

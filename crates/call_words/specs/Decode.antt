@@ -6,38 +6,40 @@ use lib.Dec.{eqb, leb}
 use Rattle.chain.specs.Chain.{_if_else_}
 use Rattle.words.specs.Words.{flagOf, optionU64Of}
 use Rattle.session.specs.declared.RecoveryKind.the-variants as kind
-use Rattle.calls.specs.Calls.{Device, Port, Endpoints, Reconcile, Acquire, Initialize, Close, Submit, SubmitPlan, Poll, Recover, ToSubmit, ToPoll, ToRecovery, Cancel, Timeout, Reclaim, Status, Reports, CountReports, CompletedBytes, HeldCount, HeldBytes, Call, Open, Place, Move, Begin, Reply, Change, Read}
+use Rattle.scope.specs.Returned.{readOptionError}
+use Rattle.calls.specs.Calls.{Call, Open, Place, Device, Port, Endpoints, Reconcile, Move, Acquire, Initialize, Close, Begin, Submit, SubmitPlan, Poll, Recover, Reply, ToSubmit, ToPoll, ToRecovery, Change, Cancel, Timeout, Reclaim, Read, Status, Reports, CountReports, CompletedBytes, HeldCount, HeldBytes}
 use Rattle.session_words.specs.State.{idAt}
-use Rattle.call_words.specs.Arguments.{optionErrorAt, readingAt, openingOf, snapshotOf, portRowOf, acquireReplyOf, specOf, planOf, submitReplyOf, pollReplyOf, optionIdOf, backendAbortOf, completedOf, completionsOf, abortedOf}
+use Rattle.call_words.specs.Parts.{readReading}
+use Rattle.call_words.specs.Arguments.{readOpening, readSnapshot, readPortRow, readAcquireReply, readSpec, readPlan, readSubmitReply, readPollReply, readOptionId, readRecoveryReply, readCompleted, readCompletions, readAborted}
 
 -- 0 to 4
 unfoldable pub placingOf : ℕ → List ℕ → Call
 placingOf n w =
-    Open (openingOf w) if eqb n 0 else
-    Place (Device (snapshotOf w)) if eqb n 1 else
-    Place (Port (getD w 1 0 % 2 ^ 8) (portRowOf w)) if eqb n 2 else
+    Open (readOpening w) if eqb n 0 else
+    Place (Device (readSnapshot w)) if eqb n 1 else
+    Place (Port (getD w 1 0 % 2 ^ 8) (readPortRow w)) if eqb n 2 else
     Place (Endpoints (getD w 1 0 % 2 ^ 8) (drop 2 w)) if eqb n 3 else
     Place (Reconcile (getD w 1 0 % 2 ^ 8) (flagOf (getD w 2 0)))
 
 -- 5 to 7
 unfoldable pub movingOf : ℕ → List ℕ → Call
 movingOf n w =
-    Move (Acquire (acquireReplyOf w)) if eqb n 5 else
-    Move (Initialize (optionErrorAt w 1)) if eqb n 6 else
-    Move (Close (optionU64Of (getD w 1 0) (getD w 2 0)) (optionErrorAt w 3))
+    Move (Acquire (readAcquireReply w)) if eqb n 5 else
+    Move (Initialize (readOptionError w 1)) if eqb n 6 else
+    Move (Close (optionU64Of (getD w 1 0) (getD w 2 0)) (readOptionError w 3))
 
 -- 8 and 9
 unfoldable pub submissionOf : ℕ → List ℕ → List ℕ → Call
 submissionOf n w bytes =
-    Begin (Submit (specOf w) bytes (flagOf (getD w 26 0)) (drop 27 w) (readingAt w 14) (readingAt w 20)) if eqb n 8 else
-    Begin (SubmitPlan (planOf w) bytes (readingAt w 14))
+    Begin (Submit (readSpec w) bytes (flagOf (getD w 26 0)) (drop 27 w) (readReading w 14) (readReading w 20)) if eqb n 8 else
+    Begin (SubmitPlan (readPlan w) bytes (readReading w 14))
 
 -- 10 to 12
 unfoldable pub replyingOf : ℕ → List ℕ → List ℕ → Call
 replyingOf n w bytes =
-    Reply (ToSubmit (submitReplyOf w)) if eqb n 10 else
+    Reply (ToSubmit (readSubmitReply w)) if eqb n 10 else
     Begin (Poll (idAt w 1)) if eqb n 11 else
-    Reply (ToPoll (pollReplyOf w) bytes)
+    Reply (ToPoll (readPollReply w) bytes)
 
 -- 13 to 15
 unfoldable pub changingOf : ℕ → List ℕ → Call
@@ -50,7 +52,7 @@ changingOf n w =
 unfoldable pub reportingOf : ℕ → List ℕ → Call
 reportingOf n w =
     Read (Status (idAt w 1)) if eqb n 16 else
-    Read (Reports (optionIdOf w)) if eqb n 17 else
+    Read (Reports (readOptionId w)) if eqb n 17 else
     Read CountReports if eqb n 18 else
     Read (CompletedBytes (idAt w 1)) if eqb n 19 else
     Read HeldCount if eqb n 20 else
@@ -61,7 +63,7 @@ unfoldable pub recoveringOf : ℕ → List ℕ → List ℕ → Call
 recoveringOf n w bytes =
     Begin (Recover (idAt w 1) kind.Abort) if eqb n 22 else
     Begin (Recover (idAt w 1) (kind.Reset (flagOf (getD w 4 0)))) if eqb n 23 else
-    Reply (ToRecovery (backendAbortOf w) (completedOf w) (completionsOf w) (abortedOf w) bytes)
+    Reply (ToRecovery (readRecoveryReply w) (readCompleted w) (readCompletions w) (readAborted w) bytes)
 
 unfoldable pub callOf : List ℕ → List ℕ → Call
 callOf w bytes =

@@ -1,7 +1,7 @@
 use borrow.Author.Needs.{needs}
-use Rattle.call_words.proofs.Reading.{tagged, untagged}
-use Rattle.call_words.proofs.arguments.option_error_at.Statement.{statement}
-use Rattle.call_words.proofs.arguments.option_error_at.Tie as tie
+use Rattle.scope.proofs.Returning.{tagged, untagged}
+use Rattle.scope.proofs.returned.option_error_at.Statement.{statement}
+use Rattle.scope.proofs.returned.option_error_at.Tie as tie
 
 pub option-error-at-spec : {M : Type 1} → statement M
 option-error-at-spec =

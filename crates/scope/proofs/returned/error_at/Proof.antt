@@ -1,6 +1,6 @@
 use borrow.Author.Needs.{needs}
-use Rattle.call_words.proofs.arguments.error_at.Statement.{statement}
-use Rattle.call_words.proofs.arguments.error_at.Tie as tie
+use Rattle.scope.proofs.returned.error_at.Statement.{statement}
+use Rattle.scope.proofs.returned.error_at.Tie as tie
 
 pub error-at-spec : {M : Type 1} → statement M
 error-at-spec =

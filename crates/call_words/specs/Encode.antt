@@ -1,0 +1,131 @@
+-- The words of a call. Assumes nothing.
+use Prim.Native.Nat.{ℕ, _/_}
+use mathlib.Core.List.{List, [], _∷_, _++_}
+use lib.ListN.{length}
+use Rattle.words.specs.Words.{flagWord, optionU32Word}
+use Rattle.models.specs.Codes.{transferWord, directionWord, deviceStateWord}
+use Rattle.models.specs.declared.ControlPlan.{ControlPlan}
+use Rattle.models.specs.declared.RequestSpec.{RequestSpec}
+use Rattle.session.specs.declared.RecoveryKind.the-variants as kind
+use Rattle.session.specs.declared.lifecycle.AcquireReply.{AcquireReply}
+use Rattle.session.specs.declared.lifecycle.AcquireReply.the-variants as acquire
+use Rattle.session.specs.declared.lifecycle.Opening.{Opening}
+use Rattle.reports.specs.declared.OptionId.{OptionId}
+use Rattle.reports.specs.declared.OptionId.the-variants as option
+use Rattle.polls.specs.declared.PollReply.{PollReply}
+use Rattle.polls.specs.declared.PollReply.the-variants as poll
+use Rattle.submissions.specs.declared.SubmitReply.{SubmitReply}
+use Rattle.submissions.specs.declared.SubmitReply.the-variants as submit
+use Rattle.scope.specs.Returned.{completionWords}
+use Rattle.recovery.specs.declared.RecoveryReply.{RecoveryReply}
+use Rattle.recovery.specs.declared.RecoveryReply.the-variants as recovery
+use Rattle.calls.specs.Calls.{Call, Open, Placing, Place, Device, Port, Endpoints, Reconcile, Moving, Move, Acquire, Initialize, Close, Beginning, Begin, Submit, SubmitPlan, Poll, Recover, Replying, Reply, ToSubmit, ToPoll, ToRecovery, Changing, Change, Cancel, Timeout, Reclaim, Reading, Read, Status, Reports, CountReports, CompletedBytes, HeldCount, HeldBytes}
+use Rattle.call_words.specs.Parts.{zeros, idWords, deviceWords, portIdWords, optionNumberWords, errorWords, optionErrorWords, packetWords, optionSetupWords, readingWords, backendCompletionWords, profileWord, stageWords, statusWord}
+
+-- ---- the arguments of several words
+
+abbrev pub openingWords : Opening → List ℕ
+openingWords o =
+    o .session ∷ o .«first_sequence» ∷ optionNumberWords (o .«recovery_revision»)
+    ++ flagWord (o .«has_ports») ∷ o .«port_count» ∷ o .«row_count» ∷ o .«row_bytes» ∷ []
+
+abbrev pub acquireWords : AcquireReply → List ℕ
+acquireWords acquire.Acquired = zeros 6
+acquireWords (acquire.Failed e retained) = 1 ∷ flagWord retained ∷ errorWords e
+
+abbrev pub specWords : RequestSpec → List ℕ
+specWords q =
+    deviceWords (q .device) ++ q .endpoint ∷ transferWord (q .«transfer_type») ∷ directionWord (q .direction) ∷ q .length ∷ optionSetupWords (q .setup)
+
+abbrev pub planWords : ControlPlan → List ℕ
+planWords p =
+    deviceWords (p .device) ++ profileWord (p .profile) ∷ packetWords (p .setup)
+    ++ stageWords (p .«data_stage») ++ statusWord (p .«status_direction») ∷ []
+
+abbrev pub submitReplyWords : SubmitReply → List ℕ
+submitReplyWords (submit.Token t) = 0 ∷ t ∷ zeros 4
+submitReplyWords (submit.Error e) = 1 ∷ 0 ∷ errorWords e
+
+abbrev pub pollReplyWords : PollReply → List ℕ
+pollReplyWords poll.Nothing = 0 ∷ zeros 10
+pollReplyWords (poll.Error e) = 1 ∷ 0 ∷ errorWords e ++ zeros 5
+pollReplyWords (poll.Completion x) = 2 ∷ backendCompletionWords x
+
+abbrev pub optionIdWords : OptionId → List ℕ
+optionIdWords option.None = zeros 4
+optionIdWords (option.Some id) = 1 ∷ idWords id
+
+abbrev pub recoveryReplyWords : RecoveryReply → List ℕ
+recoveryReplyWords (recovery.Done x) = 0 ∷ flagWord (x .«restart_ready») ∷ optionErrorWords (x .error)
+recoveryReplyWords (recovery.Error e) = 1 ∷ 0 ∷ 0 ∷ errorWords e
+
+-- ---- by group
+
+abbrev pub placingWords : Placing → List ℕ
+placingWords (Device d) = 1 ∷ deviceWords (d .id) ++ portIdWords (d .port) ++ deviceStateWord (d .state) ∷ []
+placingWords (Port n r) = 2 ∷ n ∷ r .generation ∷ optionU32Word (r .reading) ∷ []
+placingWords (Endpoints slot list) = 3 ∷ slot ∷ list
+placingWords (Reconcile slot mark) = 4 ∷ slot ∷ flagWord mark ∷ []
+
+abbrev pub movingWords : Moving → List ℕ
+movingWords (Acquire r) = 5 ∷ acquireWords r
+movingWords (Initialize e) = 6 ∷ optionErrorWords e
+movingWords (Close fresh e) = 7 ∷ optionNumberWords fresh ++ optionErrorWords e
+
+abbrev pub beginningWords : Beginning → List ℕ
+beginningWords (Submit q bytes given packets first second) =
+    8 ∷ specWords q ++ readingWords first ++ readingWords second ++ flagWord given ∷ packets
+beginningWords (SubmitPlan p bytes reading) = 9 ∷ planWords p ++ readingWords reading
+beginningWords (Poll id) = 11 ∷ idWords id
+beginningWords (Recover id kind.Abort) = 22 ∷ idWords id
+beginningWords (Recover id (kind.Reset preserve)) = 23 ∷ idWords id ++ flagWord preserve ∷ []
+
+abbrev pub replyingWords : Replying → List ℕ
+replyingWords (ToSubmit r) = 10 ∷ submitReplyWords r
+replyingWords (ToPoll r bytes) = 12 ∷ pollReplyWords r
+replyingWords (ToRecovery r completed completions aborted bytes) =
+    24 ∷ recoveryReplyWords r ++ length completed ∷ length completions / completionWords ∷ completed ++ completions ++ aborted
+
+abbrev pub changingNumber : Changing → ℕ
+changingNumber Cancel = 13
+changingNumber Timeout = 14
+changingNumber Reclaim = 15
+
+abbrev pub readingCallWords : Reading → List ℕ
+readingCallWords (Status id) = 16 ∷ idWords id
+readingCallWords (Reports after) = 17 ∷ optionIdWords after
+readingCallWords CountReports = 18 ∷ []
+readingCallWords (CompletedBytes id) = 19 ∷ idWords id
+readingCallWords HeldCount = 20 ∷ []
+readingCallWords HeldBytes = 21 ∷ []
+
+unfoldable pub callWords : Call → List ℕ
+callWords (Open o) = 0 ∷ openingWords o
+callWords (Place p) = placingWords p
+callWords (Move m) = movingWords m
+callWords (Begin b) = beginningWords b
+callWords (Reply r) = replyingWords r
+callWords (Change id c) = changingNumber c ∷ idWords id
+callWords (Read r) = readingCallWords r
+
+-- ---- the bytes lent beside the words
+
+abbrev pub beginningBytes : Beginning → List ℕ
+beginningBytes (Submit q bytes given packets first second) = bytes
+beginningBytes (SubmitPlan p bytes reading) = bytes
+beginningBytes (Poll id) = []
+beginningBytes (Recover id k) = []
+
+abbrev pub replyingBytes : Replying → List ℕ
+replyingBytes (ToSubmit r) = []
+replyingBytes (ToPoll r bytes) = bytes
+replyingBytes (ToRecovery r completed completions aborted bytes) = bytes
+
+abbrev pub callBytes : Call → List ℕ
+callBytes (Open o) = []
+callBytes (Place p) = []
+callBytes (Move m) = []
+callBytes (Begin b) = beginningBytes b
+callBytes (Reply r) = replyingBytes r
+callBytes (Change id c) = []
+callBytes (Read r) = []
