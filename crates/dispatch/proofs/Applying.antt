@@ -18,7 +18,7 @@ use Rattle.calls.specs.declared.Outcome.{Outcome}
 use Rattle.answer_words.proofs.Room.{lists-put}
 use Rattle.session_words.proofs.Own.{written-same}
 use Rattle.dispatch.specs.Apply.{StepsRows, StepsStore, RunsStore, Ran, ran, runOf, Done, done, wrote, answered, applyOf}
-use Rattle.dispatch.specs.Decode.{placingOf, movingOf, submissionOf, replyingOf, changingOf, reportingOf, recoveringOf, callOf}
+use Rattle.call_words.specs.Decode.{placingOf, movingOf, submissionOf, replyingOf, changingOf, reportingOf, recoveringOf, callOf}
 use Rattle.dispatch.proofs.Steps.{unlisted, ran-said}
 
 -- ---- calls without lists

@@ -19,7 +19,7 @@ use Rattle.session_words.specs.State.{idAt}
 use Rattle.calls.specs.Step.{world, changeBy, stepOf}
 use Rattle.calls.specs.declared.Outcome.{Outcome}
 use Rattle.dispatch.specs.Apply.{StepsRows}
-use Rattle.dispatch.specs.Decode.{changingOf}
+use Rattle.call_words.specs.Decode.{changingOf}
 use Rattle.dispatch.proofs.Steps.{said, reported}
 
 module _ (n : ℕ) (s : Session) (l k w : List ℕ) (id : RequestId) (x : Reported) (r : Outcome) (ei : id ≡ idAt w 1)

@@ -14,16 +14,17 @@ use Rattle.session.specs.declared.Called.{Called}
 use Rattle.session.specs.declared.Session.{Session}
 use Rattle.session.specs.declared.lifecycle.AcquireReply.{AcquireReply}
 use Rattle.calls.specs.Answers.{outcome, ofVerdict}
-use Rattle.call_words.specs.Arguments.{acquireReplyOf, optionErrorAt}
+use Rattle.scope.specs.Returned.{readOptionError}
+use Rattle.call_words.specs.Arguments.{readAcquireReply}
 use Rattle.calls.specs.Calls.{Acquire, Initialize, Close, Move}
 use Rattle.calls.specs.Step.{world, after, closes, movedOf, stepOf}
 use Rattle.calls.specs.declared.Outcome.{Outcome}
 use Rattle.dispatch.specs.Apply.{StepsRows}
-use Rattle.dispatch.specs.Decode.{movingOf}
+use Rattle.call_words.specs.Decode.{movingOf}
 use Rattle.dispatch.proofs.Steps.{said, moved}
 
 module _ (n : ℕ) (s : Session) (l w : List ℕ) (x : Called) (r : Outcome) (er : r ≡ outcome (ofVerdict (x .answer)) (x .session)) where
-  pub acquire-step : (reply : AcquireReply) → reply ≡ acquireReplyOf w → n ≡ 5 → x ≡ acquireOf s reply
+  pub acquire-step : (reply : AcquireReply) → reply ≡ readAcquireReply w → n ≡ 5 → x ≡ acquireOf s reply
       → StepsRows r (storeOf l) (movingOf n w) s (storeOf l)
   unfolding stepOf movedOf movingOf
   acquire-step reply ea e h b area =
@@ -31,21 +32,21 @@ module _ (n : ℕ) (s : Session) (l w : List ℕ) (x : Called) (r : Outcome) (er
       said (Move (Acquire reply)) (movingOf n w) v _ (search (chain, ap (λ (z : AcquireReply). Move (Acquire z)) ea) depth 20) (moved r (storeOf l) v x _ er h)
 
   module _ (n5 : n ≡ 5 → ⊥) (reply : OptionError) where
-    pub initialize-step : reply ≡ optionErrorAt w 1 → n ≡ 6 → x ≡ initializeOf s reply → StepsRows r (storeOf l) (movingOf n w) s (storeOf l)
+    pub initialize-step : reply ≡ readOptionError w 1 → n ≡ 6 → x ≡ initializeOf s reply → StepsRows r (storeOf l) (movingOf n w) s (storeOf l)
     unfolding stepOf movedOf movingOf
     initialize-step ea e h b area =
         let v = world s b (storeOf l) area in
         said (Move (Initialize reply)) (movingOf n w) v _ (search (chain, ap (λ (z : OptionError). Move (Initialize z)) ea) depth 20) (moved r (storeOf l) v x _ er h)
 
     pub close-step : (k : List ℕ) (p q : ℕ) (fresh : OptionU64) → p ≡ getD w 1 0 → q ≡ getD w 2 0 → fresh ≡ optionU64Of p q
-        → reply ≡ optionErrorAt w 3 → (n ≡ 6 → ⊥)
+        → reply ≡ readOptionError w 3 → (n ≡ 6 → ⊥)
         → calledTo x (storeOf k) ≡ closeOf s (rowsFit (s .«row_count») (s .«row_bytes») (length l)) fresh reply (storeOf l)
         → StepsRows r (storeOf k) (movingOf n w) s (storeOf l)
     unfolding stepOf movedOf storeOf movingOf
     close-step k p q fresh ep eq ef ea n6 h b area =
         let v = world s b (storeOf l) area in
         let f : fresh ≡ optionU64Of (getD w 1 0) (getD w 2 0) = ef ∙ rw (ep, eq) in
-        let c : Move (Close fresh reply) ≡ Move (Close (optionU64Of (getD w 1 0) (getD w 2 0)) (optionErrorAt w 3)) =
+        let c : Move (Close fresh reply) ≡ Move (Close (optionU64Of (getD w 1 0) (getD w 2 0)) (readOptionError w 3)) =
         ap (λ (z : OptionU64). Move (Close z reply)) f ∙ ap (λ (z : OptionError). Move (Close (optionU64Of (getD w 1 0) (getD w 2 0)) z)) ea in
         said (Move (Close fresh reply)) (movingOf n w) v _ (search (chain, c) depth 20)
         (ap (λ (z : Outcome). after z b (storeOf k) area) er ∙ ap (λ (z : CalledTo). closes z v) h)

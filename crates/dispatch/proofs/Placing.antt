@@ -19,11 +19,11 @@ use Rattle.session.specs.declared.Session.{Session}
 use Rattle.session.specs.declared.lifecycle.Opened.{Opened}
 use Rattle.session.specs.declared.lifecycle.Opening.{Opening}
 use Rattle.calls.specs.Answers.{outcome, ofOpened, ofVerdict}
-use Rattle.call_words.specs.Arguments.{openingOf, snapshotOf, portRowOf}
+use Rattle.call_words.specs.Arguments.{readOpening, readSnapshot, readPortRow}
 use Rattle.calls.specs.Calls.{Device, Port, Endpoints, Reconcile, Open, Place}
 use Rattle.calls.specs.Step.{World, world, After, after, opens, places, placedOf, stepOf}
 use Rattle.calls.specs.declared.Outcome.{Outcome}
-use Rattle.dispatch.specs.Decode.{placingOf}
+use Rattle.call_words.specs.Decode.{placingOf}
 use Rattle.dispatch.proofs.Steps.{said}
 
 -- the lent bus, rows and area before are l, m and a; the bus after is l'
@@ -31,7 +31,7 @@ module _ (n : ℕ) (s : Session) (l m a l' w : List ℕ) (r : Outcome) where
   abbrev handed : World
   handed = world s (busOf l) (storeOf m) a
 
-  pub open-step : (m' : List ℕ) (x : Opened) (o : Opening) → n ≡ 0 → o ≡ openingOf w → r ≡ ofOpened x s
+  pub open-step : (m' : List ℕ) (x : Opened) (o : Opening) → n ≡ 0 → o ≡ readOpening w → r ≡ ofOpened x s
       → openedTo x (storeOf m') (busOf l') ≡ openOf (openFits o (length m) (length a) (length l)) o (storeOf m) (busOf l)
       → after r (busOf l') (storeOf m') a ≡ stepOf (placingOf n w) (world s (busOf l) (storeOf m) a)
   unfolding stepOf storeOf busOf placingOf
@@ -49,18 +49,18 @@ module _ (n : ℕ) (s : Session) (l m a l' w : List ℕ) (r : Outcome) where
     placed : (o : VerdictTo) → verdictTo x (busOf l') ≡ o → left ≡ places o handed
     placed o h = ap (λ (z : Outcome). after z (busOf l') (storeOf m) a) er ∙ ap (λ (z : VerdictTo). places z handed) h
 
-    pub device-step : (d : DeviceSnapshot) → n ≡ 1 → d ≡ snapshotOf w
+    pub device-step : (d : DeviceSnapshot) → n ≡ 1 → d ≡ readSnapshot w
         → verdictTo x (busOf l') ≡ setDeviceOf s (busFits (length l)) d (busOf l) → Steps
     unfolding stepOf placedOf busOf placingOf
     device-step d e ed h =
         said (Place (Device d)) (placingOf n w) handed _ (search (chain, ap (λ (z : DeviceSnapshot). Place (Device z)) ed) depth 20) (placed _ h)
 
     module _ (at : ℕ) (ea : at ≡ getD w 1 0 % 2 ^ 8) (n1 : n ≡ 1 → ⊥) where
-      pub port-step : (row : PortRow) → n ≡ 2 → row ≡ portRowOf w
+      pub port-step : (row : PortRow) → n ≡ 2 → row ≡ readPortRow w
           → verdictTo x (busOf l') ≡ setPortOf s (busFits (length l)) at row (busOf l) → Steps
       unfolding stepOf placedOf busOf placingOf
       port-step row e eo h =
-          let c : Place (Port at row) ≡ Place (Port (getD w 1 0 % 2 ^ 8) (portRowOf w)) =
+          let c : Place (Port at row) ≡ Place (Port (getD w 1 0 % 2 ^ 8) (readPortRow w)) =
           ap (λ (z : ℕ). Place (Port z row)) ea ∙ ap (λ (z : PortRow). Place (Port (getD w 1 0 % 2 ^ 8) z)) eo in
           said (Place (Port at row)) (placingOf n w) handed _ (search (chain, c) depth 20) (placed _ h)
 

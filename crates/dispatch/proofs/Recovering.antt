@@ -19,23 +19,23 @@ use Rattle.recovery.specs.declared.Begun.{Begun}
 use Rattle.recovery.specs.declared.Recovered.{Recovered}
 use Rattle.recovery.specs.declared.RecoveryReply.{RecoveryReply}
 use Rattle.calls.specs.Answers.{outcome, ofBegin, ofRecovery}
-use Rattle.call_words.specs.Arguments.{backendAbortOf, completedOf, completionsOf, abortedOf}
+use Rattle.call_words.specs.Arguments.{readRecoveryReply, readCompleted, readCompletions, readAborted}
 use Rattle.calls.specs.Calls.{Recover, ToRecovery, Call, Begin, Reply}
 use Rattle.answer_words.specs.Lists.{begunLists, recoveredLists, listsOf, putLists}
 use Rattle.session_words.specs.State.{idAt}
 use Rattle.calls.specs.Step.{World, world, after, begins, recovers, begunOf, repliedOf, stepOf}
 use Rattle.calls.specs.declared.Outcome.{Outcome}
 use Rattle.dispatch.specs.Apply.{RunsStore, ran, runOf}
-use Rattle.dispatch.specs.Decode.{recoveringOf}
+use Rattle.call_words.specs.Decode.{recoveringOf}
 use Rattle.dispatch.proofs.Steps.{ran-said}
 
 -- l is lent for lists, and m is what it is afterwards
 module _ (s : Session) (rows w bytes area l m : List ℕ) (r : Outcome) where
   abbrev call : Call
-  call = Reply (ToRecovery (backendAbortOf w) (completedOf w) (completionsOf w) (abortedOf w) bytes)
+  call = Reply (ToRecovery (readRecoveryReply w) (readCompleted w) (readCompletions w) (readAborted w) bytes)
 
-  pub reply-run : (next left : List ℕ) (x : Recovered) (reply : RecoveryReply) (tokens words aborted : List ℕ) → reply ≡ backendAbortOf w
-      → tokens ≡ completedOf w → words ≡ completionsOf w → aborted ≡ abortedOf w
+  pub reply-run : (next left : List ℕ) (x : Recovered) (reply : RecoveryReply) (tokens words aborted : List ℕ) → reply ≡ readRecoveryReply w
+      → tokens ≡ readCompleted w → words ≡ readCompletions w → aborted ≡ readAborted w
       → recoveredTo x (storeOf next) left ≡ recoveryReplyOf s (rowsFit (s .«row_count») (s .«row_bytes») (length rows) && areaFits (s .«row_count») (s .«row_bytes») (length area)) reply tokens words aborted bytes (storeOf rows) area
       → m ≡ putLists (recoveredLists x) l → r ≡ outcome (ofRecovery (x .answer)) (x .session) → RunsStore r (storeOf next) left m call s (storeOf rows) area l
   unfolding runOf stepOf repliedOf listsOf storeOf
@@ -43,9 +43,9 @@ module _ (s : Session) (rows w bytes area l m : List ℕ) (r : Outcome) where
       let v = world s b (storeOf rows) area in
       let c : Reply (ToRecovery reply tokens words aborted bytes) ≡ call =
       ap (λ (z : RecoveryReply). Reply (ToRecovery z tokens words aborted bytes)) er
-      ∙ ap (λ (z : List ℕ). Reply (ToRecovery (backendAbortOf w) z words aborted bytes)) et
-      ∙ ap (λ (z : List ℕ). Reply (ToRecovery (backendAbortOf w) (completedOf w) z aborted bytes)) ew
-      ∙ ap (λ (z : List ℕ). Reply (ToRecovery (backendAbortOf w) (completedOf w) (completionsOf w) z bytes)) ea in
+      ∙ ap (λ (z : List ℕ). Reply (ToRecovery (readRecoveryReply w) z words aborted bytes)) et
+      ∙ ap (λ (z : List ℕ). Reply (ToRecovery (readRecoveryReply w) (readCompleted w) z aborted bytes)) ew
+      ∙ ap (λ (z : List ℕ). Reply (ToRecovery (readRecoveryReply w) (readCompleted w) (readCompletions w) z bytes)) ea in
       ran-said (Reply (ToRecovery reply tokens words aborted bytes)) call v _ l c
       (ap (λ (z : Outcome). ran (after z b (storeOf next) left) m) eo
       ∙ ap (ran (recovers (recoveredTo x (storeOf next) left) v)) el

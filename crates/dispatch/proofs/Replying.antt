@@ -25,11 +25,11 @@ use Rattle.session_words.specs.State.{idAt}
 use Rattle.calls.specs.Step.{world, after, polls, finishes, begunOf, repliedOf, stepOf}
 use Rattle.calls.specs.declared.Outcome.{Outcome}
 use Rattle.dispatch.specs.Apply.{StepsStore}
-use Rattle.dispatch.specs.Decode.{replyingOf}
+use Rattle.call_words.specs.Decode.{replyingOf}
 use Rattle.dispatch.proofs.Steps.{said, reported}
 
 module _ (n : ℕ) (s : Session) (l w bytes area : List ℕ) (r : Outcome) where
-  pub submit-reply-step : (k : List ℕ) (x : Reported) (reply : SubmitReply) → reply ≡ arguments.submitReplyOf w → n ≡ 10
+  pub submit-reply-step : (k : List ℕ) (x : Reported) (reply : SubmitReply) → reply ≡ arguments.readSubmitReply w → n ≡ 10
       → r ≡ outcome (ofReport (x .answer)) (x .session)
       → reportedTo x (storeOf k) ≡ submitReplyOf s (rowsFit (s .«row_count») (s .«row_bytes») (length l)) reply (storeOf l)
       → StepsStore r (storeOf k) area (replyingOf n w bytes) s (storeOf l) area
@@ -48,7 +48,7 @@ module _ (n : ℕ) (s : Session) (l w bytes area : List ℕ) (r : Outcome) where
         said (Begin (Poll id)) (replyingOf n w bytes) v _ (search (chain, ap (λ (z : RequestId). Begin (Poll z)) ei) depth 20)
         (ap (λ (z : Outcome). after z b (storeOf l) area) er ∙ ap (λ (z : Polled). polls z v) h)
 
-    pub poll-reply-step : (k left : List ℕ) (x : Reported) (reply : PollReply) → reply ≡ arguments.pollReplyOf w → (n ≡ 11 → ⊥)
+    pub poll-reply-step : (k left : List ℕ) (x : Reported) (reply : PollReply) → reply ≡ arguments.readPollReply w → (n ≡ 11 → ⊥)
         → r ≡ outcome (ofReport (x .answer)) (x .session)
         → finishTo x (storeOf k) left ≡ finishOf s (rowsFit (s .«row_count») (s .«row_bytes») (length l) && areaFits (s .«row_count») (s .«row_bytes») (length area)) reply bytes (storeOf l) area
         → StepsStore r (storeOf k) left (replyingOf n w bytes) s (storeOf l) area

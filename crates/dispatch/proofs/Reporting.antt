@@ -14,18 +14,17 @@ use Rattle.session.specs.declared.Session.{Session}
 use Rattle.reports.specs.Status.{statusOf, nextOf, shownCount, completedPart, heldCountOf, heldBytesOf}
 use Rattle.reports.specs.declared.NextReport.{NextReport}
 use Rattle.reports.specs.declared.OptionId.{OptionId}
-use Rattle.reports.specs.declared.Part.{Part}
+use Rattle.reports.specs.declared.PartAnswer.{PartAnswer}
 use Rattle.reports.specs.declared.ReportAnswer.{ReportAnswer}
 use Rattle.reports.specs.declared.Tally.{Tally}
-use Rattle.calls.specs.Answers.{outcome, ofReport, ofNext, ofTally}
-use Rattle.call_words.specs.Arguments.{optionIdOf}
+use Rattle.calls.specs.Answers.{outcome, ofReport, ofNext, ofTally, ofPart}
+use Rattle.call_words.specs.Arguments.{readOptionId}
 use Rattle.calls.specs.Calls.{Reading, Status, Reports, CountReports, CompletedBytes, HeldCount, HeldBytes, Read}
 use Rattle.session_words.specs.State.{idAt}
 use Rattle.calls.specs.Step.{world, reads, readOf, stepOf}
 use Rattle.calls.specs.declared.Answer.{Answer}
-use Rattle.calls.specs.declared.Answer.the-variants as answer
 use Rattle.dispatch.specs.Apply.{StepsStore}
-use Rattle.dispatch.specs.Decode.{reportingOf}
+use Rattle.call_words.specs.Decode.{reportingOf}
 use Rattle.dispatch.proofs.Steps.{said}
 
 module _ (n : ℕ) (s : Session) (l w area : List ℕ) where
@@ -47,7 +46,7 @@ module _ (n : ℕ) (s : Session) (l w area : List ℕ) where
   status-step r x id ei e er h = by (Status id) r (search (chain, ap (λ (z : RequestId). Read (Status z)) ei) depth 20) (λ b. er ∙ ap ofReport h)
 
   module _ (n16 : n ≡ 16 → ⊥) where
-    pub reports-step : (r : Answer) (x : NextReport) (from : OptionId) → from ≡ optionIdOf w → n ≡ 17 → r ≡ ofNext x → x ≡ nextOf s fits from (rowsOf l) → Steps r
+    pub reports-step : (r : Answer) (x : NextReport) (from : OptionId) → from ≡ readOptionId w → n ≡ 17 → r ≡ ofNext x → x ≡ nextOf s fits from (rowsOf l) → Steps r
     unfolding readOf storeOf reportingOf
     reports-step r x from ei e er h = by (Reports from) r (search (chain, ap (λ (z : OptionId). Read (Reports z)) ei) depth 20) (λ b. er ∙ ap ofNext h)
 
@@ -57,11 +56,11 @@ module _ (n : ℕ) (s : Session) (l w area : List ℕ) where
       count-step r x e er h = by CountReports r (search chain depth 20) (λ b. er ∙ ap ofTally h)
 
       module _ (n18 : n ≡ 18 → ⊥) where
-        pub bytes-step : (x : Part) (id : RequestId) → id ≡ idAt w 1 → n ≡ 19
-            → x ≡ completedPart s (fits && areaFits (s .«row_count») (s .«row_bytes») (length area)) id (rowsOf l) → Steps (answer.Bytes x)
+        pub bytes-step : (r : Answer) (x : PartAnswer) (id : RequestId) → id ≡ idAt w 1 → n ≡ 19 → r ≡ ofPart x
+            → x ≡ completedPart s (fits && areaFits (s .«row_count») (s .«row_bytes») (length area)) id (rowsOf l) → Steps r
         unfolding readOf storeOf reportingOf
-        bytes-step x id ei e h =
-            by (CompletedBytes id) (answer.Bytes x) (search (chain, ap (λ (z : RequestId). Read (CompletedBytes z)) ei) depth 20) (λ b. ap answer.Bytes h)
+        bytes-step r x id ei e er h =
+            by (CompletedBytes id) r (search (chain, ap (λ (z : RequestId). Read (CompletedBytes z)) ei) depth 20) (λ b. er ∙ ap ofPart h)
 
         module _ (n19 : n ≡ 19 → ⊥) (r : Answer) (x : Tally) (er : r ≡ ofTally x) where
           pub held-count-step : n ≡ 20 → x ≡ heldCountOf fits (rowsOf l) → Steps r

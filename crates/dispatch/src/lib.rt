@@ -11,6 +11,7 @@ use polls::poll;
 use recovery::begin;
 use reports::change;
 use reports::status;
+use scope::returned;
 use session::Session;
 use session::lifecycle;
 use session::place;
@@ -26,8 +27,8 @@ ghost use Rattle.rows.specs.Store.{storeOf};
 ghost use Rattle.bus.specs.Tables.{busOf};
 ghost use Rattle.calls.specs.Step.{world, after, stepOf};
 ghost use Rattle.session_words.specs.State.{keptOf, sessionOf};
-ghost use Rattle.dispatch.specs.Decode.{placingOf, movingOf, submissionOf, replyingOf, changingOf, reportingOf, recoveringOf, callOf};
-ghost use Rattle.call_words.specs.Arguments.{backendAbortOf, completedOf, completionsOf, abortedOf};
+ghost use Rattle.call_words.specs.Decode.{placingOf, movingOf, submissionOf, replyingOf, changingOf, reportingOf, recoveringOf, callOf};
+ghost use Rattle.call_words.specs.Arguments.{readRecoveryReply, readCompleted, readCompletions, readAborted};
 ghost use Rattle.calls.specs.Calls.{Reply, ToRecovery};
 ghost use Rattle.dispatch.specs.Apply.{StepsRows, StepsStore, RunsStore, ran, runOf, done, wrote, applyOf};
 ghost use Rattle.calls.specs.Answers.{outcome};
@@ -80,11 +81,11 @@ fn move_call(number: u64, session: Session, rows: &mut [u64], call: &[u64]) -> O
         return answers::of_called(lifecycle::acquire(session, reply));
     }
     if number == 6 {
-        let reply = arguments::option_error_at(call, 1);
+        let reply = returned::option_error_at(call, 1);
         return answers::of_called(lifecycle::initialize(session, reply));
     }
     let fresh = words::to_option_u64(word_at(call, 1), word_at(call, 2));
-    let reply = arguments::option_error_at(call, 3);
+    let reply = returned::option_error_at(call, 3);
     answers::of_called(lifecycle::close(session, rows, fresh, reply))
 }
 
@@ -226,7 +227,7 @@ fn recovered(
     bytes: &[u8],
     lists: &mut [u64],
 ) -> Outcome
-    ensures { λ r. ⌜ RunsStore r (storeOf (now (rows .exit))) (now (area .exit)) (now (lists .exit)) (Reply (ToRecovery (backendAbortOf (now (call .entry))) (completedOf (now (call .entry))) (completionsOf (now (call .entry))) (abortedOf (now (call .entry))) (now (bytes .entry)))) session (storeOf (now (rows .entry))) (now (area .entry)) (now (lists .entry)) ⌝ }
+    ensures { λ r. ⌜ RunsStore r (storeOf (now (rows .exit))) (now (area .exit)) (now (lists .exit)) (Reply (ToRecovery (readRecoveryReply (now (call .entry))) (readCompleted (now (call .entry))) (readCompletions (now (call .entry))) (readAborted (now (call .entry))) (now (bytes .entry)))) session (storeOf (now (rows .entry))) (now (area .entry)) (now (lists .entry)) ⌝ }
 {
     let answer = arguments::backend_abort(call);
     let tokens = arguments::completed(call);
