@@ -29,10 +29,9 @@ ghost use mathlib.Core.Path.{_≡_};
 ghost use Prim.Native.Nat.{_+_, _<_, _≤_};
 ghost use lib.ListN.{length};
 ghost use Rattle.rows.specs.Table.{rowsOf};
-ghost use Rattle.rows.specs.Store.{storeOf};
 ghost use Rattle.rules.specs.Rules.{changeRow};
-ghost use Rattle.session.specs.Sizes.{rowsFit, areaFits};
 ghost use mathlib.Core.Bool.{_&&_};
+ghost use Rattle.session.specs.Lent.{storeIn, storeOut, rowsFitIn, areaFitsIn};
 ghost use Rattle.polls.specs.Finish.{isRecovery, codeIsStall, isScopedStall, stallOf, failedAs, invalidAs, judgedTest, judged, finishTo, storedIn, settled, finishAt, finishFound, finishOf};
 
 // What a completion does: the change of the row, the session after it, and whether the data is stored.
@@ -192,7 +191,8 @@ fn settle(
     bytes: &[u8],
 ) -> Reported
     requires { ⌜ (i < length (rowsOf (now rows))) × (at + room ≤ length (now area)) ⌝ }
-    ensures { λ r. ⌜ finishTo r (storeOf (now (rows .exit))) (now (area .exit)) ≡ settled (changeRow row (j .change)) j idle i at room (now (bytes .entry)) (storeOf (now (rows .entry))) (now (area .entry)) ⌝ }
+    ensures { λ r. ⌜ finishTo r (storeOut rows) (now (area .exit))
+        ≡ settled (changeRow row (j .change)) j idle i at room (now (bytes .entry)) (storeIn rows) (now (area .entry)) ⌝ }
 {
     let change = j.change;
     let session = j.session;
@@ -222,7 +222,8 @@ fn finish_at(
     bytes: &[u8],
 ) -> Reported
     requires { ⌜ (i < length (rowsOf (now rows))) × (at + room ≤ length (now area)) ⌝ }
-    ensures { λ r. ⌜ finishTo r (storeOf (now (rows .exit))) (now (area .exit)) ≡ finishAt reply idle i at room (now (bytes .entry)) (storeOf (now (rows .entry))) (now (area .entry)) ⌝ }
+    ensures { λ r. ⌜ finishTo r (storeOut rows) (now (area .exit))
+        ≡ finishAt reply idle i at room (now (bytes .entry)) (storeIn rows) (now (area .entry)) ⌝ }
 {
     let row = rows::read_row(rows, i);
     match reply {
@@ -250,7 +251,8 @@ fn finish_found(
     reply: PollReply,
     bytes: &[u8],
 ) -> Reported
-    ensures { λ r. ⌜ finishTo r (storeOf (now (rows .exit))) (now (area .exit)) ≡ finishFound session (rowsFit (session .«row_count») (session .«row_bytes») (length (now (rows .entry))) && areaFits (session .«row_count») (session .«row_bytes») (length (now (area .entry)))) id reply (now (bytes .entry)) (storeOf (now (rows .entry))) (now (area .entry)) ⌝ }
+    ensures { λ r. ⌜ finishTo r (storeOut rows) (now (area .exit))
+        ≡ finishFound session (rowsFitIn session rows && areaFitsIn session area) id reply (now (bytes .entry)) (storeIn rows) (now (area .entry)) ⌝ }
 {
     let rows_fit = sizes::rows_fit(session.row_count, session.row_bytes, rows.len());
     let area_fits = sizes::area_fits(session.row_count, session.row_bytes, area.len());
@@ -275,7 +277,8 @@ pub fn poll_reply(
     reply: PollReply,
     bytes: &[u8],
 ) -> Reported
-    ensures { λ r. ⌜ finishTo r (storeOf (now (rows .exit))) (now (area .exit)) ≡ finishOf session (rowsFit (session .«row_count») (session .«row_bytes») (length (now (rows .entry))) && areaFits (session .«row_count») (session .«row_bytes») (length (now (area .entry)))) reply (now (bytes .entry)) (storeOf (now (rows .entry))) (now (area .entry)) ⌝ }
+    ensures { λ r. ⌜ finishTo r (storeOut rows) (now (area .exit))
+        ≡ finishOf session (rowsFitIn session rows && areaFitsIn session area) reply (now (bytes .entry)) (storeIn rows) (now (area .entry)) ⌝ }
 {
     let flight = session.in_flight;
     match flight {

@@ -11,10 +11,8 @@ use session::InFlight;
 use session::Session;
 use session::start;
 ghost use mathlib.Core.Path.{_≡_};
-ghost use lib.ListN.{length};
 ghost use Rattle.models.specs.Refusals.{refusalOf};
-ghost use Rattle.rows.specs.Table.{rowsOf};
-ghost use Rattle.session.specs.Sizes.{rowsFit};
+ghost use Rattle.session.specs.Lent.{rowsIn, rowsFitIn};
 ghost use Rattle.polls.specs.Poll.{pollRefused, pollRow, pollOf};
 
 fn refused(session: Session, refusal: Refusal) -> Polled
@@ -55,7 +53,7 @@ fn poll_row(session: Session, row: Row, id: RequestId) -> Polled
 
 // 1, 3, 40, then by the row.
 pub fn poll_request(session: Session, rows: &[u64], id: RequestId) -> Polled
-    ensures { λ r. ⌜ r ≡ pollOf session (rowsFit (session .«row_count») (session .«row_bytes») (length (now (rows .entry)))) id (rowsOf (now (rows .entry))) ⌝ }
+    ensures { λ r. ⌜ r ≡ pollOf session (rowsFitIn session rows) id (rowsIn rows) ⌝ }
 {
     let verdict = start::rows_ready(session, rows.len());
     match verdict {

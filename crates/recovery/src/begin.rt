@@ -14,11 +14,9 @@ use session::RecoveryKind;
 use session::Session;
 use session::start;
 ghost use mathlib.Core.Path.{_≡_};
-ghost use lib.ListN.{length};
 ghost use Rattle.models.specs.Refusals.{refusalOf};
-ghost use Rattle.rows.specs.Table.{rowsOf};
-ghost use Rattle.session.specs.Sizes.{rowsFit};
 ghost use Rattle.session.specs.declared.RecoveryKind.the-variants as RecoveryKind;
+ghost use Rattle.session.specs.Lent.{rowsIn, rowsFitIn};
 ghost use Rattle.recovery.specs.Begin.{beginRefused, recoveryOf, begunAs, beginRow, beginOf};
 
 fn refused(session: Session, refusal: Refusal) -> Begun
@@ -53,7 +51,7 @@ fn recovery_of(id: RequestId, row: Row, kind: RecoveryKind) -> Recovery
 
 // The operation is in flight; the affected tokens by ascending id.
 fn begin(session: Session, rows: &[u64], recovery: Recovery) -> Begun
-    ensures { λ r. ⌜ r ≡ begunAs session recovery (rowsOf (now (rows .entry))) ⌝ }
+    ensures { λ r. ⌜ r ≡ begunAs session recovery (rowsIn rows) ⌝ }
 {
     let target = recovery.target;
     let device = recovery.device;
@@ -71,7 +69,7 @@ fn begin(session: Session, rows: &[u64], recovery: Recovery) -> Begun
 
 // 43: not held; 44: not Initialized or RecoveryRequired.
 fn begin_row(session: Session, rows: &[u64], row: Row, id: RequestId, kind: RecoveryKind) -> Begun
-    ensures { λ r. ⌜ r ≡ beginRow session row id kind (rowsOf (now (rows .entry))) ⌝ }
+    ensures { λ r. ⌜ r ≡ beginRow session row id kind (rowsIn rows) ⌝ }
 {
     let state = row.state;
     let controller = session.state;
@@ -87,7 +85,7 @@ fn begin_row(session: Session, rows: &[u64], row: Row, id: RequestId, kind: Reco
 
 // 1, 3, 40, then by the row.
 fn begin_recovery(session: Session, rows: &[u64], id: RequestId, kind: RecoveryKind) -> Begun
-    ensures { λ r. ⌜ r ≡ beginOf session (rowsFit (session .«row_count») (session .«row_bytes») (length (now (rows .entry)))) id kind (rowsOf (now (rows .entry))) ⌝ }
+    ensures { λ r. ⌜ r ≡ beginOf session (rowsFitIn session rows) id kind (rowsIn rows) ⌝ }
 {
     let verdict = start::rows_ready(session, rows.len());
     match verdict {
@@ -104,7 +102,7 @@ fn begin_recovery(session: Session, rows: &[u64], id: RequestId, kind: RecoveryK
 }
 
 pub fn abort_request(session: Session, rows: &[u64], target: RequestId) -> Begun
-    ensures { λ r. ⌜ r ≡ beginOf session (rowsFit (session .«row_count») (session .«row_bytes») (length (now (rows .entry)))) target RecoveryKind.Abort (rowsOf (now (rows .entry))) ⌝ }
+    ensures { λ r. ⌜ r ≡ beginOf session (rowsFitIn session rows) target RecoveryKind.Abort (rowsIn rows) ⌝ }
 {
     begin_recovery(session, rows, target, RecoveryKind::Abort)
 }
@@ -115,7 +113,7 @@ pub fn reset_endpoint_request(
     target: RequestId,
     preserve: bool,
 ) -> Begun
-    ensures { λ r. ⌜ r ≡ beginOf session (rowsFit (session .«row_count») (session .«row_bytes») (length (now (rows .entry)))) target (RecoveryKind.Reset preserve) (rowsOf (now (rows .entry))) ⌝ }
+    ensures { λ r. ⌜ r ≡ beginOf session (rowsFitIn session rows) target (RecoveryKind.Reset preserve) (rowsIn rows) ⌝ }
 {
     begin_recovery(session, rows, target, RecoveryKind::Reset(preserve))
 }

@@ -16,9 +16,9 @@ ghost use mathlib.Core.List.{map};
 ghost use lib.ListN.{length, take};
 ghost use Rattle.chain.specs.Lists.{listed};
 ghost use Rattle.rows.specs.Table.{rowsOf};
-ghost use Rattle.rows.specs.Store.{storeOf};
 ghost use Rattle.scope.specs.Scope.{meant};
 ghost use Rattle.scope.specs.Returned.{returnedOf, listsAgree};
+ghost use Rattle.session.specs.Lent.{storeIn, storeOut};
 ghost use Rattle.recovery.specs.Entries.{walkTo, rowCompletedBy, completeOne, itself, completeAll, abortTo, abortOne, abortAll};
 ghost use Rattle.recovery.specs.Places.{Below, Places};
 
@@ -32,7 +32,8 @@ fn complete_row(
     bytes: &[u8],
 ) -> Verdict
     requires { ⌜ (i < length (rowsOf (now rows))) × (i * room + room ≤ length (now area)) ⌝ }
-    ensures { λ r. ⌜ walkTo r (storeOf (now (rows .exit))) (now (area .exit)) ≡ rowCompletedBy step i (i * room) room (now (bytes .entry)) (storeOf (now (rows .entry))) (now (area .entry)) ⌝ }
+    ensures { λ r. ⌜ walkTo r (storeOut rows) (now (area .exit))
+        ≡ rowCompletedBy step i (i * room) room (now (bytes .entry)) (storeIn rows) (now (area .entry)) ⌝ }
 {
     match step {
         Step::Refused(refusal) => Verdict::Refused(refusal),
@@ -54,7 +55,8 @@ fn complete_one(
     bytes: &[u8],
 ) -> Verdict
     requires { ⌜ (i < length (rowsOf (now rows))) × (i * room + room ≤ length (now area)) ⌝ }
-    ensures { λ r. ⌜ walkTo r (storeOf (now (rows .exit))) (now (area .exit)) ≡ completeOne i (i * room) room completion (now (bytes .entry)) (storeOf (now (rows .entry))) (now (area .entry)) ⌝ }
+    ensures { λ r. ⌜ walkTo r (storeOut rows) (now (area .exit))
+        ≡ completeOne i (i * room) room completion (now (bytes .entry)) (storeIn rows) (now (area .entry)) ⌝ }
 {
     let row = rows::read_row(rows, i);
     let metadata = row.metadata;
@@ -109,7 +111,8 @@ fn complete_next(
     left: &[u8],
 ) -> Verdict
     requires { ⌜ (i < length (rowsOf (now rows))) × (i * room + room ≤ length (now area)) × (brought .given ≤ length (now left)) ⌝ }
-    ensures { λ r. ⌜ walkTo r (storeOf (now (rows .exit))) (now (area .exit)) ≡ completeOne i (i * room) room (brought .completion) (take (brought .given) (now (left .entry))) (storeOf (now (rows .entry))) (now (area .entry)) ⌝ }
+    ensures { λ r. ⌜ walkTo r (storeOut rows) (now (area .exit))
+        ≡ completeOne i (i * room) room (brought .completion) (take (brought .given) (now (left .entry))) (storeIn rows) (now (area .entry)) ⌝ }
 {
     let completion = brought.completion;
     let end = brought.given as usize;
@@ -126,7 +129,8 @@ pub(crate) fn complete_all(
     bytes: &[u8],
 ) -> Verdict
     requires { ⌜ Places (now rows) (now area) room (now places) × (listsAgree (now places) (now completions) (length (now bytes)) ≡ true) ⌝ }
-    ensures { λ r. ⌜ walkTo r (storeOf (now (rows .exit))) (now (area .exit)) ≡ completeAll itself room (returnedOf (now (places .entry)) (now (completions .entry))) (now (bytes .entry)) (storeOf (now (rows .entry))) (now (area .entry)) ⌝ }
+    ensures { λ r. ⌜ walkTo r (storeOut rows) (now (area .exit))
+        ≡ completeAll itself room (returnedOf (now (places .entry)) (now (completions .entry))) (now (bytes .entry)) (storeIn rows) (now (area .entry)) ⌝ }
 {
     let n = places.len();
     let mut at = 0;
@@ -146,7 +150,7 @@ pub(crate) fn complete_all(
 
 fn abort_one(rows: &mut [u64], i: usize) -> Verdict
     requires { ⌜ i < length (rowsOf (now rows)) ⌝ }
-    ensures { λ r. ⌜ abortTo r (storeOf (now (rows .exit))) ≡ abortOne i (storeOf (now (rows .entry))) ⌝ }
+    ensures { λ r. ⌜ abortTo r (storeOut rows) ≡ abortOne i (storeIn rows) ⌝ }
 {
     let row = rows::read_row(rows, i);
     let step = rules::change_row(row, Change::ConfirmAbort);
@@ -162,7 +166,7 @@ fn abort_one(rows: &mut [u64], i: usize) -> Verdict
 // The aborts of the rows at the places, in order.
 pub(crate) fn abort_all(rows: &mut [u64], places: &[usize]) -> Verdict
     requires { ⌜ Below (now rows) (now places) ⌝ }
-    ensures { λ r. ⌜ abortTo r (storeOf (now (rows .exit))) ≡ abortAll itself (now (places .entry)) (storeOf (now (rows .entry))) ⌝ }
+    ensures { λ r. ⌜ abortTo r (storeOut rows) ≡ abortAll itself (now (places .entry)) (storeIn rows) ⌝ }
 {
     let n = places.len();
     let mut j = 0;

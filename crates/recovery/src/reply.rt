@@ -34,10 +34,8 @@ ghost use lib.Dec.{eqb};
 ghost use Rattle.chain.specs.Lists.{listed};
 ghost use Rattle.models.specs.Refusals.{refusalOf};
 ghost use Rattle.models.specs.Requests.{sameDevice};
-ghost use Rattle.rows.specs.Table.{rowsOf};
-ghost use Rattle.rows.specs.Store.{storeOf};
-ghost use Rattle.session.specs.Sizes.{rowsFit, areaFits};
 ghost use Rattle.scope.specs.Returned.{returnedOf, listsAgree};
+ghost use Rattle.session.specs.Lent.{rowsIn, storeIn, storeOut, rowsFitIn, areaFitsIn};
 ghost use Rattle.recovery.specs.Entries.{itself, walkTo};
 ghost use Rattle.recovery.specs.Places.{Below, Sized, Places};
 ghost use Rattle.recovery.specs.declared.RecoveryReply.the-variants as RecoveryReply;
@@ -101,7 +99,8 @@ fn matches(
     endpoint: u8,
     certain: bool,
 ) -> bool
-    ensures { λ r. ⌜ r ≡ (sameDevice (stall .device) device && eqb (stall .endpoint) endpoint && certain && isRevision (session .«recovery_revision») (stall .revision)) ⌝ }
+    ensures { λ r. ⌜ r
+        ≡ (sameDevice (stall .device) device && eqb (stall .endpoint) endpoint && certain && isRevision (session .«recovery_revision») (stall .revision)) ⌝ }
 {
     let own = stall.device;
     let revision = session.recovery_revision;
@@ -127,7 +126,7 @@ fn restore(session: Session, device: DeviceId, endpoint: u8, certain: bool) -> S
 }
 
 fn reset(session: Session, recovery: Recovery, rows: &[u64]) -> Session
-    ensures { λ r. ⌜ r ≡ resetBy (recovery .kind) session recovery (rowsOf (now (rows .entry))) ⌝ }
+    ensures { λ r. ⌜ r ≡ resetBy (recovery .kind) session recovery (rowsIn rows) ⌝ }
 {
     let kind = recovery.kind;
     let device = recovery.device;
@@ -142,7 +141,7 @@ fn reset(session: Session, recovery: Recovery, rows: &[u64]) -> Session
 
 // The session after the entries: an error or not ready marks recovery.
 fn session_after(idle: Session, recovery: Recovery, outcome: Outcome, rows: &[u64]) -> Session
-    ensures { λ r. ⌜ r ≡ sessionAfter idle recovery outcome (rowsOf (now (rows .entry))) ⌝ }
+    ensures { λ r. ⌜ r ≡ sessionAfter idle recovery outcome (rowsIn rows) ⌝ }
 {
     if !is_whole(outcome) {
         return session::mark(idle);
@@ -185,7 +184,7 @@ struct Ended {
 }
 
 fn ids_of(rows: &[u64], places: &[usize]) -> [RequestId; 128]
-    ensures { λ r. ⌜ r ≡ listed 128 noId (idsOf (rowsOf (now (rows .entry))) itself (now (places .entry))) ⌝ }
+    ensures { λ r. ⌜ r ≡ listed 128 noId (idsOf (rowsIn rows) itself (now (places .entry))) ⌝ }
 {
     let n = slices::least(places.len(), 128);
     let none = no_id();
@@ -199,7 +198,7 @@ fn ids_of(rows: &[u64], places: &[usize]) -> [RequestId; 128]
 }
 
 fn id_lists(rows: &[u64], completed: &[usize], aborted: &[usize]) -> Ids
-    ensures { λ r. ⌜ r ≡ idLists (rowsOf (now (rows .entry))) itself (now (completed .entry)) (now (aborted .entry)) ⌝ }
+    ensures { λ r. ⌜ r ≡ idLists (rowsIn rows) itself (now (completed .entry)) (now (aborted .entry)) ⌝ }
 {
     let first = ids_of(rows, completed);
     let second = ids_of(rows, aborted);
@@ -220,7 +219,8 @@ fn apply_all(
     bytes: &[u8],
 ) -> Verdict
     requires { ⌜ Places (now rows) (now area) room (now completed) × Below (now rows) (now aborted) × (listsAgree (now completed) (now completions) (length (now bytes)) ≡ true) ⌝ }
-    ensures { λ r. ⌜ walkTo r (storeOf (now (rows .exit))) (now (area .exit)) ≡ applyAll itself room (returnedOf (now (completed .entry)) (now (completions .entry))) (now (aborted .entry)) (now (bytes .entry)) (storeOf (now (rows .entry))) (now (area .entry)) ⌝ }
+    ensures { λ r. ⌜ walkTo r (storeOut rows) (now (area .exit))
+        ≡ applyAll itself room (returnedOf (now (completed .entry)) (now (completions .entry))) (now (aborted .entry)) (now (bytes .entry)) (storeIn rows) (now (area .entry)) ⌝ }
 {
     let verdict = entries::complete_all(rows, area, room, completed, completions, bytes);
     let Verdict::Pass = verdict else {
@@ -237,7 +237,8 @@ fn conclude(
     report: AbortReport,
     ids: Ids,
 ) -> Recovered
-    ensures { λ r. ⌜ r ≡ concludedBy verdict (ended .idle) (ended .recovery) (ended .outcome) report ids (rowsOf (now (rows .entry))) ⌝ }
+    ensures { λ r. ⌜ r
+        ≡ concludedBy verdict (ended .idle) (ended .recovery) (ended .outcome) report ids (rowsIn rows) ⌝ }
 {
     let idle = ended.idle;
     let recovery = ended.recovery;
@@ -263,7 +264,8 @@ fn settle(
     bytes: &[u8],
 ) -> Recovered
     requires { ⌜ Places (now rows) (now area) (ended .idle .«row_bytes») (now completed) × Below (now rows) (now aborted) × (listsAgree (now completed) (now completions) (length (now bytes)) ≡ true) ⌝ }
-    ensures { λ r. ⌜ recoveredTo r (storeOf (now (rows .exit))) (now (area .exit)) ≡ settledOf (ended .idle) (ended .recovery) (ended .outcome) itself (now (completed .entry)) (now (completions .entry)) (now (aborted .entry)) (now (bytes .entry)) (storeOf (now (rows .entry))) (now (area .entry)) ⌝ }
+    ensures { λ r. ⌜ recoveredTo r (storeOut rows) (now (area .exit))
+        ≡ settledOf (ended .idle) (ended .recovery) (ended .outcome) itself (now (completed .entry)) (now (completions .entry)) (now (aborted .entry)) (now (bytes .entry)) (storeIn rows) (now (area .entry)) ⌝ }
 {
     let idle = ended.idle;
     let recovery = ended.recovery;
@@ -293,7 +295,8 @@ fn reply_scoped(
     bytes: &[u8],
 ) -> Recovered
     requires { ⌜ Places (now rows) (now area) (ended .idle .«row_bytes») (now affected) × (listsAgree (now tokens) (now completions) (length (now bytes)) ≡ true) × (length (now tokens) + length (now aborted) ≤ 128) ⌝ }
-    ensures { λ r. ⌜ recoveredTo r (storeOf (now (rows .exit))) (now (area .exit)) ≡ scopedOf (ended .idle) (ended .recovery) (ended .outcome) (now (affected .entry)) (now (own .entry)) (now (tokens .entry)) (now (completions .entry)) (now (aborted .entry)) (now (bytes .entry)) (storeOf (now (rows .entry))) (now (area .entry)) ⌝ }
+    ensures { λ r. ⌜ recoveredTo r (storeOut rows) (now (area .exit))
+        ≡ scopedOf (ended .idle) (ended .recovery) (ended .outcome) (now (affected .entry)) (now (own .entry)) (now (tokens .entry)) (now (completions .entry)) (now (aborted .entry)) (now (bytes .entry)) (storeIn rows) (now (area .entry)) ⌝ }
 {
     let done = entries::places_of(affected, own, tokens);
     let gone = entries::places_of(affected, own, aborted);
@@ -323,7 +326,8 @@ fn reply_affected(
     bytes: &[u8],
 ) -> Recovered
     requires { ⌜ Places (now rows) (now area) (ended .idle .«row_bytes») (now affected) × (listsAgree (now tokens) (now completions) (length (now bytes)) ≡ true) × (length (now own) ≤ 128) ⌝ }
-    ensures { λ r. ⌜ recoveredTo r (storeOf (now (rows .exit))) (now (area .exit)) ≡ doneOf (ended .idle) (ended .recovery) (ended .outcome) (now (affected .entry)) (now (own .entry)) (now (tokens .entry)) (now (completions .entry)) (now (aborted .entry)) (now (bytes .entry)) (storeOf (now (rows .entry))) (now (area .entry)) ⌝ }
+    ensures { λ r. ⌜ recoveredTo r (storeOut rows) (now (area .exit))
+        ≡ doneOf (ended .idle) (ended .recovery) (ended .outcome) (now (affected .entry)) (now (own .entry)) (now (tokens .entry)) (now (completions .entry)) (now (aborted .entry)) (now (bytes .entry)) (storeIn rows) (now (area .entry)) ⌝ }
 {
     let idle = ended.idle;
     let outcome = ended.outcome;
@@ -355,7 +359,8 @@ fn reply_done(
     bytes: &[u8],
 ) -> Recovered
     requires { ⌜ Sized (now rows) (now area) (ended .idle .«row_bytes») × (listsAgree (now tokens) (now completions) (length (now bytes)) ≡ true) ⌝ }
-    ensures { λ r. ⌜ recoveredTo r (storeOf (now (rows .exit))) (now (area .exit)) ≡ replyBy (RecoveryReply.Done (ended .outcome)) (ended .idle) (ended .recovery) (now (tokens .entry)) (now (completions .entry)) (now (aborted .entry)) (now (bytes .entry)) (storeOf (now (rows .entry))) (now (area .entry)) ⌝ }
+    ensures { λ r. ⌜ recoveredTo r (storeOut rows) (now (area .exit))
+        ≡ replyBy (RecoveryReply.Done (ended .outcome)) (ended .idle) (ended .recovery) (now (tokens .entry)) (now (completions .entry)) (now (aborted .entry)) (now (bytes .entry)) (storeIn rows) (now (area .entry)) ⌝ }
 {
     let recovery = ended.recovery;
     let device = recovery.device;
@@ -388,7 +393,8 @@ fn reply_to(
     bytes: &[u8],
 ) -> Recovered
     requires { ⌜ Sized (now rows) (now area) (idle .«row_bytes») × (listsAgree (now tokens) (now completions) (length (now bytes)) ≡ true) ⌝ }
-    ensures { λ r. ⌜ recoveredTo r (storeOf (now (rows .exit))) (now (area .exit)) ≡ replyBy reply idle recovery (now (tokens .entry)) (now (completions .entry)) (now (aborted .entry)) (now (bytes .entry)) (storeOf (now (rows .entry))) (now (area .entry)) ⌝ }
+    ensures { λ r. ⌜ recoveredTo r (storeOut rows) (now (area .exit))
+        ≡ replyBy reply idle recovery (now (tokens .entry)) (now (completions .entry)) (now (aborted .entry)) (now (bytes .entry)) (storeIn rows) (now (area .entry)) ⌝ }
 {
     match reply {
         RecoveryReply::Error(error) => {
@@ -417,7 +423,8 @@ fn reply_sized(
     aborted: &[u64],
     bytes: &[u8],
 ) -> Recovered
-    ensures { λ r. ⌜ recoveredTo r (storeOf (now (rows .exit))) (now (area .exit)) ≡ replySized session (rowsFit (session .«row_count») (session .«row_bytes») (length (now (rows .entry))) && areaFits (session .«row_count») (session .«row_bytes») (length (now (area .entry)))) recovery reply (now (tokens .entry)) (now (completions .entry)) (now (aborted .entry)) (now (bytes .entry)) (storeOf (now (rows .entry))) (now (area .entry)) ⌝ }
+    ensures { λ r. ⌜ recoveredTo r (storeOut rows) (now (area .exit))
+        ≡ replySized session (rowsFitIn session rows && areaFitsIn session area) recovery reply (now (tokens .entry)) (now (completions .entry)) (now (aborted .entry)) (now (bytes .entry)) (storeIn rows) (now (area .entry)) ⌝ }
 {
     let rows_fit = sizes::rows_fit(session.row_count, session.row_bytes, rows.len());
     let area_fits = sizes::area_fits(session.row_count, session.row_bytes, area.len());
@@ -452,7 +459,8 @@ pub fn recovery_reply(
     aborted: &[u64],
     bytes: &[u8],
 ) -> Recovered
-    ensures { λ r. ⌜ recoveredTo r (storeOf (now (rows .exit))) (now (area .exit)) ≡ recoveryReplyOf session (rowsFit (session .«row_count») (session .«row_bytes») (length (now (rows .entry))) && areaFits (session .«row_count») (session .«row_bytes») (length (now (area .entry)))) reply (now (tokens .entry)) (now (completions .entry)) (now (aborted .entry)) (now (bytes .entry)) (storeOf (now (rows .entry))) (now (area .entry)) ⌝ }
+    ensures { λ r. ⌜ recoveredTo r (storeOut rows) (now (area .exit))
+        ≡ recoveryReplyOf session (rowsFitIn session rows && areaFitsIn session area) reply (now (tokens .entry)) (now (completions .entry)) (now (aborted .entry)) (now (bytes .entry)) (storeIn rows) (now (area .entry)) ⌝ }
 {
     let flight = session.in_flight;
     match flight {

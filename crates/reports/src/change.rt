@@ -9,10 +9,8 @@ use rules::Change;
 use session::Session;
 use session::start;
 ghost use mathlib.Core.Path.{_≡_};
-ghost use lib.ListN.{length};
-ghost use Rattle.rows.specs.Store.{storeOf};
 ghost use Rattle.rules.specs.declared.Change.the-variants as Change;
-ghost use Rattle.session.specs.Sizes.{rowsFit};
+ghost use Rattle.session.specs.Lent.{storeIn, storeOut, rowsFitIn};
 ghost use Rattle.reports.specs.Answers.{reportedTo};
 ghost use Rattle.reports.specs.Change.{reportedBy, changeOf};
 
@@ -29,7 +27,8 @@ fn reported(applied: Applied, session: Session) -> Reported
 }
 
 fn change_request(session: Session, rows: &mut [u64], id: RequestId, change: Change) -> Reported
-    ensures { λ r. ⌜ reportedTo r (storeOf (now (rows .exit))) ≡ changeOf session (rowsFit (session .«row_count») (session .«row_bytes») (length (now (rows .entry)))) id change (storeOf (now (rows .entry))) ⌝ }
+    ensures { λ r. ⌜ reportedTo r (storeOut rows)
+        ≡ changeOf session (rowsFitIn session rows) id change (storeIn rows) ⌝ }
 {
     let verdict = start::rows_ready(session, rows.len());
     match verdict {
@@ -42,20 +41,23 @@ fn change_request(session: Session, rows: &mut [u64], id: RequestId, change: Cha
 }
 
 pub fn logical_cancel_request(session: Session, rows: &mut [u64], id: RequestId) -> Reported
-    ensures { λ r. ⌜ reportedTo r (storeOf (now (rows .exit))) ≡ changeOf session (rowsFit (session .«row_count») (session .«row_bytes») (length (now (rows .entry)))) id Change.LogicalCancel (storeOf (now (rows .entry))) ⌝ }
+    ensures { λ r. ⌜ reportedTo r (storeOut rows)
+        ≡ changeOf session (rowsFitIn session rows) id Change.LogicalCancel (storeIn rows) ⌝ }
 {
     change_request(session, rows, id, Change::LogicalCancel)
 }
 
 pub fn timeout_request(session: Session, rows: &mut [u64], id: RequestId) -> Reported
-    ensures { λ r. ⌜ reportedTo r (storeOf (now (rows .exit))) ≡ changeOf session (rowsFit (session .«row_count») (session .«row_bytes») (length (now (rows .entry)))) id Change.Timeout (storeOf (now (rows .entry))) ⌝ }
+    ensures { λ r. ⌜ reportedTo r (storeOut rows)
+        ≡ changeOf session (rowsFitIn session rows) id Change.Timeout (storeIn rows) ⌝ }
 {
     change_request(session, rows, id, Change::Timeout)
 }
 
 // The report is of the request as it was; its row is free.
 pub fn reclaim_request(session: Session, rows: &mut [u64], id: RequestId) -> Reported
-    ensures { λ r. ⌜ reportedTo r (storeOf (now (rows .exit))) ≡ changeOf session (rowsFit (session .«row_count») (session .«row_bytes») (length (now (rows .entry)))) id Change.Reclaim (storeOf (now (rows .entry))) ⌝ }
+    ensures { λ r. ⌜ reportedTo r (storeOut rows)
+        ≡ changeOf session (rowsFitIn session rows) id Change.Reclaim (storeIn rows) ⌝ }
 {
     change_request(session, rows, id, Change::Reclaim)
 }

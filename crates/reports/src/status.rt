@@ -16,12 +16,12 @@ use session::Session;
 use session::sizes;
 ghost use mathlib.Core.Path.{_≡_};
 ghost use lib.ListN.{length};
-ghost use Rattle.rows.specs.Table.{rowsOf};
 ghost use mathlib.Core.Bool.{_&&_, cond};
 ghost use Rattle.chain.specs.Lists.{count};
+ghost use Rattle.session.specs.Lent.{rowsIn, rowsFitIn, areaFitsIn};
 ghost use Rattle.reports.specs.declared.NextReport.the-variants as NextReport;
 ghost use Prim.Native.Nat.{_+_, _<_, min};
-ghost use Rattle.session.specs.Sizes.{rowsFit, areaFits};
+ghost use Rattle.session.specs.Sizes.{areaFits};
 ghost use Rattle.reports.specs.Status.{isSubmitting, shownAt, statusOf, isShown, comesAfter, beats, better, bestFrom, nextOf, shownCount, completedLength, completedPart, partOf, partNumber, bytesOf, heldCountOf, heldBytesOf};
 
 // The id's submission is in flight.
@@ -38,7 +38,7 @@ fn is_submitting(flight: InFlight, id: RequestId) -> bool
 
 // The row of an id that has a report.
 fn find_shown(rows: &[u64], flight: InFlight, id: RequestId) -> Found
-    ensures { λ r. ⌜ r ≡ shownAt flight id (rowsOf (now (rows .entry))) ⌝ }
+    ensures { λ r. ⌜ r ≡ shownAt flight id (rowsIn rows) ⌝ }
 {
     if is_submitting(flight, id) {
         return Found::Nothing;
@@ -48,7 +48,7 @@ fn find_shown(rows: &[u64], flight: InFlight, id: RequestId) -> Found
 
 // 3; 40: no row has the id, or its submission is in flight.
 pub fn request_status(session: Session, rows: &[u64], id: RequestId) -> ReportAnswer
-    ensures { λ r. ⌜ r ≡ statusOf session (rowsFit (session .«row_count») (session .«row_bytes») (length (now (rows .entry)))) id (rowsOf (now (rows .entry))) ⌝ }
+    ensures { λ r. ⌜ r ≡ statusOf session (rowsFitIn session rows) id (rowsIn rows) ⌝ }
 {
     let flight = session.in_flight;
     if !sizes::rows_fit(session.row_count, session.row_bytes, rows.len()) {
@@ -118,7 +118,7 @@ fn better_of(best: NextReport, row: Row, flight: InFlight, after: OptionId) -> N
 
 // 3; the report with the least id, or the least after an id. The row of a submission in flight is left out.
 pub fn request_reports(session: Session, rows: &[u64], after: OptionId) -> NextReport
-    ensures { λ r. ⌜ r ≡ nextOf session (rowsFit (session .«row_count») (session .«row_bytes») (length (now (rows .entry)))) after (rowsOf (now (rows .entry))) ⌝ }
+    ensures { λ r. ⌜ r ≡ nextOf session (rowsFitIn session rows) after (rowsIn rows) ⌝ }
 {
     let flight = session.in_flight;
     if !sizes::rows_fit(session.row_count, session.row_bytes, rows.len()) {
@@ -128,7 +128,7 @@ pub fn request_reports(session: Session, rows: &[u64], after: OptionId) -> NextR
 }
 
 fn best_of(rows: &[u64], flight: InFlight, after: OptionId) -> NextReport
-    ensures { λ r. ⌜ r ≡ bestFrom flight after NextReport.None (rowsOf (now (rows .entry))) ⌝ }
+    ensures { λ r. ⌜ r ≡ bestFrom flight after NextReport.None (rowsIn rows) ⌝ }
 {
     let n = rows::count(rows);
     let mut best = NextReport::None;
@@ -152,7 +152,7 @@ fn add_shown(total: u64, shown: bool) -> u64
 }
 
 fn count_shown(rows: &[u64], flight: InFlight) -> u64
-    ensures { λ r. ⌜ r ≡ count (isShown flight) (rowsOf (now (rows .entry))) ⌝ }
+    ensures { λ r. ⌜ r ≡ count (isShown flight) (rowsIn rows) ⌝ }
 {
     let n = rows::count(rows);
     let mut total: u64 = 0;
@@ -168,7 +168,7 @@ fn count_shown(rows: &[u64], flight: InFlight) -> u64
 
 // 3; how many requests have a report.
 pub fn count_reports(session: Session, rows: &[u64]) -> Tally
-    ensures { λ r. ⌜ r ≡ shownCount session (rowsFit (session .«row_count») (session .«row_bytes») (length (now (rows .entry)))) (rowsOf (now (rows .entry))) ⌝ }
+    ensures { λ r. ⌜ r ≡ shownCount session (rowsFitIn session rows) (rowsIn rows) ⌝ }
 {
     let flight = session.in_flight;
     if !sizes::rows_fit(session.row_count, session.row_bytes, rows.len()) {
@@ -199,7 +199,8 @@ fn cut(length: u64, room: u64) -> u64
 
 // 3; 40 as `request_status`; else where the bytes of a request that is Completed now stand, and an empty part of any other.
 pub fn completed_part(session: Session, rows: &[u64], bytes: usize, id: RequestId) -> PartAnswer
-    ensures { λ r. ⌜ r ≡ completedPart session (rowsFit (session .«row_count») (session .«row_bytes») (length (now (rows .entry))) && areaFits (session .«row_count») (session .«row_bytes») bytes) id (rowsOf (now (rows .entry))) ⌝ }
+    ensures { λ r. ⌜ r
+        ≡ completedPart session (rowsFitIn session rows && areaFits (session .«row_count») (session .«row_bytes») bytes) id (rowsIn rows) ⌝ }
 {
     let flight = session.in_flight;
     let rows_fit = sizes::rows_fit(session.row_count, session.row_bytes, rows.len());
@@ -250,7 +251,10 @@ pub fn completed_bytes<'a>(
     id: RequestId,
     number: &mut u16,
 ) -> &'a [u8]
-    ensures { λ r. ⌜ (now r ≡ bytesOf (completedPart session (rowsFit (session .«row_count») (session .«row_bytes») (length (now (rows .entry))) && areaFits (session .«row_count») (session .«row_bytes») (length (now (area .entry)))) id (rowsOf (now (rows .entry)))) (now (area .entry))) × (now (number .exit) ≡ partNumber (completedPart session (rowsFit (session .«row_count») (session .«row_bytes») (length (now (rows .entry))) && areaFits (session .«row_count») (session .«row_bytes») (length (now (area .entry)))) id (rowsOf (now (rows .entry))))) ⌝ }
+    ensures { λ r. ⌜ (now r
+        ≡ bytesOf (completedPart session (rowsFitIn session rows && areaFitsIn session area) id (rowsIn rows)) (now (area .entry)))
+        × (now (number .exit)
+        ≡ partNumber (completedPart session (rowsFitIn session rows && areaFitsIn session area) id (rowsIn rows))) ⌝ }
 {
     let answer = completed_part(session, rows, area.len(), id);
     *number = number_of(answer);
@@ -262,7 +266,7 @@ pub fn completed_bytes<'a>(
 
 // 3; how many rows the device holds.
 pub fn held_count(session: Session, rows: &[u64]) -> Tally
-    ensures { λ r. ⌜ r ≡ heldCountOf (rowsFit (session .«row_count») (session .«row_bytes») (length (now (rows .entry)))) (rowsOf (now (rows .entry))) ⌝ }
+    ensures { λ r. ⌜ r ≡ heldCountOf (rowsFitIn session rows) (rowsIn rows) ⌝ }
 {
     if !sizes::rows_fit(session.row_count, session.row_bytes, rows.len()) {
         return Tally::Refused(models::refuse(3));
@@ -272,7 +276,7 @@ pub fn held_count(session: Session, rows: &[u64]) -> Tally
 
 // 3; the sum of their requested lengths.
 pub fn held_bytes(session: Session, rows: &[u64]) -> Tally
-    ensures { λ r. ⌜ r ≡ heldBytesOf (rowsFit (session .«row_count») (session .«row_bytes») (length (now (rows .entry)))) (rowsOf (now (rows .entry))) ⌝ }
+    ensures { λ r. ⌜ r ≡ heldBytesOf (rowsFitIn session rows) (rowsIn rows) ⌝ }
 {
     if !sizes::rows_fit(session.row_count, session.row_bytes, rows.len()) {
         return Tally::Refused(models::refuse(3));

@@ -22,9 +22,8 @@ use words::OptionU64;
 ghost use mathlib.Core.Path.{_≡_};
 ghost use lib.ListN.{length};
 ghost use Rattle.models.specs.Refusals.{refusalOf};
-ghost use Rattle.rows.specs.Store.{storeOf};
-ghost use Rattle.bus.specs.Tables.{busOf};
-ghost use Rattle.session.specs.Sizes.{rowsFit, openFits};
+ghost use Rattle.session.specs.Lent.{storeIn, storeOut, busIn, busOut, rowsFitIn};
+ghost use Rattle.session.specs.Sizes.{openFits};
 ghost use Rattle.session.specs.Lifecycle.{callRefused, passed, portsOf, newSession, openedTo, openOf, acquiredBy, acquireOf, initializedBy, initializeOf, closedSession, calledTo, closedBy, closeOf};
 
 // What an opening sets.
@@ -115,7 +114,8 @@ fn open_fits(o: Opening, words: usize, bytes: usize, bus_words: usize) -> bool
 
 // Opens a session on a store and a bus, whatever they held. 3: a size is wrong.
 pub fn open(o: Opening, rows: &mut [u64], area: &[u8], bus: &mut [u64]) -> Opened
-    ensures { λ r. ⌜ openedTo r (storeOf (now (rows .exit))) (busOf (now (bus .exit))) ≡ openOf (openFits o (length (now (rows .entry))) (length (now (area .entry))) (length (now (bus .entry)))) o (storeOf (now (rows .entry))) (busOf (now (bus .entry))) ⌝ }
+    ensures { λ r. ⌜ openedTo r (storeOut rows) (busOut bus)
+        ≡ openOf (openFits o (length (now (rows .entry))) (length (now (area .entry))) (length (now (bus .entry)))) o (storeIn rows) (busIn bus) ⌝ }
 {
     if !open_fits(o, rows.len(), area.len(), bus.len()) {
         return Opened::Refused(models::refuse(3));
@@ -203,7 +203,7 @@ fn closed_session(session: Session, fresh: u64) -> Session
 
 // What the backend's reply to close leaves: 45 with a mark, or a new ledger and every row free.
 fn closed(session: Session, rows: &mut [u64], fresh: u64, reply: OptionError) -> Called
-    ensures { λ r. ⌜ calledTo r (storeOf (now (rows .exit))) ≡ closedBy reply session fresh (storeOf (now (rows .entry))) ⌝ }
+    ensures { λ r. ⌜ calledTo r (storeOut rows) ≡ closedBy reply session fresh (storeIn rows) ⌝ }
 {
     match reply {
         OptionError::Some(error) => refused(mark(session), models::refuse_backend(45, error)),
@@ -216,7 +216,8 @@ fn closed(session: Session, rows: &mut [u64], fresh: u64, reply: OptionError) ->
 
 // 1; 3; Closed succeeds unchanged; 52 no fresh number; then by the reply.
 pub fn close(session: Session, rows: &mut [u64], fresh: OptionU64, reply: OptionError) -> Called
-    ensures { λ r. ⌜ calledTo r (storeOf (now (rows .exit))) ≡ closeOf session (rowsFit (session .«row_count») (session .«row_bytes») (length (now (rows .entry)))) fresh reply (storeOf (now (rows .entry))) ⌝ }
+    ensures { λ r. ⌜ calledTo r (storeOut rows)
+        ≡ closeOf session (rowsFitIn session rows) fresh reply (storeIn rows) ⌝ }
 {
     let state = session.state;
     let verdict = start::rows_ready(session, rows.len());

@@ -12,7 +12,8 @@ pub fn ready(session: Session, fits: bool) -> Verdict
     ensures { λ r. ⌜ r ≡ readyOf session fits ⌝ }
 {
     let flight = session.in_flight;
-    if is_busy(flight) {
+    let busy = is_busy(flight);
+    if busy {
         return Verdict::Refused(models::refuse(1));
     }
     if !fits {

@@ -3,6 +3,7 @@ use Prim.Native.Nat.{ℕ, _*_}
 use mathlib.Core.Bool.{Bool, _&&_}
 use mathlib.Core.List.{List}
 use lib.ListN.{length}
+use denote.Ref.{now}
 use Rattle.chain.specs.declared.Found.{Found}
 use Rattle.chain.specs.declared.Found.the-variants as found
 use Rattle.models.specs.Refusals.{refusalOf}
@@ -23,6 +24,7 @@ use Rattle.checks.specs.declared.prepare.Prepared.the-variants as prepare
 use Rattle.checks.specs.declared.plan.Planned.{Planned}
 use Rattle.checks.specs.declared.plan.Planned.the-variants as plan
 use Rattle.checks.specs.declared.plan.ValidatedControlPlan.{ValidatedControlPlan}
+use Rattle.session.specs.Lent.{Slice}
 use Rattle.session.specs.Sizes.{rowsFit, areaFits, busFits}
 use Rattle.session.specs.Start.{readyOf}
 use Rattle.session.specs.declared.Session.{Session}
@@ -38,6 +40,9 @@ use Rattle.submissions.specs.declared.begin.Start.the-variants as start
 -- whether rows, area and bus have the sizes that the session records
 abbrev pub storeFits : Session → ℕ → ℕ → ℕ → Bool
 storeFits s words area bus = rowsFit (s .«row_count») (s .«row_bytes») words && areaFits (s .«row_count») (s .«row_bytes») area && busFits bus
+
+abbrev pub storeFitsIn : Session → Slice → Slice → Slice → Bool
+storeFitsIn s rows area bus = storeFits s (length (now (rows .entry))) (length (now (area .entry))) (length (now (bus .entry)))
 
 -- an answer with its session, and the bus, the store and the area after it
 pub record SubmitTo : Type 0 where

@@ -17,9 +17,8 @@ ghost use mathlib.Core.Path.{_≡_};
 ghost use Prim.Native.Nat.{_+_, _<_, _≤_};
 ghost use lib.ListN.{length};
 ghost use Rattle.rows.specs.Table.{rowsOf};
-ghost use Rattle.rows.specs.Store.{storeOf};
 ghost use Rattle.bus.specs.Layout.{busWords};
-ghost use Rattle.bus.specs.Tables.{busOf};
+ghost use Rattle.session.specs.Lent.{rowsIn, storeIn, storeOut, busIn, busOut};
 ghost use Rattle.submissions.specs.Begin.{roomIn, newId, startRefused, startTo, writeOf, beginOf, targetTo, targetOf};
 
 // A submission that was handed over, with its id and row, or the refusal.
@@ -44,7 +43,7 @@ pub(crate) fn start_refused(session: Session, refusal: Refusal) -> Started
 
 // The row for a new request; 5: all rows are used, or 128 are held.
 pub(crate) fn find_room(rows: &[u64]) -> Found
-    ensures { λ r. ⌜ r ≡ roomIn (rowsOf (now (rows .entry))) ⌝ }
+    ensures { λ r. ⌜ r ≡ roomIn (rowsIn rows) ⌝ }
 {
     if tally::held_count(rows) >= 128 {
         return Found::Nothing;
@@ -87,7 +86,8 @@ fn begin(
     bytes: &[u8],
 ) -> Started
     requires { ⌜ (i < length (rowsOf (now rows))) × (at + metadata .«requested_length» ≤ length (now area)) × (at + length (now bytes) ≤ length (now area)) ⌝ }
-    ensures { λ r. ⌜ startTo r (storeOf (now (rows .exit))) (now (area .exit)) ≡ beginOf session i at metadata (now (bytes .entry)) (storeOf (now (rows .entry))) (now (area .entry)) ⌝ }
+    ensures { λ r. ⌜ startTo r (storeOut rows) (now (area .exit))
+        ≡ beginOf session i at metadata (now (bytes .entry)) (storeIn rows) (now (area .entry)) ⌝ }
 {
     let spent = rules::spend_sequence(session.next_sequence);
     match spent {
@@ -119,7 +119,8 @@ pub(crate) fn begin_target(
     second: PortReading,
 ) -> Started
     requires { ⌜ (length (now bus) ≡ busWords) × (i < length (rowsOf (now rows))) × (at + metadata .«requested_length» ≤ length (now area)) × (at + length (now bytes) ≤ length (now area)) ⌝ }
-    ensures { λ r. ⌜ targetTo r (busOf (now (bus .exit))) (storeOf (now (rows .exit))) (now (area .exit)) ≡ targetOf session i at metadata (now (bytes .entry)) first second (busOf (now (bus .entry))) (storeOf (now (rows .entry))) (now (area .entry)) ⌝ }
+    ensures { λ r. ⌜ targetTo r (busOut bus) (storeOut rows) (now (area .exit))
+        ≡ targetOf session i at metadata (now (bytes .entry)) first second (busIn bus) (storeIn rows) (now (area .entry)) ⌝ }
 {
     let state = session.state;
     let ports = session.ports;

@@ -13,10 +13,8 @@ use session::InFlight;
 use session::Session;
 use session::sizes;
 ghost use mathlib.Core.Path.{_≡_};
-ghost use lib.ListN.{length};
-ghost use Rattle.rows.specs.Store.{storeOf};
-ghost use Rattle.session.specs.Sizes.{rowsFit};
 ghost use Rattle.reports.specs.Answers.{reportedTo};
+ghost use Rattle.session.specs.Lent.{storeIn, storeOut, rowsFitIn};
 ghost use Rattle.submissions.specs.Reply.{acceptedBy, discardedBy, submitReplyBy, submitReplyOf};
 
 // The backend took the request: the operation ends with the row's report.
@@ -45,7 +43,7 @@ fn discarded(applied: Applied, error: OperationError, session: Session) -> Repor
 }
 
 fn reply_to(session: Session, rows: &mut [u64], id: RequestId, reply: SubmitReply) -> Reported
-    ensures { λ r. ⌜ reportedTo r (storeOf (now (rows .exit))) ≡ submitReplyBy reply id session (storeOf (now (rows .entry))) ⌝ }
+    ensures { λ r. ⌜ reportedTo r (storeOut rows) ≡ submitReplyBy reply id session (storeIn rows) ⌝ }
 {
     match reply {
         SubmitReply::Token(token) => {
@@ -61,7 +59,8 @@ fn reply_to(session: Session, rows: &mut [u64], id: RequestId, reply: SubmitRepl
 
 // 2: no submission is in flight; 3; 2: no row has its id. Else the operation ends.
 pub fn submit_reply(session: Session, rows: &mut [u64], reply: SubmitReply) -> Reported
-    ensures { λ r. ⌜ reportedTo r (storeOf (now (rows .exit))) ≡ submitReplyOf session (rowsFit (session .«row_count») (session .«row_bytes») (length (now (rows .entry)))) reply (storeOf (now (rows .entry))) ⌝ }
+    ensures { λ r. ⌜ reportedTo r (storeOut rows)
+        ≡ submitReplyOf session (rowsFitIn session rows) reply (storeIn rows) ⌝ }
 {
     let flight = session.in_flight;
     match flight {

@@ -29,15 +29,14 @@ ghost use mathlib.Core.Bool.{true};
 ghost use Prim.Native.Nat.{_*_, _+_, _<_, _≤_};
 ghost use lib.ListN.{length};
 ghost use Rattle.rows.specs.Table.{rowsOf};
-ghost use Rattle.rows.specs.Store.{storeOf};
 ghost use Rattle.bus.specs.Layout.{busWords};
-ghost use Rattle.bus.specs.Tables.{busOf};
 ghost use Rattle.checks.specs.Packets.{packetsChecked};
 ghost use Rattle.checks.specs.Prepare.{prepared};
 ghost use Rattle.checks.specs.Plan.{planned};
 ghost use Rattle.session.specs.Start.{readyOf};
+ghost use Rattle.session.specs.Lent.{rowsIn, storeIn, storeOut, busIn, busOut};
 ghost use Rattle.submissions.specs.Begin.{roomIn};
-ghost use Rattle.submissions.specs.Submit.{storeFits, submitRefused, submittedBy, submitTo, preparedBy, roomBy, packetsBy, submitOf, planRefused, planStarted, planTo, plannedBy, planRoomBy, submitPlanOf};
+ghost use Rattle.submissions.specs.Submit.{storeFits, storeFitsIn, submitRefused, submittedBy, submitTo, preparedBy, roomBy, packetsBy, submitOf, planRefused, planStarted, planTo, plannedBy, planRoomBy, submitPlanOf};
 
 // 1; 3: rows, area or bus are of another size than the session records.
 fn ready(session: Session, words: usize, bytes: usize, bus_words: usize) -> Verdict
@@ -92,7 +91,8 @@ fn submit_prepared(
     second: PortReading,
 ) -> Submitted
     requires { ⌜ (length (now bus) ≡ busWords) × (i < length (rowsOf (now rows))) × (at ≡ i * session .«row_bytes») × (at + session .«row_bytes» ≤ length (now area)) ⌝ }
-    ensures { λ r. ⌜ submitTo r (busOf (now (bus .exit))) (storeOf (now (rows .exit))) (now (area .exit)) ≡ preparedBy (prepared q (length (now (bytes .entry))) (session .«row_bytes»)) session i (now (bytes .entry)) given first second (busOf (now (bus .entry))) (storeOf (now (rows .entry))) (now (area .entry)) ⌝ }
+    ensures { λ r. ⌜ submitTo r (busOut bus) (storeOut rows) (now (area .exit))
+        ≡ preparedBy (prepared q (length (now (bytes .entry))) (session .«row_bytes»)) session i (now (bytes .entry)) given first second (busIn bus) (storeIn rows) (now (area .entry)) ⌝ }
 {
     let answer = prepare::prepare(q, bytes.len() as u64, session.row_bytes);
     match answer {
@@ -128,7 +128,8 @@ fn submit_room(
     second: PortReading,
 ) -> Submitted
     requires { ⌜ storeFits session (length (now rows)) (length (now area)) (length (now bus)) ≡ true ⌝ }
-    ensures { λ r. ⌜ submitTo r (busOf (now (bus .exit))) (storeOf (now (rows .exit))) (now (area .exit)) ≡ roomBy (roomIn (rowsOf (now (rows .entry)))) session q (now (bytes .entry)) given first second (busOf (now (bus .entry))) (storeOf (now (rows .entry))) (now (area .entry)) ⌝ }
+    ensures { λ r. ⌜ submitTo r (busOut bus) (storeOut rows) (now (area .exit))
+        ≡ roomBy (roomIn (rowsIn rows)) session q (now (bytes .entry)) given first second (busIn bus) (storeIn rows) (now (area .entry)) ⌝ }
 {
     let found = begin::find_room(rows);
     let Found::At(i) = found else {
@@ -164,7 +165,8 @@ fn submit_checked(
     second: PortReading,
 ) -> Submitted
     requires { ⌜ storeFits session (length (now rows)) (length (now area)) (length (now bus)) ≡ true ⌝ }
-    ensures { λ r. ⌜ submitTo r (busOf (now (bus .exit))) (storeOf (now (rows .exit))) (now (area .exit)) ≡ packetsBy (packetsChecked given (now (packets .entry)) (q .«transfer_type») (q .length)) session q (now (bytes .entry)) given first second (busOf (now (bus .entry))) (storeOf (now (rows .entry))) (now (area .entry)) ⌝ }
+    ensures { λ r. ⌜ submitTo r (busOut bus) (storeOut rows) (now (area .exit))
+        ≡ packetsBy (packetsChecked given (now (packets .entry)) (q .«transfer_type») (q .length)) session q (now (bytes .entry)) given first second (busIn bus) (storeIn rows) (now (area .entry)) ⌝ }
 {
     let transfer_type = q.transfer_type;
     let verdict = packets::check_packets(given, packets, transfer_type, q.length);
@@ -187,7 +189,8 @@ pub fn submit_request_packets(
     first: PortReading,
     second: PortReading,
 ) -> Submitted
-    ensures { λ r. ⌜ submitTo r (busOf (now (bus .exit))) (storeOf (now (rows .exit))) (now (area .exit)) ≡ submitOf session (storeFits session (length (now (rows .entry))) (length (now (area .entry))) (length (now (bus .entry)))) q (now (bytes .entry)) given (now (packets .entry)) first second (busOf (now (bus .entry))) (storeOf (now (rows .entry))) (now (area .entry)) ⌝ }
+    ensures { λ r. ⌜ submitTo r (busOut bus) (storeOut rows) (now (area .exit))
+        ≡ submitOf session (storeFitsIn session rows area bus) q (now (bytes .entry)) given (now (packets .entry)) first second (busIn bus) (storeIn rows) (now (area .entry)) ⌝ }
 {
     let verdict = ready(session, rows.len(), area.len(), bus.len());
     match verdict {
@@ -243,7 +246,8 @@ fn plan_prepared(
     first: PortReading,
 ) -> PlanSubmitted
     requires { ⌜ (length (now bus) ≡ busWords) × (i < length (rowsOf (now rows))) × (at ≡ i * session .«row_bytes») × (at + session .«row_bytes» ≤ length (now area)) ⌝ }
-    ensures { λ r. ⌜ planTo r (busOf (now (bus .exit))) (storeOf (now (rows .exit))) (now (area .exit)) ≡ plannedBy (planned q (length (now (bytes .entry))) (session .«row_bytes»)) session i (now (bytes .entry)) first (busOf (now (bus .entry))) (storeOf (now (rows .entry))) (now (area .entry)) ⌝ }
+    ensures { λ r. ⌜ planTo r (busOut bus) (storeOut rows) (now (area .exit))
+        ≡ plannedBy (planned q (length (now (bytes .entry))) (session .«row_bytes»)) session i (now (bytes .entry)) first (busIn bus) (storeIn rows) (now (area .entry)) ⌝ }
 {
     let answer = plan::validate_plan(q, bytes.len() as u64, session.row_bytes);
     match answer {
@@ -278,7 +282,8 @@ fn plan_room(
     first: PortReading,
 ) -> PlanSubmitted
     requires { ⌜ storeFits session (length (now rows)) (length (now area)) (length (now bus)) ≡ true ⌝ }
-    ensures { λ r. ⌜ planTo r (busOf (now (bus .exit))) (storeOf (now (rows .exit))) (now (area .exit)) ≡ planRoomBy (roomIn (rowsOf (now (rows .entry)))) session q (now (bytes .entry)) first (busOf (now (bus .entry))) (storeOf (now (rows .entry))) (now (area .entry)) ⌝ }
+    ensures { λ r. ⌜ planTo r (busOut bus) (storeOut rows) (now (area .exit))
+        ≡ planRoomBy (roomIn (rowsIn rows)) session q (now (bytes .entry)) first (busIn bus) (storeIn rows) (now (area .entry)) ⌝ }
 {
     let found = begin::find_room(rows);
     let Found::At(i) = found else {
@@ -298,7 +303,8 @@ pub fn submit_control_plan(
     bytes: &[u8],
     first: PortReading,
 ) -> PlanSubmitted
-    ensures { λ r. ⌜ planTo r (busOf (now (bus .exit))) (storeOf (now (rows .exit))) (now (area .exit)) ≡ submitPlanOf session (storeFits session (length (now (rows .entry))) (length (now (area .entry))) (length (now (bus .entry)))) q (now (bytes .entry)) first (busOf (now (bus .entry))) (storeOf (now (rows .entry))) (now (area .entry)) ⌝ }
+    ensures { λ r. ⌜ planTo r (busOut bus) (storeOut rows) (now (area .exit))
+        ≡ submitPlanOf session (storeFitsIn session rows area bus) q (now (bytes .entry)) first (busIn bus) (storeIn rows) (now (area .entry)) ⌝ }
 {
     let verdict = ready(session, rows.len(), area.len(), bus.len());
     match verdict {
