@@ -27,7 +27,9 @@ use Rattle.session.specs.declared.InFlight.the-variants as flight
 use Rattle.session.specs.declared.OptionStall.{OptionStall}
 use Rattle.session.specs.declared.Session.{Session}
 use Rattle.reports.specs.Answers.{isMild, effect}
-use Rattle.history.specs.Run.{isIn, noted}
+use Rattle.scope.specs.Scope.{isIn}
+use Rattle.scope.proofs.Scoping.{in-cons}
+use Rattle.history.specs.Run.{noted}
 use Rattle.history.specs.Journal.{Entry, Journal, isEntry, entryOf, atEntry, atWaiting, endedWith, idle, pollWaits, releasedAll, View}
 use Rattle.history.specs.Claim.{rowView}
 use Rattle.history.proofs.Led.{rowW, each, Led, and-less, Changed, Alike, led-at, led-set, ids-kept}
@@ -169,8 +171,8 @@ module _ (s : Session) (rows : List Row) (j : Journal) (seen : List ℕ) (k : In
     agree = k .agree;
     live = k .live;
     shut = k .shut;
-    past = λ x e. k .past x (or-false (eqb (x .session) n) (isIn (x .session) seen) e .1);
-    here = let h = k .here in caseB (eqb (s .number) n) (λ e. rw e) (λ e. rw e h);
+    past = λ x e. k .past x (or-false (eqb (x .session) n) (isIn (x .session) seen) (sym (in-cons (x .session) n seen) ∙ e) .1);
+    here = let h = k .here in in-cons (s .number) n seen ∙ caseB (eqb (s .number) n) (λ e. rw e) (λ e. rw e h);
   }
 
   -- ---- a close that passes
@@ -194,8 +196,8 @@ module _ (s : Session) (rows : List Row) (j : Journal) (seen : List ℕ) (k : In
   closed-anew n size new b = record {
     led = led-closed rows (j .entries) (replicate size emptyRow) (k .led) (λ w. none-held w size) (λ x. omega (arith, none-at x size));
     fresh = λ i h. closed-ids (idIn (closedSession s n) i) (j .entries) ∙ k .past (idIn (closedSession s n) i) new;
-    past = λ x h. closed-ids x (j .entries) ∙ k .past x (or-false (eqb (x .session) n) (isIn (x .session) seen) h .1);
-    here = let h = eq-eqb n n refl in rw h;
+    past = λ x h. closed-ids x (j .entries) ∙ k .past x (or-false (eqb (x .session) n) (isIn (x .session) seen) (sym (in-cons (x .session) n seen) ∙ h) .1);
+    here = let h = eq-eqb n n refl in in-cons n n seen ∙ rw h;
     shut = λ e. none-held each size;
     agree = k .agree ∙ flight-none (s .«in_flight») b;
     live = tt;

@@ -40,13 +40,13 @@ use Rattle.recovery.specs.declared.Recovery.{Recovery}
 use Rattle.recovery.specs.declared.RecoveryReply.{RecoveryReply}
 use Rattle.recovery.specs.declared.RecoveryReply.the-variants as reply
 use Rattle.calls.specs.Answers.{ofBegin, ofRecovery}
-use Rattle.calls.specs.Calls.{Open, ReplyRecovery}
-use Rattle.calls.specs.Step.{World, After, world, stepOf, rowsFitIn}
+use Rattle.calls.specs.Calls.{Open, Begin, Recover, Reply, ToRecovery}
+use Rattle.calls.specs.Step.{World, rowsFitIn, begunOf, repliedOf, stepOf}
 use Rattle.calls.specs.declared.Answer.{Answer}
 use Rattle.calls.specs.declared.Answer.the-variants as answer
 use Rattle.history.specs.Run.{Handed, Event, next, endOf, answerTo, Handing, Follows, Fresh}
 use Rattle.history.specs.Journal.{Entry, blank, refusalNumber, endsBy}
-use Rattle.history.specs.Claim.{startOf, starts}
+use Rattle.history.specs.Claim.{starts}
 use Rattle.history.specs.Sound.{rowAt, Sound}
 use Rattle.history.proofs.Handings.{by-handed}
 use Rattle.history.proofs.Led.{Led}
@@ -57,7 +57,7 @@ use Rattle.history.proofs.Keeps.{late-numbers, late-43}
 use Rattle.history.proofs.SoundRows.{full}
 use Rattle.history.proofs.SoundChange.{at-used}
 use Rattle.history.proofs.SoundRun.{sound-run}
-use Rattle.history.proofs.Theorem.{opened-holds, run-kept, start-step}
+use Rattle.history.proofs.Theorem.{opened-holds, run-kept}
 
 -- an answer is not the refusal n
 abbrev pub Not : ℕ → Answer → Type 0
@@ -134,22 +134,20 @@ module _ (o : Opening) (w : World) (es : List Event) (pass : stepOf (Open o) w .
   abbrev at : World
   at = endOf start es
 
-  pub start-44 : (q : RecoveryKind) (id : RequestId) (h : Handed) → Handing h (startOf q id) → Not 44 (answerTo at (starts q id h))
+  pub start-44 : (q : RecoveryKind) (id : RequestId) (h : Handed) → Handing h (Begin (Recover id q)) → Not 44 (answerTo at (starts q id h))
+  unfolding stepOf begunOf
   start-44 q id h f =
-      by-handed h (startOf q id) at (λ a v. Not 44 a) f
-      (λ first bus area. let v = world (at .session) bus (at .store) area in
-      ap (λ (a : After). eqb (refusalNumber (a .result .answer)) 44) (start-step q id v) ∙ never-44 at (sound-run o w es pass follows) (rowsFitIn v) id q)
-      refl
+      by-handed h (Begin (Recover id q)) at (λ a v. Not 44 a) f (λ first bus area. never-44 at (sound-run o w es pass follows) _ id q) refl
 
   -- the affected rows are all of them, with no bound on their number
   pub all-affected : (d : DeviceId) (endpoint : ℕ) → affectedOf d endpoint (at .store .rows) ≡ allOf d endpoint (at .store .rows)
   all-affected d endpoint = affected-all d endpoint (at .store .rows) (sound-run o w es pass follows .held)
 
   module _ (fresh : Fresh (o .session ∷ []) es) (r : RecoveryReply) (tokens words aborted bytes : List ℕ) where
-    pub reply-43 : (h : Handed) → Handing h (ReplyRecovery r tokens words aborted bytes)
-        → Not 43 (answerTo at (record { call = ReplyRecovery r tokens words aborted bytes; handed = h }))
-    unfolding stepOf
+    pub reply-43 : (h : Handed) → Handing h (Reply (ToRecovery r tokens words aborted bytes))
+        → Not 43 (answerTo at (record { call = Reply (ToRecovery r tokens words aborted bytes); handed = h }))
+    unfolding stepOf repliedOf
     reply-43 h f =
-        by-handed h (ReplyRecovery r tokens words aborted bytes) at (λ a v. Not 43 a) f
+        by-handed h (Reply (ToRecovery r tokens words aborted bytes)) at (λ a v. Not 43 a) f
         (λ first bus area. never-43 (at .session) (at .store) _ (run-kept es start blank (o .session ∷ []) (opened-holds o w pass) follows fresh .1 .led) tokens words aborted bytes area _ r)
         refl

@@ -41,7 +41,7 @@ use Rattle.rows.specs.declared.Row.{Row}
 use Rattle.ledger.specs.Apply.{applyBy, applyAt, applyOf}
 use Rattle.ledger.specs.Rules.{spendSequence, moved, freed, pendingFlags, accepted, logicalCancelBy, logicalCancel, timeOutBy, timeOut, completedBy, completed, failedBy, failed, abortConfirmed, reclaimed, changeRow}
 use Rattle.ledger.specs.Search.{isAt}
-use Rattle.ledger.specs.declared.rules.Change.{Change}
+use Rattle.ledger.specs.declared.rules.Change as rules
 use Rattle.ledger.specs.declared.rules.Change.the-variants as change
 use Rattle.ledger.specs.declared.rules.Spent.{Spent}
 use Rattle.ledger.specs.declared.rules.Step.{Step}
@@ -74,7 +74,6 @@ use Rattle.session.specs.declared.Called.{Called}
 use Rattle.session.specs.declared.InFlight.{InFlight}
 use Rattle.session.specs.declared.InFlight.the-variants as flight
 use Rattle.session.specs.declared.RecoveryKind.{RecoveryKind}
-use Rattle.session.specs.declared.RecoveryKind.the-variants as kind
 use Rattle.session.specs.declared.Session.{Session}
 use Rattle.session.specs.declared.lifecycle.AcquireReply.{AcquireReply}
 use Rattle.session.specs.declared.lifecycle.AcquireReply.the-variants as acquire
@@ -108,8 +107,8 @@ use Rattle.recovery.specs.declared.Recovery.{Recovery}
 use Rattle.recovery.specs.declared.RecoveryReply.{RecoveryReply}
 use Rattle.recovery.specs.declared.RecoveryReply.the-variants as reply
 use Rattle.calls.specs.Answers.{ofSubmit, ofPlan, ofRecovery}
-use Rattle.calls.specs.Calls.{Call, Open, SetDevice, SetPort, SetEndpoints, SetReconcile, Acquire, Initialize, Close, Submit, SubmitPlan, ReplySubmit, Poll, ReplyPoll, AbortRequest, ResetEndpoint, ReplyRecovery, Cancel, Timeout, Reclaim, Status, Reports, CountReports, CompletedBytes, HeldCount, HeldBytes}
-use Rattle.calls.specs.Step.{World, After, stepOf, opens, places, moves, closes, submits, plans, reports, polls, finishes, begins, recovers, rowsFitIn, areaFitsIn, storeFitsIn}
+use Rattle.calls.specs.Calls.{Device, Port, Endpoints, Reconcile, Call, Open, Place, Move, Acquire, Initialize, Close, Begin, Submit, SubmitPlan, Poll, Recover, Reply, ToSubmit, ToPoll, ToRecovery, Change, Read}
+use Rattle.calls.specs.Step.{World, After, stepOf, opens, places, moves, closes, submits, plans, reports, polls, finishes, begins, recovers, rowsFitIn, areaFitsIn, storeFitsIn, placedOf, movedOf, begunOf, repliedOf, changeBy}
 use Rattle.calls.specs.declared.Answer.{Answer}
 use Rattle.calls.specs.declared.Answer.the-variants as answer
 use Rattle.history.specs.Run.{next}
@@ -144,7 +143,7 @@ OtherStep (step.Refused r) = eqb (r .number) 3 ≡ false
 OtherStep (step.To q x) = Unit {0}
 
 -- the ledger's 41, 42, 43
-other-step : (r : Row) (c : Change) → OtherStep (changeRow r c)
+other-step : (r : Row) (c : rules.Change) → OtherStep (changeRow r c)
 unfolding changeRow accepted moved freed logicalCancel logicalCancelBy timeOut timeOutBy completed completedBy failed failedBy abortConfirmed reclaimed
 other-step r (change.Accept token) = tt
 other-step r change.Discard = tt
@@ -506,7 +505,7 @@ module _ (w : World) where
       go (flight.Recovery a b c d) = λ e. refl
       go (flight.Submission id) = if-all Tells _ _ _ (λ e. refl) (by-found x (foundIn (isAt id) (w .store .rows)) id refl)
 
-  change-stays : (fits : Bool) (id : RequestId) (c : Change) → Tells (changeOf (w .session) fits id c (w .store))
+  change-stays : (fits : Bool) (id : RequestId) (c : rules.Change) → Tells (changeOf (w .session) fits id c (w .store))
   unfolding changeOf reportedBy applyOf applyAt applyBy
   change-stays fits id c = if-all Tells _ _ _ (λ e. refl) (if-all Tells _ _ _ (λ e. refl) (by-found (foundIn (isAt id) (w .store .rows))))
     where
@@ -604,29 +603,21 @@ module _ (w : World) where
           (if-all Recovers _ _ _ (λ e. refl) (by-reply tokens words aborted bytes (record { target = a; device = b; endpoint = c; kind = d }) r))
 
 pub refused-untouched : (c : Call) (w : World) → stepOf c w .result .answer ≡ answer.Refused (refusalOf 3) → next (stepOf c w) ≡ w
-unfolding stepOf
+unfolding stepOf placedOf movedOf begunOf repliedOf
 refused-untouched (Open o) w = open-stays w _ o
-refused-untouched (SetDevice d) w = device-stays w _ d
-refused-untouched (SetPort number row) w = port-stays w _ number row
-refused-untouched (SetEndpoints slot list) w = endpoints-stay w _ slot list
-refused-untouched (SetReconcile slot mark) w = mark-stays w _ slot mark
-refused-untouched (Acquire reply) w = acquire-stays w reply
-refused-untouched (Initialize reply) w = initialize-stays w reply
-refused-untouched (Close fresh reply) w = close-stays w (rowsFitIn w) fresh reply
-refused-untouched (Submit q bytes given packets one two) w = submit-stays w (storeFitsIn w) q bytes given packets one two
-refused-untouched (SubmitPlan q bytes one) w = plan-stays w (storeFitsIn w) q bytes one
-refused-untouched (ReplySubmit reply) w = reply-stays w (rowsFitIn w) reply
-refused-untouched (Poll id) w = poll-stays w (rowsFitIn w) id
-refused-untouched (ReplyPoll reply bytes) w = finish-stays w (rowsFitIn w && areaFitsIn w) reply bytes
-refused-untouched (AbortRequest id) w = begin-stays w (rowsFitIn w) id kind.Abort
-refused-untouched (ResetEndpoint id preserve) w = begin-stays w (rowsFitIn w) id (kind.Reset preserve)
-refused-untouched (ReplyRecovery reply tokens words aborted bytes) w = recovery-stays w (rowsFitIn w && areaFitsIn w) reply tokens words aborted bytes
-refused-untouched (Cancel id) w = change-stays w (rowsFitIn w) id change.LogicalCancel
-refused-untouched (Timeout id) w = change-stays w (rowsFitIn w) id change.Timeout
-refused-untouched (Reclaim id) w = change-stays w (rowsFitIn w) id change.Reclaim
-refused-untouched (Status id) w = λ e. refl
-refused-untouched (Reports from) w = λ e. refl
-refused-untouched CountReports w = λ e. refl
-refused-untouched (CompletedBytes id) w = λ e. refl
-refused-untouched HeldCount w = λ e. refl
-refused-untouched HeldBytes w = λ e. refl
+refused-untouched (Place (Device d)) w = device-stays w _ d
+refused-untouched (Place (Port number row)) w = port-stays w _ number row
+refused-untouched (Place (Endpoints slot list)) w = endpoints-stay w _ slot list
+refused-untouched (Place (Reconcile slot mark)) w = mark-stays w _ slot mark
+refused-untouched (Move (Acquire reply)) w = acquire-stays w reply
+refused-untouched (Move (Initialize reply)) w = initialize-stays w reply
+refused-untouched (Move (Close fresh reply)) w = close-stays w (rowsFitIn w) fresh reply
+refused-untouched (Begin (Submit q bytes given packets one two)) w = submit-stays w (storeFitsIn w) q bytes given packets one two
+refused-untouched (Begin (SubmitPlan q bytes one)) w = plan-stays w (storeFitsIn w) q bytes one
+refused-untouched (Begin (Poll id)) w = poll-stays w (rowsFitIn w) id
+refused-untouched (Begin (Recover id kind)) w = begin-stays w (rowsFitIn w) id kind
+refused-untouched (Reply (ToSubmit reply)) w = reply-stays w (rowsFitIn w) reply
+refused-untouched (Reply (ToPoll reply bytes)) w = finish-stays w (rowsFitIn w && areaFitsIn w) reply bytes
+refused-untouched (Reply (ToRecovery reply tokens words aborted bytes)) w = recovery-stays w (rowsFitIn w && areaFitsIn w) reply tokens words aborted bytes
+refused-untouched (Change id c) w = change-stays w (rowsFitIn w) id (changeBy c)
+refused-untouched (Read r) w = λ e. refl

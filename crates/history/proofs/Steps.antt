@@ -24,24 +24,23 @@ use Rattle.rows.specs.declared.Row.{Row}
 use Rattle.ledger.specs.Apply.{applyBy, applyAt, applyOf}
 use Rattle.ledger.specs.Rules.{moved, freed, pendingFlags, logicalCancelBy, logicalCancel, timeOutBy, timeOut, reclaimed, changeRow}
 use Rattle.ledger.specs.Search.{isAt}
-use Rattle.ledger.specs.declared.rules.Change.{Change}
-use Rattle.ledger.specs.declared.rules.Change.the-variants as change
+use Rattle.ledger.specs.declared.rules.Change as rules
 use Rattle.ledger.specs.declared.rules.Step.{Step}
 use Rattle.ledger.specs.declared.rules.Step.the-variants as step
 use Rattle.ledger.proofs.Placing.{found-row}
 use Rattle.session.specs.Session.{isClosed, isBusy, marked}
 use Rattle.session.specs.Lifecycle.{CalledTo, acquiredBy, acquireOf, initializedBy, initializeOf, closedBy, freshBy, closeOf}
 use Rattle.session.specs.declared.Called.{Called}
-use Rattle.session.specs.declared.RecoveryKind.the-variants as kind
 use Rattle.session.specs.declared.Session.{Session}
 use Rattle.session.specs.declared.lifecycle.AcquireReply.{AcquireReply}
 use Rattle.session.specs.declared.lifecycle.AcquireReply.the-variants as acquire
 use Rattle.reports.specs.Answers.{ReportedTo}
 use Rattle.reports.specs.Change.{reportedBy, changeOf}
 use Rattle.calls.specs.Answers.{ofVerdict}
-use Rattle.calls.specs.Calls.{Call, Open, SetDevice, SetPort, SetEndpoints, SetReconcile, Acquire, Initialize, Close, Submit, SubmitPlan, ReplySubmit, Poll, ReplyPoll, AbortRequest, ResetEndpoint, ReplyRecovery, Cancel, Timeout, Reclaim, Status, Reports, CountReports, CompletedBytes, HeldCount, HeldBytes}
-use Rattle.calls.specs.Step.{World, After, stepOf, rowsFitIn, areaFitsIn, storeFitsIn}
-use Rattle.history.specs.Run.{isOpening, numberOf, isIn, isNew, noted}
+use Rattle.calls.specs.Calls.{Changing, Cancel, Timeout, Reclaim, Call, Open, Place, Move, Acquire, Initialize, Close, Begin, Submit, SubmitPlan, Poll, Recover, Reply, ToSubmit, ToPoll, ToRecovery, Change, Read}
+use Rattle.calls.specs.Step.{World, After, rowsFitIn, areaFitsIn, storeFitsIn, movedOf, begunOf, repliedOf, changeBy, stepOf}
+use Rattle.scope.specs.Scope.{isIn}
+use Rattle.history.specs.Run.{isOpening, numberOf, isNew, noted}
 use Rattle.history.specs.Journal.{Journal, isPass, releasedAll, journalStep}
 use Rattle.history.proofs.Led.{Alike, unheld-row}
 use Rattle.history.proofs.Changes.{flag-alike, empty-alike}
@@ -55,36 +54,30 @@ abbrev pub Stays : Row → Step → Type 0
 Stays r (step.Refused x) = Unit {0}
 Stays r (step.To next x) = Alike r next
 
-cancel-stays : (r : Row) → Stays r (changeRow r change.LogicalCancel)
-unfolding changeRow logicalCancel logicalCancelBy moved
-cancel-stays r = go (r .state) refl
+change-stays : (c : Changing) (r : Row) → Stays r (changeRow r (changeBy c))
+unfolding changeRow logicalCancel logicalCancelBy timeOut timeOutBy reclaimed freed moved
+change-stays Cancel r = go (r .state) refl
   where
     go : (s : RequestState) → r .state ≡ s → Stays r (logicalCancelBy (pendingFlags s) r)
     go (Pending cancel late) e = flag-alike r true late true (r .«timed_out») (ap isPending e)
     go (Completed a b c) e = tt
     go (Failed a b c) e = tt
     go Aborted e = tt
-
-timeout-stays : (r : Row) → Stays r (changeRow r change.Timeout)
-unfolding changeRow timeOut timeOutBy moved
-timeout-stays r = go (r .state) refl
+change-stays Timeout r = go (r .state) refl
   where
     go : (s : RequestState) → r .state ≡ s → Stays r (timeOutBy (pendingFlags s) r)
     go (Pending cancel late) e = flag-alike r cancel true (r .«logical_cancel») true (ap isPending e)
     go (Completed a b c) e = tt
     go (Failed a b c) e = tt
     go Aborted e = tt
-
 -- 42: what is reclaimed is not held
-reclaim-stays : (r : Row) → Stays r (changeRow r change.Reclaim)
-unfolding changeRow reclaimed freed
-reclaim-stays r = if-by (Stays r) _ (deviceMayAccess (r .state)) _ (λ e. tt) (λ e. empty-alike r (unheld-row r e))
+change-stays Reclaim r = if-by (Stays r) _ (deviceMayAccess (r .state)) _ (λ e. tt) (λ e. empty-alike r (unheld-row r e))
 
 module _ (s : Session) (j : Journal) (seen : List ℕ) (store : Store) (k : Inv s (store .rows) j seen) where
   abbrev Change-kept : ReportedTo → Type 0
   Change-kept o = Inv (o .result .session) (o .store .rows) j seen
 
-  change-kept : (fits : Bool) (id : RequestId) (c : Change) → ((r : Row) → Stays r (changeRow r c)) → Change-kept (changeOf s fits id c store)
+  change-kept : (fits : Bool) (id : RequestId) (c : rules.Change) → ((r : Row) → Stays r (changeRow r c)) → Change-kept (changeOf s fits id c store)
   unfolding changeOf reportedBy applyOf applyAt applyBy putIn
   change-kept fits id c stays =
       if-by Change-kept _ (isBusy (s .«in_flight»)) _ (λ y. k)
@@ -145,31 +138,20 @@ Kept c j seen a = Inv (a .result .session) (a .store .rows) (journalStep c (a .r
 
 pub step-kept : (c : Call) (w : World) (j : Journal) (seen : List ℕ) → Inv (w .session) (w .store .rows) j seen → isOpening c ≡ false
     → isNew (numberOf c) seen ≡ true → Kept c j seen (stepOf c w)
-unfolding stepOf journalStep
+unfolding stepOf movedOf begunOf repliedOf journalStep
 step-kept (Open o) w j seen k first new = absurd (true≢false first)
-step-kept (SetDevice d) w j seen k first new = k
-step-kept (SetPort number row) w j seen k first new = k
-step-kept (SetEndpoints slot list) w j seen k first new = k
-step-kept (SetReconcile slot mark) w j seen k first new = k
-step-kept (Acquire reply) w j seen k first new = acquire-kept (w .session) j seen (w .store) k reply
-step-kept (Initialize reply) w j seen k first new = initialize-kept (w .session) j seen (w .store) k reply
-step-kept (Close fresh reply) w j seen k first new = close-kept (w .session) j seen (w .store) k (rowsFitIn w) fresh reply new
-step-kept (Submit q bytes packed packets one two) w j seen k first new =
+step-kept (Place p) w j seen k first new = k
+step-kept (Move (Acquire reply)) w j seen k first new = acquire-kept (w .session) j seen (w .store) k reply
+step-kept (Move (Initialize reply)) w j seen k first new = initialize-kept (w .session) j seen (w .store) k reply
+step-kept (Move (Close fresh reply)) w j seen k first new = close-kept (w .session) j seen (w .store) k (rowsFitIn w) fresh reply new
+step-kept (Begin (Submit q bytes packed packets one two)) w j seen k first new =
     submit-kept (w .session) j seen (w .store) k (storeFitsIn w) q bytes packed packets one two (w .bus) (w .area)
-step-kept (SubmitPlan q bytes one) w j seen k first new = plan-kept (w .session) j seen (w .store) k (storeFitsIn w) q bytes one (w .bus) (w .area)
-step-kept (ReplySubmit reply) w j seen k first new = reply-kept (w .session) j seen (w .store) k (rowsFitIn w) reply
-step-kept (Poll id) w j seen k first new = poll-kept (w .session) j seen (w .store) k (rowsFitIn w) id
-step-kept (ReplyPoll reply bytes) w j seen k first new = finish-kept (w .session) j seen (w .store) k (rowsFitIn w && areaFitsIn w) reply bytes (w .area)
-step-kept (AbortRequest id) w j seen k first new = begin-kept (w .session) j seen (w .store) k (rowsFitIn w) id kind.Abort
-step-kept (ResetEndpoint id preserve) w j seen k first new = begin-kept (w .session) j seen (w .store) k (rowsFitIn w) id (kind.Reset preserve)
-step-kept (ReplyRecovery reply tokens words aborted bytes) w j seen k first new =
+step-kept (Begin (SubmitPlan q bytes one)) w j seen k first new = plan-kept (w .session) j seen (w .store) k (storeFitsIn w) q bytes one (w .bus) (w .area)
+step-kept (Begin (Poll id)) w j seen k first new = poll-kept (w .session) j seen (w .store) k (rowsFitIn w) id
+step-kept (Begin (Recover id kind)) w j seen k first new = begin-kept (w .session) j seen (w .store) k (rowsFitIn w) id kind
+step-kept (Reply (ToSubmit reply)) w j seen k first new = reply-kept (w .session) j seen (w .store) k (rowsFitIn w) reply
+step-kept (Reply (ToPoll reply bytes)) w j seen k first new = finish-kept (w .session) j seen (w .store) k (rowsFitIn w && areaFitsIn w) reply bytes (w .area)
+step-kept (Reply (ToRecovery reply tokens words aborted bytes)) w j seen k first new =
     recovery-kept (w .session) j seen (w .store) k tokens words aborted bytes (w .area) (rowsFitIn w && areaFitsIn w) reply
-step-kept (Cancel id) w j seen k first new = change-kept (w .session) j seen (w .store) k (rowsFitIn w) id change.LogicalCancel cancel-stays
-step-kept (Timeout id) w j seen k first new = change-kept (w .session) j seen (w .store) k (rowsFitIn w) id change.Timeout timeout-stays
-step-kept (Reclaim id) w j seen k first new = change-kept (w .session) j seen (w .store) k (rowsFitIn w) id change.Reclaim reclaim-stays
-step-kept (Status id) w j seen k first new = k
-step-kept (Reports from) w j seen k first new = k
-step-kept CountReports w j seen k first new = k
-step-kept (CompletedBytes id) w j seen k first new = k
-step-kept HeldCount w j seen k first new = k
-step-kept HeldBytes w j seen k first new = k
+step-kept (Change id c) w j seen k first new = change-kept (w .session) j seen (w .store) k (rowsFitIn w) id (changeBy c) (change-stays c)
+step-kept (Read r) w j seen k first new = k

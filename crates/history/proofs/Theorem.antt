@@ -34,24 +34,22 @@ use Rattle.bus.specs.Tables.{Bus, busOf}
 use Rattle.session.specs.declared.InFlight.{InFlight}
 use Rattle.session.specs.declared.InFlight.the-variants as flight
 use Rattle.session.specs.declared.RecoveryKind.{RecoveryKind}
-use Rattle.session.specs.declared.RecoveryKind.the-variants as kind
 use Rattle.session.specs.declared.Session.{Session}
 use Rattle.session.specs.declared.lifecycle.Opening.{Opening}
 use Rattle.recovery.specs.declared.AbortReport.{AbortReport}
-use Rattle.recovery.specs.Begin.{beginOf}
 use Rattle.recovery.specs.declared.Recovery.{Recovery}
 use Rattle.recovery.specs.declared.RecoveryReply.{RecoveryReply}
 use Rattle.reports.specs.Answers.{ReportedTo}
 use Rattle.reports.specs.Change.{reportedBy, changeOf}
 use Rattle.reports.specs.Status.{heldCountOf, heldBytesOf}
 use Rattle.calls.specs.Answers.{ofOpened, ofReport, ofTally}
-use Rattle.calls.specs.Calls.{Call, Open, Reclaim}
-use Rattle.calls.specs.Step.{World, After, world, begins, rowsFitIn, stepOf}
+use Rattle.calls.specs.Calls.{Call, Open, Begin, Recover, Change, Reclaim}
+use Rattle.calls.specs.Step.{World, world, begunOf, repliedOf, readOf, stepOf}
 use Rattle.calls.specs.declared.Answer.{Answer}
 use Rattle.calls.specs.declared.Answer.the-variants as answer
 use Rattle.history.specs.Run.{Handed, Event, next, answerTo, leftBy, endOf, historyOf, Handing, Follows, numberOf, isNew, noted, Fresh}
 use Rattle.history.specs.Journal.{Entry, Journal, blank, isNone, isOpen, isEntry, noEntry, entryOf, recoveryWaits, journalStep, journalOf, View, entryView}
-use Rattle.history.specs.Claim.{rowView, heldAs, openAs, Agrees, releasesOf, rowsBy, entriesAfter, reclaims, startOf, starts, recovers, Recovered, Spared, Claim}
+use Rattle.history.specs.Claim.{rowView, heldAs, openAs, Agrees, releasesOf, rowsBy, entriesAfter, reclaims, starts, recovers, Recovered, Spared, Claim}
 use Rattle.history.proofs.Handings.{by-handed, follows-at, follows-front, fresh-front}
 use Rattle.history.proofs.SoundRun.{Whole, fitted-run, lent-rows}
 use Rattle.history.proofs.Led.{cond-and, any-count, rowW, entryW, each, lengthOf, long, at, twice, Led, row-none, and-less, unheld-row, known-in, entry-is}
@@ -196,7 +194,7 @@ opened-holds o w =
 
 -- ---- what a reclaim that passed tells
 reclaim-told : (w : World) (x : RequestId) (r : RequestReport) (entries : List Entry) → Led (w .store .rows) entries
-    → stepOf (Reclaim x) w .result .answer ≡ answer.Report r → releasesOf x entries ≡ 1
+    → stepOf (Change x Reclaim) w .result .answer ≡ answer.Report r → releasesOf x entries ≡ 1
 unfolding stepOf changeOf reportedBy applyOf applyAt applyBy changeRow reclaimed
 reclaim-told w x r entries k =
     if-by Told _ _ _ (λ y e. refuses e)
@@ -216,12 +214,6 @@ reclaim-told w x r entries k =
         if-by (λ (t : Step). ofReport (reportedBy (applyBy t i (w .store) .answer) (w .session) .answer) ≡ answer.Report r → releasesOf x entries ≡ 1)
         _ (deviceMayAccess (getD (w .store .rows) i emptyRow .state)) _ (λ y h. refuses h)
         (λ y h. unheld-once (w .store .rows) entries k x i (p .0) (p .1) (unheld-row (getD (w .store .rows) i emptyRow) y))
-
--- ---- a recovery's start, of either kind
-pub start-step : (q : RecoveryKind) (id : RequestId) (v : World) → stepOf (startOf q id) v ≡ begins (beginOf (v .session) (rowsFitIn v) id q (v .store .rows)) v
-unfolding stepOf
-start-step kind.Abort id v = refl
-start-step (kind.Reset preserve) id v = refl
 
 -- ---- the theorem
 module _ (o : Opening) (w : World) (es : List Event) (pass : stepOf (Open o) w .result .answer ≡ answer.Pass) (follows : Follows es)
@@ -247,23 +239,21 @@ module _ (o : Opening) (w : World) (es : List Event) (pass : stepOf (Open o) w .
   reclaim-at before after h x r is =
       let at = endOf start before in
       let k = holds before after (reclaims x h) is .1 .led in
-      by-handed h (Reclaim x) at (λ a v. a ≡ answer.Report r → releasesOf x (entriesAfter start before) ≡ 1) (handing before after (reclaims x h) is)
+      by-handed h (Change x Reclaim) at (λ a v. a ≡ answer.Report r → releasesOf x (entriesAfter start before) ≡ 1) (handing before after (reclaims x h) is)
       (λ first bus area. reclaim-told (world (at .session) bus (at .store) area) x r _ k)
       (λ e. let z : _≡_ {A = ℕ} 0 1 = cc in absurd (omega arith))
 
   started-at : (before after : List Event) (h : Handed) (q : RecoveryKind) (id : RequestId) → es ≡ before ++ (starts q id h ∷ after) → (x : Recovery)
       → answerTo (endOf start before) (starts q id h) ≡ answer.Recovering x
       → flight.Recovery (x .target) (x .device) (x .endpoint) (x .kind) ≡ recoveryWaits id q (journalOf (historyOf start before) blank) .waiting
+  unfolding stepOf begunOf
   started-at before after h q id is x =
       let mid = endOf start before in
       let k = holds before after (starts q id h) is in
-      by-handed h (startOf q id) mid
+      by-handed h (Begin (Recover id q)) mid
       (λ a v. a ≡ answer.Recovering x → flight.Recovery (x .target) (x .device) (x .endpoint) (x .kind) ≡ recoveryWaits id q (journalOf (historyOf start before) blank) .waiting)
       (handing before after (starts q id h) is)
-      (λ first bus area a.
-      let v = world (mid .session) bus (mid .store) area in
-      begin-names (mid .session) (journalOf (historyOf start before) blank) (k .0) (mid .store) (k .1) x (rowsFitIn v) id q
-      (sym (ap (λ (z : After). z .result .answer) (start-step q id v)) ∙ a))
+      (λ first bus area a. begin-names (mid .session) (journalOf (historyOf start before) blank) (k .0) (mid .store) (k .1) x _ id q a)
       (λ a. let z : _≡_ {A = ℕ} 0 1 = cc in absurd (omega arith))
 
   module _ (before after : List Event) (h : Handed) (reply : RecoveryReply) (tokens words aborted bytes : List ℕ)
@@ -280,7 +270,7 @@ module _ (o : Opening) (w : World) (es : List Event) (pass : stepOf (Open o) w .
     by-reply P ours = by-handed h (ending .call) mid P (handing before after ending is) (λ first. ours)
 
     recovered-at : (x : AbortReport) → answerTo mid ending ≡ answer.Recovered x → Settles (mid .store .rows) tokens words aborted (rowsBy mid ending) x
-    unfolding stepOf
+    unfolding stepOf repliedOf
     recovered-at x =
         by-reply (λ a v. a ≡ answer.Recovered x → Settles (mid .store .rows) tokens words aborted (v .store .rows) x)
         (λ bus area. recovered-told (mid .session) (mid .store) (holds before after ending is .1 .led .few) tokens words aborted bytes area x _ reply)
@@ -288,21 +278,21 @@ module _ (o : Opening) (w : World) (es : List Event) (pass : stepOf (Open o) w .
 
     reported-at : (x : AbortReport) → answerTo mid ending ≡ answer.Recovered x
         → (q : RecoveryKind) × (journalOf (historyOf start before) blank .waiting ≡ flight.Recovery (x .target) (x .device) (x .endpoint) q)
-    unfolding stepOf
+    unfolding stepOf repliedOf
     reported-at x e =
         let q = by-reply (λ a v. a ≡ answer.Recovered x → (q : RecoveryKind) × (mid .session .«in_flight» ≡ flight.Recovery (x .target) (x .device) (x .endpoint) q))
         (λ bus area. waited-told (mid .session) (mid .store) tokens words aborted bytes area x _ reply) (no-report (refusalOf 3) x _) e in
         (q .0, holds before after ending is .1 .agree ∙ q .1)
 
     spared-at : Spared (journalOf (historyOf start before) blank .waiting) (mid .store .rows) (rowsBy mid ending)
-    unfolding stepOf
+    unfolding stepOf repliedOf
     spared-at =
         subst (λ (f : InFlight). Spared f (mid .store .rows) (rowsBy mid ending)) (sym (holds before after ending is .1 .agree))
         (by-reply (λ a v. Spared (mid .session .«in_flight») (mid .store .rows) (v .store .rows))
         (λ bus area. reply-spares (mid .session) (mid .store) tokens words aborted bytes area _ reply) (all-spared (mid .session .«in_flight») (mid .store .rows)))
 
   pub whole-claim : Whole w → Claim start es
-  unfolding stepOf
+  unfolding stepOf readOf
   whole-claim whole =
       let fits = fitted-run o w es pass follows whole .fits in
       let k = run-kept es start blank seen (opened-holds o w pass) follows fresh .1 .led in

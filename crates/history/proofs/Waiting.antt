@@ -26,8 +26,8 @@ use Rattle.recovery.specs.Reply.{RecoveredTo, replySized, replyIn, recoveryRepl
 use Rattle.recovery.specs.declared.Recovery.{Recovery}
 use Rattle.recovery.specs.declared.RecoveryReply.{RecoveryReply}
 use Rattle.calls.specs.Answers.{ofBegin, ofRecovery}
-use Rattle.calls.specs.Calls.{Call, Open, SetDevice, SetPort, SetEndpoints, SetReconcile, Acquire, Initialize, Close, Submit, SubmitPlan, ReplySubmit, Poll, ReplyPoll, AbortRequest, ResetEndpoint, ReplyRecovery, Cancel, Timeout, Reclaim, Status, Reports, CountReports, CompletedBytes, HeldCount, HeldBytes}
-use Rattle.calls.specs.Step.{World, After, world, stepOf, places, moves, closes, submits, plans, reports, polls, finishes, begins, recovers, rowsFitIn, areaFitsIn}
+use Rattle.calls.specs.Calls.{Call, Open, Place, Device, Port, Endpoints, Reconcile, Move, Acquire, Initialize, Close, Begin, Submit, SubmitPlan, Poll, Recover, Reply, ToSubmit, ToPoll, ToRecovery, Change, Read}
+use Rattle.calls.specs.Step.{World, After, world, stepOf, places, moves, closes, submits, plans, reports, polls, finishes, begins, recovers, rowsFitIn, areaFitsIn, placedOf, movedOf, begunOf, repliedOf}
 use Rattle.calls.specs.declared.Answer.the-variants as answer
 use Rattle.history.specs.Run.{Handed, Event, next, leftBy, endOf, answerTo, historyOf, isOpening, Handing, Follows, Fresh}
 use Rattle.history.specs.Journal.{Entry, Journal, isRecovering, endsBy, recoveryWaits, journalOf, blank}
@@ -36,7 +36,7 @@ use Rattle.history.proofs.Handings.{by-handed, follows-at, follows-fron
 use Rattle.history.proofs.Led.{Led}
 use Rattle.history.proofs.Keeps.{begin-kept, begin-names}
 use Rattle.history.proofs.Never.{reply-ends}
-use Rattle.history.proofs.Theorem.{opened-holds, run-kept, start-step}
+use Rattle.history.proofs.Theorem.{opened-holds, run-kept}
 
 -- ---- a call while a recovery waits
 module _ (w : World) (entries : List Entry) (k : Led (w .store .rows) entries) (x : Recovery)
@@ -62,34 +62,26 @@ module _ (w : World) (entries : List Entry) (k : Led (w .store .rows) entries) (
         (λ z e. absurd (true≢false (sym (reply-ends (w .session) (w .store) entries k tokens words aborted bytes (w .area) x r) ∙ e)))))
 
   pub stays : (c : Call) → isOpening c ≡ false
-      → ((r : RecoveryReply) (tokens words aborted bytes : List ℕ) → c ≡ ReplyRecovery r tokens words aborted bytes → endsBy (stepOf c w .result .answer) ≡ false) → Same (stepOf c w)
-  unfolding stepOf setDeviceOf setPortOf setEndpointsOf setReconcileOf placed acquireOf initializeOf closeOf submitOf submitPlanOf submitBy planBy readyOf submitReplyOf submitReplyIn pollOf finishOf finishIn beginOf changeOf
+      → ((r : RecoveryReply) (tokens words aborted bytes : List ℕ) → c ≡ Reply (ToRecovery r tokens words aborted bytes) → endsBy (stepOf c w .result .answer) ≡ false) → Same (stepOf c w)
+  unfolding stepOf placedOf movedOf begunOf repliedOf setDeviceOf setPortOf setEndpointsOf setReconcileOf placed acquireOf initializeOf closeOf submitOf submitPlanOf submitBy planBy readyOf submitReplyOf submitReplyIn pollOf finishOf finishIn beginOf changeOf
   stays (Open o) f n = absurd (true≢false f)
-  stays (SetDevice d) f n = refused-1 (λ o. Same (places o w)) _ _ refl
-  stays (SetPort number row) f n = refused-1 (λ o. Same (places o w)) _ _ refl
-  stays (SetEndpoints slot list) f n = refused-1 (λ o. Same (places o w)) _ _ refl
-  stays (SetReconcile slot mark) f n = refused-1 (λ o. Same (places o w)) _ _ refl
-  stays (Acquire reply) f n = refused-1 (λ o. Same (moves o (w .store) w)) _ _ refl
-  stays (Initialize reply) f n = refused-1 (λ o. Same (moves o (w .store) w)) _ _ refl
-  stays (Close fresh reply) f n = refused-1 (λ o. Same (closes o w)) _ _ refl
-  stays (Submit q bytes given packets first second) f n =
+  stays (Place (Device d)) f n = refused-1 (λ o. Same (places o w)) _ _ refl
+  stays (Place (Port number row)) f n = refused-1 (λ o. Same (places o w)) _ _ refl
+  stays (Place (Endpoints slot list)) f n = refused-1 (λ o. Same (places o w)) _ _ refl
+  stays (Place (Reconcile slot mark)) f n = refused-1 (λ o. Same (places o w)) _ _ refl
+  stays (Move (Acquire reply)) f n = refused-1 (λ o. Same (moves o (w .store) w)) _ _ refl
+  stays (Move (Initialize reply)) f n = refused-1 (λ o. Same (moves o (w .store) w)) _ _ refl
+  stays (Move (Close fresh reply)) f n = refused-1 (λ o. Same (closes o w)) _ _ refl
+  stays (Begin (Submit q bytes given packets first second)) f n =
       refused-1 (λ v. Same (submits (submitBy v (w .session) q bytes given packets first second (w .bus) (w .store) (w .area)))) _ _ refl
-  stays (SubmitPlan q bytes first) f n = refused-1 (λ v. Same (plans (planBy v (w .session) q bytes first (w .bus) (w .store) (w .area)))) _ _ refl
-  stays (ReplySubmit reply) f n = subst (λ (g : InFlight). Same (reports (submitReplyIn g (rowsFitIn w) reply (w .session) (w .store)) w)) (sym own) refl
-  stays (Poll id) f n = refused-1 (λ o. Same (polls o w)) _ _ refl
-  stays (ReplyPoll reply bytes) f n = subst (λ (g : InFlight). Same (finishes (finishIn g (w .session) (rowsFitIn w && areaFitsIn w) reply bytes (w .store) (w .area)) w)) (sym own) refl
-  stays (AbortRequest id) f n = refused-1 (λ o. Same (begins o w)) _ _ refl
-  stays (ResetEndpoint id preserve) f n = refused-1 (λ o. Same (begins o w)) _ _ refl
-  stays (ReplyRecovery r tokens words aborted bytes) f n = reply-same r tokens words aborted bytes _ (n r tokens words aborted bytes refl)
-  stays (Cancel id) f n = refused-1 (λ o. Same (reports o w)) _ _ refl
-  stays (Timeout id) f n = refused-1 (λ o. Same (reports o w)) _ _ refl
-  stays (Reclaim id) f n = refused-1 (λ o. Same (reports o w)) _ _ refl
-  stays (Status id) f n = refl
-  stays (Reports from) f n = refl
-  stays CountReports f n = refl
-  stays (CompletedBytes id) f n = refl
-  stays HeldCount f n = refl
-  stays HeldBytes f n = refl
+  stays (Begin (SubmitPlan q bytes first)) f n = refused-1 (λ v. Same (plans (planBy v (w .session) q bytes first (w .bus) (w .store) (w .area)))) _ _ refl
+  stays (Begin (Poll id)) f n = refused-1 (λ o. Same (polls o w)) _ _ refl
+  stays (Begin (Recover id kind)) f n = refused-1 (λ o. Same (begins o w)) _ _ refl
+  stays (Reply (ToSubmit reply)) f n = subst (λ (g : InFlight). Same (reports (submitReplyIn g (rowsFitIn w) reply (w .session) (w .store)) w)) (sym own) refl
+  stays (Reply (ToPoll reply bytes)) f n = subst (λ (g : InFlight). Same (finishes (finishIn g (w .session) (rowsFitIn w && areaFitsIn w) reply bytes (w .store) (w .area)) w)) (sym own) refl
+  stays (Reply (ToRecovery r tokens words aborted bytes)) f n = reply-same r tokens words aborted bytes _ (n r tokens words aborted bytes refl)
+  stays (Change id c) f n = refused-1 (λ o. Same (reports o w)) _ _ refl
+  stays (Read r) f n = refl
 
 -- ---- a list of calls while it waits
 -- no reply of a recovery ends its operation
@@ -105,11 +97,11 @@ abbrev InFlightIs : World → Recovery → Type 0
 InFlightIs w x = w .session .«in_flight» ≡ flight.Recovery (x .target) (x .device) (x .endpoint) (x .kind)
 
 event-stays : (h : Handed) (c : Call) (w : World) (entries : List Entry) → Led (w .store .rows) entries → (x : Recovery) → InFlightIs w x → Handing h c
-    → ((r : RecoveryReply) (tokens words aborted bytes : List ℕ) → c ≡ ReplyRecovery r tokens words aborted bytes → endsBy (answerTo w (record { call = c; handed = h })) ≡ false)
+    → ((r : RecoveryReply) (tokens words aborted bytes : List ℕ) → c ≡ Reply (ToRecovery r tokens words aborted bytes) → endsBy (answerTo w (record { call = c; handed = h })) ≡ false)
     → Kept w (leftBy h c w)
 event-stays h c w entries k x own f =
     by-handed h c w
-    (λ a v. ((r : RecoveryReply) (tokens words aborted bytes : List ℕ) → c ≡ ReplyRecovery r tokens words aborted bytes → endsBy a ≡ false) → Kept w v) f
+    (λ a v. ((r : RecoveryReply) (tokens words aborted bytes : List ℕ) → c ≡ Reply (ToRecovery r tokens words aborted bytes) → endsBy a ≡ false) → Kept w v) f
     (λ first bus area n. let e = stays (world (w .session) bus (w .store) area) entries k x own c first n in (ap (λ (v : World). v .session) e, ap (λ (v : World). v .store) e))
     (λ n. (refl, refl))
 
@@ -143,23 +135,20 @@ module _ (o : Opening) (w : World) (pass : stepOf (Open o) w .result .answer ≡
   all = before ++ (claim.starts q id h ∷ more)
 
   -- the rows after `more` are those before the start
-  pub start-unchanged : answerTo mid (claim.starts q id h) ≡ answer.Recovering x → Follows all → Fresh (o .session ∷ []) all → Unended (leftBy h (claim.startOf q id) mid) more
+  pub start-unchanged : answerTo mid (claim.starts q id h) ≡ answer.Recovering x → Follows all → Fresh (o .session ∷ []) all → Unended (leftBy h (Begin (Recover id q)) mid) more
       → claim.rowsAfter start all ≡ claim.rowsAfter start before
+  unfolding stepOf begunOf
   start-unchanged a follows fresh unended =
       let e : Event = claim.starts q id h in
       let j : Journal = journalOf (historyOf start before) blank in
       let run = run-kept before start blank (o .session ∷ []) (opened-holds o w pass) (follows-front before (e ∷ more) follows) (fresh-front (o .session ∷ []) before (e ∷ more) fresh) in
-      let one = by-handed h (claim.startOf q id) mid (λ y v. y ≡ answer.Recovering x → (v .store ≡ mid .store) × InFlightIs v x) (follows-at before more e follows)
+      let one = by-handed h (Begin (Recover id q)) mid (λ y v. y ≡ answer.Recovering x → (v .store ≡ mid .store) × InFlightIs v x) (follows-at before more e follows)
       (λ first bus area y.
       let v = world (mid .session) bus (mid .store) area in
-      let s = start-step q id v in
-      let b : ofBegin (beginOf (mid .session) (rowsFitIn v) id q (mid .store .rows) .answer) ≡ answer.Recovering x = sym (ap (λ (z : After). z .result .answer) s) ∙ y in
-      let agree = subst (λ (c : Bool). (cond c (recoveryWaits id q j) j) .waiting ≡ beginOf (mid .session) (rowsFitIn v) id q (mid .store .rows) .session .«in_flight») (ap isRecovering b)
-      (begin-kept (mid .session) j (run .0) (mid .store) (run .1) (rowsFitIn v) id q .agree) in (
-        ap (λ (z : After). z .store) s,
-        ap (λ (z : After). z .result .session .«in_flight») s ∙ sym (begin-names (mid .session) j (run .0) (mid .store) (run .1) x (rowsFitIn v) id q b ∙ agree),
-      ))
+      let agree = subst (λ (c : Bool). (cond c (recoveryWaits id q j) j) .waiting ≡ beginOf (mid .session) (rowsFitIn v) id q (mid .store .rows) .session .«in_flight») (ap isRecovering y)
+      (begin-kept (mid .session) j (run .0) (mid .store) (run .1) (rowsFitIn v) id q .agree) in
+      (refl, sym (begin-names (mid .session) j (run .0) (mid .store) (run .1) x (rowsFitIn v) id q y ∙ agree)))
       (λ y. let z : _≡_ {A = ℕ} 0 1 = cc in absurd (omega arith)) a in
-      let rest = waits-on more (leftBy h (claim.startOf q id) mid) (j .entries) (subst (λ (s : Store). Led (s .rows) (j .entries)) (sym (one .0)) (run .1 .led)) x (one .1)
+      let rest = waits-on more (leftBy h (Begin (Recover id q)) mid) (j .entries) (subst (λ (s : Store). Led (s .rows) (j .entries)) (sym (one .0)) (run .1 .led)) x (one .1)
       (follows-on before more e follows) unended in
       ap (λ (v : World). v .store .rows) (end-append start before (e ∷ more)) ∙ ap (λ (s : Store). s .rows) (rest .1 ∙ one .0)

@@ -30,11 +30,10 @@ use Rattle.scope.specs.Scope.{isIn}
 use Rattle.session.specs.declared.InFlight.{InFlight}
 use Rattle.session.specs.declared.InFlight.the-variants as flight
 use Rattle.session.specs.declared.RecoveryKind.{RecoveryKind}
-use Rattle.session.specs.declared.RecoveryKind.the-variants as kind
 use Rattle.recovery.specs.declared.AbortReport.{AbortReport}
 use Rattle.recovery.specs.declared.Recovery.{Recovery}
 use Rattle.recovery.specs.declared.RecoveryReply.{RecoveryReply}
-use Rattle.calls.specs.Calls.{Call, AbortRequest, ResetEndpoint, ReplyRecovery, Reclaim, HeldCount, HeldBytes}
+use Rattle.calls.specs.Calls.{Call, Begin, Recover, Reply, ToRecovery, Change, Reclaim, Read, HeldCount, HeldBytes}
 use Rattle.calls.specs.Step.{World, stepOf}
 use Rattle.calls.specs.declared.Answer.the-variants as answer
 use Rattle.history.specs.Run.{Handed, own, Event, Answered, next, leftBy, endOf, historyOf, answerTo}
@@ -87,7 +86,7 @@ abbrev pub calls : Call → Event
 calls c = record { call = c; handed = own }
 
 abbrev pub reclaims : RequestId → Handed → Event
-reclaims x h = record { call = Reclaim x; handed = h }
+reclaims x h = record { call = Change x Reclaim; handed = h }
 
 -- an answer that hands the id x over
 abbrev pub isBegun : RequestId → OptionId → Bool
@@ -163,22 +162,18 @@ Spared (flight.Poll id) rows rows′ = rows′ ≡ rows
 Spared (flight.Recovery target device endpoint kind) rows rows′ = Unaffected device endpoint rows rows′
 
 -- a recovery's start
-abbrev pub startOf : RecoveryKind → RequestId → Call
-startOf kind.Abort id = AbortRequest id
-startOf (kind.Reset preserve) id = ResetEndpoint id preserve
-
 abbrev pub starts : RecoveryKind → RequestId → Handed → Event
-starts q id h = record { call = startOf q id; handed = h }
+starts q id h = record { call = Begin (Recover id q); handed = h }
 
 -- a recovery's reply
 abbrev pub recovers : RecoveryReply → List ℕ → List ℕ → List ℕ → List ℕ → Handed → Event
-recovers reply tokens words aborted bytes h = record { call = ReplyRecovery reply tokens words aborted bytes; handed = h }
+recovers reply tokens words aborted bytes h = record { call = Reply (ToRecovery reply tokens words aborted bytes); handed = h }
 
 pub record Claim (w : World) (es : List Event) : Type 0 where
   pub agrees : (p : View → Bool) → Agrees p (rowsAfter w es) (entriesAfter w es)
   -- the calls' own tallies stop at their widths' maxima, and never come to them
-  pub count-is : answerTo (endOf w es) (calls HeldCount) ≡ answer.Number (count isOpen (entriesAfter w es))
-  pub bytes-is : answerTo (endOf w es) (calls HeldBytes) ≡ answer.Number (sumBy (only isOpen (λ e. e .requested)) (entriesAfter w es))
+  pub count-is : answerTo (endOf w es) (calls (Read HeldCount)) ≡ answer.Number (count isOpen (entriesAfter w es))
+  pub bytes-is : answerTo (endOf w es) (calls (Read HeldBytes)) ≡ answer.Number (sumBy (only isOpen (λ e. e .requested)) (entriesAfter w es))
   pub one-entry : (x : RequestId) → count (isEntry x) (entriesAfter w es) ≤ 1
   pub one-release : (x : RequestId) → releasesOf x (entriesAfter w es) ≤ 1
   -- exactly one before it is reclaimed
