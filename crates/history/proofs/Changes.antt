@@ -1,13 +1,13 @@
 -- The changes of one row and its entry; a new row; an emptied store. Assumes nothing.
 use Prim.Native.Nat.{ℕ, zero, suc, _+_, _≤_, _<_}
 use mathlib.Core.Path.{_≡_, refl, sym, ap, _∙_}
-use mathlib.Core.Bool.{Bool, true, false, cond, _&&_, _||_, true≢false, false≢true}
+use mathlib.Core.Bool.{Bool, true, false, cond, _&&_, false≢true}
 use mathlib.Core.List.{List, [], _∷_}
 use native.Mathlib.Nat.{le-refl}
 use native.Mathlib.Omega.{arith}
-use lib.Dec.{eqb, ltb}
+use lib.Dec.{ltb}
 use lib.ListN.{length, getD, set, replicate}
-use borrow.Author.Tests.{eqb-true, eq-eqb, le-ltb}
+use borrow.Author.Tests.{le-ltb}
 use Rattle.chain.specs.Lists.{sumBy, only, count, mapAt}
 use Rattle.chain.proofs.Chain.{caseB, both}
 use Rattle.chain.proofs.Lists.{sum-set, count-keeps}
@@ -21,32 +21,11 @@ use Rattle.rows.specs.Table.{emptyRow, isHeld}
 use Rattle.rows.specs.declared.Row.{Row}
 use Rattle.ledger.specs.Search.{isAt}
 use Rattle.ledger.specs.Rules.{pendingRow, withState, flagged}
+use Rattle.runs.proofs.Held.{empty-free, free-held, unheld-row}
+use Rattle.runs.proofs.Ids.{free-at, same-request, same-self}
 use Rattle.history.specs.Journal.{Entry, isNone, isOpen, isEntry, entryOf, release, markFailed, withToken, newEntry, View, entryView}
 use Rattle.history.specs.Claim.{rowView}
-use Rattle.history.proofs.Led.{rowW, entryW, each, long, twice, Led, Changed, Alike, row-none, unheld-row, free-held, free-at, empty-free}
-
--- ---- small facts
-pub or-false : (a b : Bool) → (a || b) ≡ false → (a ≡ false) × (b ≡ false)
-or-false true b e = absurd (true≢false e)
-or-false false b e = (refl, e)
-
-pub or-right : (a b : Bool) → a ≡ false → (a || b) ≡ true → b ≡ true
-or-right true b n e = absurd (true≢false n)
-or-right false b n e = e
-
-pub pending-access : (s : RequestState) → isPending s ≡ true → deviceMayAccess s ≡ true
-pending-access (Pending cancel late) e = refl
-pending-access (Completed actual code cancel) e = absurd (false≢true e)
-pending-access (Failed error code quiescent) e = absurd (false≢true e)
-pending-access Aborted e = absurd (false≢true e)
-
--- the row of an id that the device may access is held, so one that is Pending
-pub access-held : (x : RequestId) (r : Row) → isAt x r ≡ true → deviceMayAccess (r .state) ≡ true → isHeld r ≡ true
-unfolding isAt isHeld
-access-held x r h e = rw (both (r .used) (sameRequest (r .id) x) h .0, e)
-
-pub pending-held : (x : RequestId) (r : Row) → isAt x r ≡ true → isPending (r .state) ≡ true → isHeld r ≡ true
-pending-held x r h e = access-held x r h (pending-access (r .state) e)
+use Rattle.history.proofs.Led.{rowW, entryW, each, long, twice, Led, Changed, Alike, row-none}
 
 -- the view of a row, marked Failed or not
 abbrev viewAs : Row → Bool → View
@@ -194,19 +173,6 @@ empty-alike r e = record {
   weight = λ w. row-none w emptyRow empty-held ∙ sym (row-none w r e);
   row-id = λ x. rw (free-at x emptyRow empty-free) (omega arith);
 }
-
--- ---- ids
-pub same-request : (x y : RequestId) → sameRequest x y ≡ true → x ≡ y
-same-request x y e =
-    let p = both (eqb (x .session) (y .session) && eqb (x .generation) (y .generation)) (eqb (x .sequence) (y .sequence)) e in
-    let q = both (eqb (x .session) (y .session)) (eqb (x .generation) (y .generation)) (p .0) in
-    let a = eqb-true _ _ (q .0) in
-    let b = eqb-true _ _ (q .1) in
-    let c = eqb-true _ _ (p .1) in
-    λ i. record { session = a i; generation = b i; sequence = c i }
-
-pub same-self : (x : RequestId) → sameRequest x x ≡ true
-same-self x = rw (eq-eqb (x .session) (x .session) refl, eq-eqb (x .generation) (x .generation) refl, eq-eqb (x .sequence) (x .sequence) refl)
 
 -- the entry of an id is the latest of that id
 pub latest-entry : (x : RequestId) (d : DeviceId) (endpoint requested : ℕ) (l : List Entry)

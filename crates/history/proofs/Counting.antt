@@ -55,10 +55,10 @@ use Rattle.calls.specs.Calls.{Reading, Status, Reports, CountReports, Completed
 use Rattle.calls.specs.Step.{World, world, stepOf, rowsFitIn, areaFitsIn, storeFitsIn, recoversOf, placedOf, movedOf, begunOf, repliedOf, changeBy, readOf}
 use Rattle.calls.specs.declared.Answer.{Answer}
 use Rattle.calls.specs.declared.Answer.the-variants as answer
-use Rattle.history.specs.Run.{Handed, Event, isOpening, leftBy, answerTo, historyOf, Handing, Follows}
+use Rattle.runs.specs.Run.{Handed, Event, isOpening, leftBy, answerTo, historyOf, Handing, Follows}
 use Rattle.history.specs.Journal.{Entry, Journal, View, isEntry, atEntry, release, begunId, isAsked, isPass, isRecovering, endsBy, countsBy, begunBy, acceptedAs, testedAs, settledBy, atWaiting, polledBy, ReleasedTo, completesBy, completesAll, abortsAll, releasesAll, releasedIn, recoveryWaits, recoveredJournal, journalStep, journalOf}
 use Rattle.history.specs.Claim.{isBegun, handsOver}
-use Rattle.history.proofs.Handings.{by-handed}
+use Rattle.runs.proofs.Handings.{by-handed}
 use Rattle.history.proofs.Changes.{closed-ids}
 
 -- a refusal by 3 adds nothing to the journal

@@ -77,7 +77,7 @@ use Rattle.calls.specs.Calls.{Call, Open, Place, Device, Port, Endpoints, Move,
 use Rattle.calls.specs.Step.{World, world, placedOf, movedOf, begunOf, repliedOf, readOf, stepOf}
 use Rattle.calls.specs.declared.Answer.{Answer}
 use Rattle.calls.specs.declared.Answer.the-variants as answer
-use Rattle.history.specs.Run.{Event, own, other, Answered, next, endOf, historyOf}
+use Rattle.runs.specs.Run.{Event, own, other, Answered, next, endOf, historyOf}
 use Rattle.history.specs.Journal.{Entry, journalStep}
 use Rattle.history.specs.Claim.{calls, rowsAfter, entriesAfter, recovers, Different, Recovered, Claim}
 use Rattle.history.proofs.Theorem.{history-claim}

@@ -29,11 +29,12 @@ use Rattle.session.specs.declared.Session.{Session}
 use Rattle.reports.specs.Answers.{isMild, effect}
 use Rattle.scope.specs.Scope.{isIn}
 use Rattle.scope.proofs.Scoping.{in-cons}
-use Rattle.history.specs.Run.{noted}
+use Rattle.runs.specs.Run.{noted}
+use Rattle.runs.proofs.Held.{and-less, or-false}
 use Rattle.history.specs.Journal.{Entry, Journal, isEntry, entryOf, atEntry, atWaiting, endedWith, idle, pollWaits, releasedAll, View}
 use Rattle.history.specs.Claim.{rowView}
-use Rattle.history.proofs.Led.{rowW, each, Led, and-less, Changed, Alike, led-at, led-set, ids-kept}
-use Rattle.history.proofs.Changes.{or-false, none-held, none-at, closed-ids, led-closed}
+use Rattle.history.proofs.Led.{rowW, each, Led, Changed, Alike, led-at, led-set, ids-kept}
+use Rattle.history.proofs.Changes.{none-held, none-at, closed-ids, led-closed}
 
 -- the row of x, and not Pending
 abbrev pub stray : RequestId → Row → Bool

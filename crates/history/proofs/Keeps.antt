@@ -45,10 +45,11 @@ use Rattle.recovery.specs.declared.RecoveryReply.{RecoveryReply}
 use Rattle.recovery.specs.declared.RecoveryReply.the-variants as reply
 use Rattle.calls.specs.Answers.{ofBegin, ofRecovery}
 use Rattle.calls.specs.declared.Answer.the-variants as answer
+use Rattle.runs.proofs.Ids.{access-held}
 use Rattle.history.specs.Journal.{Entry, Journal, View, entryView, entryOf, isRecovering, idle, affectedViews, meantView, releasesAll, recoveryWaits, releasedIn, recoveredJournal}
 use Rattle.history.specs.Claim.{rowView}
 use Rattle.history.proofs.Led.{entry-is}
-use Rattle.history.proofs.Changes.{access-held, view-is}
+use Rattle.history.proofs.Changes.{view-is}
 use Rattle.history.proofs.Ordered.{view-ext}
 use Rattle.history.proofs.Inv.{Inv, restated, marks, stalls, ended, ends-idle}
 use Rattle.history.proofs.Walks.{Kept, isLate, LateBy}

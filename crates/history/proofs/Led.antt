@@ -7,13 +7,10 @@ use mathlib.Core.List.{List}
 use native.Mathlib.Omega.{arith}
 use lib.Dec.{ltb}
 use lib.ListN.{length, getD, set}
-use borrow.Author.Tests.{lt-ltb, ltb-true, ltb-false}
-use Rattle.chain.specs.Lists.{sumBy, only, count, find, anyIn}
-use Rattle.chain.proofs.Chain.{caseB}
+use Rattle.chain.specs.Lists.{sumBy, only, count, find}
 use Rattle.chain.proofs.Lists.{sum-eq, sum-set, sum-one, count-pos, find-hit, find-some}
 use Rattle.models.specs.Requests.{deviceMayAccess, sameRequest}
 use Rattle.models.specs.declared.RequestId.{RequestId}
-use Rattle.rows.specs.Codec.{rowOf}
 use Rattle.rows.specs.Table.{emptyRow, isHeld}
 use Rattle.rows.specs.declared.Row.{Row}
 use Rattle.ledger.specs.Search.{isAt}
@@ -80,43 +77,9 @@ open-at false false n = refl
 pub entry-at : (x : RequestId) (w : View → ℕ) (e : Entry) → entryW (at x w) e ≡ only (isEntry x) (entryW w) e
 entry-at x w e = open-at (isOpen e) (isEntry x e) (w (entryView e))
 
-pub any-count : {A : Type 0} (p : A → Bool) (l : List A) (d : A) → anyIn p l ≡ ltb 0 (count p l)
-any-count p l d =
-    caseB (ltb 0 (count p l))
-    (λ e. let h = ltb-true 0 (count p l) e in lt-ltb (find p l) (length l) (find-some p l h) ∙ sym e)
-    (λ e. let h = ltb-false 0 (count p l) e in
-    caseB (anyIn p l)
-    (λ y. let g = ltb-true (find p l) (length l) y in absurd (omega (arith, count-pos p l (find p l) d g (find-hit p l d g))))
-    (λ y. y ∙ sym e))
-
--- what is not held weighs nothing, and neither does what has a release
+-- what is not held weighs nothing
 pub row-none : (w : View → ℕ) (r : Row) → isHeld r ≡ false → rowW w r ≡ 0
 row-none w r e = rw e
-
-pub and-off : (u d : Bool) → d ≡ false → (u && d) ≡ false
-and-off true d e = e
-and-off false d e = refl
-
-pub and-less : (a b : Bool) → cond {A = ℕ} (a && b) 1 0 ≤ cond {A = ℕ} a 1 0
-and-less true true = omega arith
-and-less true false = omega arith
-and-less false b = omega arith
-
-pub unheld-row : (r : Row) → deviceMayAccess (r .state) ≡ false → isHeld r ≡ false
-unfolding isHeld
-unheld-row r e = and-off (r .used) (deviceMayAccess (r .state)) e
-
-pub free-held : (r : Row) → r .used ≡ false → isHeld r ≡ false
-unfolding isHeld
-free-held r e = rw e
-
-pub free-at : (x : RequestId) (r : Row) → r .used ≡ false → isAt x r ≡ false
-unfolding isAt
-free-at x r e = rw e
-
-pub empty-free : emptyRow .used ≡ false
-unfolding emptyRow rowOf
-empty-free = refl
 
 -- ---- the row of an id, where it is in the store, and its entry
 module _ (rows : List Row) (entries : List Entry) (k : Led rows entries) (x : RequestId) (i : ℕ) (lt : i < length rows)

@@ -3,7 +3,7 @@
 use Prim.Native.Nat.{ℕ}
 use mathlib.Core.Bool.{Bool, true, false, true≢false}
 use mathlib.Core.List.{List, [], _∷_}
-use mathlib.Core.Path.{_≡_, refl, sym, ap, _∙_}
+use mathlib.Core.Path.{_≡_, refl, sym, _∙_}
 use borrow.Author.Tests.{not-false}
 use lib.Dec.{eqb}
 use lib.ListN.{length}
@@ -41,22 +41,22 @@ use Rattle.recovery.specs.declared.RecoveryReply.{RecoveryReply}
 use Rattle.recovery.specs.declared.RecoveryReply.the-variants as reply
 use Rattle.calls.specs.Answers.{ofBegin, ofRecovery}
 use Rattle.calls.specs.Calls.{Open, Begin, Recover, Reply, ToRecovery}
-use Rattle.calls.specs.Step.{World, rowsFitIn, begunOf, repliedOf, stepOf}
+use Rattle.calls.specs.Step.{World, begunOf, repliedOf, stepOf}
 use Rattle.calls.specs.declared.Answer.{Answer}
 use Rattle.calls.specs.declared.Answer.the-variants as answer
-use Rattle.history.specs.Run.{Handed, Event, next, endOf, answerTo, Handing, Follows, Fresh}
+use Rattle.runs.specs.Run.{Handed, Event, next, endOf, answerTo, Handing, Follows, Fresh}
+use Rattle.runs.proofs.Ids.{at-used}
 use Rattle.history.specs.Journal.{Entry, blank, refusalNumber, endsBy}
 use Rattle.history.specs.Claim.{starts}
-use Rattle.history.specs.Sound.{rowAt, Sound}
-use Rattle.history.proofs.Handings.{by-handed}
+use Rattle.runs.specs.Sound.{rowAt, Sound}
+use Rattle.runs.proofs.Handings.{by-handed}
 use Rattle.history.proofs.Led.{Led}
 use Rattle.history.proofs.Affects.{allOf, affected-all}
 use Rattle.history.proofs.Walks.{LateBy}
 use Rattle.history.proofs.Recovers.{recovered-kept}
 use Rattle.history.proofs.Keeps.{late-numbers, late-43}
-use Rattle.history.proofs.SoundRows.{full}
-use Rattle.history.proofs.SoundChange.{at-used}
-use Rattle.history.proofs.SoundRun.{sound-run}
+use Rattle.runs.proofs.Rows.{full}
+use Rattle.runs.proofs.Run.{sound-run}
 use Rattle.history.proofs.Theorem.{opened-holds, run-kept}
 
 -- an answer is not the refusal n

@@ -111,7 +111,7 @@ use Rattle.calls.specs.Calls.{Device, Port, Endpoints, Reconcile, Call, Open, P
 use Rattle.calls.specs.Step.{World, After, stepOf, opens, places, moves, closes, submits, plans, reports, polls, finishes, begins, recovers, rowsFitIn, areaFitsIn, storeFitsIn, placedOf, movedOf, begunOf, repliedOf, changeBy}
 use Rattle.calls.specs.declared.Answer.{Answer}
 use Rattle.calls.specs.declared.Answer.the-variants as answer
-use Rattle.history.specs.Run.{next}
+use Rattle.runs.specs.Run.{next}
 use Rattle.history.specs.Journal.{refusalNumber}
 
 no : (a : Answer) → eqb (refusalNumber a) 3 ≡ false → a ≡ answer.Refused (refusalOf 3) → ⊥

@@ -46,9 +46,10 @@ use Rattle.submissions.specs.declared.SubmitReply.{SubmitReply}
 use Rattle.submissions.specs.declared.SubmitReply.the-variants as submit
 use Rattle.polls.specs.declared.finish.Judgement.{Judgement}
 use Rattle.calls.specs.Answers.{ofReport, ofPoll}
+use Rattle.runs.proofs.Ids.{pending-held}
 use Rattle.history.specs.Journal.{Entry, Journal, entryOf, atEntry, release, markFailed, acceptedAs, testedAs, settledBy, isAsked, endsBy, atWaiting, endedWith, idle, polledBy, pollWaits, View}
 use Rattle.history.proofs.Led.{rowW, entryW, lengthOf, Changed, lone, entry-is}
-use Rattle.history.proofs.Changes.{pending-held, view-is, discard-change, token-change, settle-change, fail-change}
+use Rattle.history.proofs.Changes.{view-is, discard-change, token-change, settle-change, fail-change}
 use Rattle.history.proofs.Inv.{Inv, Live, stray, marks, stalls, effects, ends-idle, ends-at, poll-opens, live-pending, pending-live}
 
 -- the row of an operation that waits is held

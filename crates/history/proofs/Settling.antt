@@ -52,14 +52,14 @@ use Rattle.models.specs.declared.Refusal.{Refusal}
 use Rattle.calls.specs.Answers.{ofRecovery}
 use Rattle.calls.specs.declared.Answer.the-variants as answer
 use Rattle.scope.proofs.Scoping.{in-cons, in-append}
+use Rattle.runs.proofs.Affected.{meant-affected, meant-below, returned-tokens}
+use Rattle.runs.proofs.Held.{or-false, or-right}
 use Rattle.history.specs.Journal.{View}
 use Rattle.history.specs.Claim.{rowView, lengthIn, codeIn, cancelledIn, completedAs, namedAs, recoveredAs, isSettled, Different, Recovered}
 use Rattle.history.proofs.Led.{rowW}
 use Rattle.history.proofs.Affects.{seen, scoped, affected-cond, affected-weighs}
-use Rattle.history.proofs.Changes.{or-false, or-right}
-use Rattle.history.proofs.Tokens.{tokensIn, Each, Distinct, each-last, distinct-last, scope-each, scope-distinct}
+use Rattle.runs.proofs.Tokens.{tokensIn, Each, Distinct, each-last, distinct-last, scope-each, scope-distinct}
 use Rattle.history.proofs.Sparing.{Spares, scope-spares}
-use Rattle.history.proofs.Recovers.{returned-tokens, meant-below, meant-affected}
 
 -- ---- a completion that passes says its length and its code
 abbrev Says : ℕ → ℕ → CompletionTest → Type 0

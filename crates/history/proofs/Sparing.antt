@@ -32,9 +32,9 @@ use Rattle.recovery.specs.Reply.{RecoveredTo, isWhole, abortsAfter, applyAll, s
 use Rattle.recovery.specs.declared.Recovery.{Recovery}
 use Rattle.recovery.specs.declared.RecoveryReply.{RecoveryReply}
 use Rattle.recovery.specs.declared.RecoveryReply.the-variants as reply
+use Rattle.runs.proofs.Affected.{meant-affected, returned-tokens}
 use Rattle.history.specs.Claim.{Spared}
-use Rattle.history.proofs.Tokens.{tokensIn, Each, each-first, each-last, scope-each}
-use Rattle.history.proofs.Recovers.{returned-tokens, meant-affected}
+use Rattle.runs.proofs.Tokens.{tokensIn, Each, each-first, each-last, scope-each}
 
 -- ---- a walk that changes marked rows only
 module _ (marks : ℕ → Bool) where

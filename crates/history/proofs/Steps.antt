@@ -40,9 +40,10 @@ use Rattle.calls.specs.Answers.{ofVerdict}
 use Rattle.calls.specs.Calls.{Changing, Cancel, Timeout, Reclaim, Call, Open, Place, Move, Acquire, Initialize, Close, Begin, Submit, SubmitPlan, Poll, Recover, Reply, ToSubmit, ToPoll, ToRecovery, Change, Read}
 use Rattle.calls.specs.Step.{World, After, rowsFitIn, areaFitsIn, storeFitsIn, movedOf, begunOf, repliedOf, changeBy, stepOf}
 use Rattle.scope.specs.Scope.{isIn}
-use Rattle.history.specs.Run.{isOpening, numberOf, isNew, noted}
+use Rattle.runs.specs.Run.{isOpening, numberOf, isNew, noted}
+use Rattle.runs.proofs.Held.{unheld-row}
 use Rattle.history.specs.Journal.{Journal, isPass, releasedAll, journalStep}
-use Rattle.history.proofs.Led.{Alike, unheld-row}
+use Rattle.history.proofs.Led.{Alike}
 use Rattle.history.proofs.Changes.{flag-alike, empty-alike}
 use Rattle.history.proofs.Inv.{Inv, restated, marks, quietly, seen-more, closed-again, closed-anew}
 use Rattle.history.proofs.Submits.{submit-kept, plan-kept}

@@ -47,12 +47,13 @@ use Rattle.calls.specs.Calls.{Call, Open, Begin, Recover, Change, Reclaim}
 use Rattle.calls.specs.Step.{World, world, begunOf, repliedOf, readOf, stepOf}
 use Rattle.calls.specs.declared.Answer.{Answer}
 use Rattle.calls.specs.declared.Answer.the-variants as answer
-use Rattle.history.specs.Run.{Handed, Event, next, answerTo, leftBy, endOf, historyOf, Handing, Follows, numberOf, isNew, noted, Fresh}
+use Rattle.runs.specs.Run.{Handed, Event, next, answerTo, leftBy, endOf, historyOf, Handing, Follows, numberOf, isNew, noted, Fresh}
+use Rattle.runs.proofs.Held.{and-less, any-count, unheld-row}
 use Rattle.history.specs.Journal.{Entry, Journal, blank, isNone, isOpen, isEntry, noEntry, entryOf, recoveryWaits, journalStep, journalOf, View, entryView}
 use Rattle.history.specs.Claim.{rowView, heldAs, openAs, Agrees, releasesOf, rowsBy, entriesAfter, reclaims, starts, recovers, Recovered, Spared, Claim}
-use Rattle.history.proofs.Handings.{by-handed, follows-at, follows-front, fresh-front}
-use Rattle.history.proofs.SoundRun.{Whole, fitted-run, lent-rows}
-use Rattle.history.proofs.Led.{cond-and, any-count, rowW, entryW, each, lengthOf, long, at, twice, Led, row-none, and-less, unheld-row, known-in, entry-is}
+use Rattle.runs.proofs.Handings.{by-handed, follows-at, follows-front, fresh-front}
+use Rattle.runs.proofs.Run.{Whole, fitted-run, lent-rows}
+use Rattle.history.proofs.Led.{cond-and, rowW, entryW, each, lengthOf, long, at, twice, Led, row-none, known-in, entry-is}
 use Rattle.history.proofs.Changes.{none-held, none-at}
 use Rattle.history.proofs.Inv.{Inv, seen-more}
 use Rattle.history.proofs.Keeps.{begin-names}

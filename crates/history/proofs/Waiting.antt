@@ -25,14 +25,14 @@ use Rattle.recovery.specs.Begin.{beginOf}
 use Rattle.recovery.specs.Reply.{RecoveredTo, replySized, replyIn, recoveryReplyOf}
 use Rattle.recovery.specs.declared.Recovery.{Recovery}
 use Rattle.recovery.specs.declared.RecoveryReply.{RecoveryReply}
-use Rattle.calls.specs.Answers.{ofBegin, ofRecovery}
+use Rattle.calls.specs.Answers.{ofRecovery}
 use Rattle.calls.specs.Calls.{Call, Open, Place, Device, Port, Endpoints, Reconcile, Move, Acquire, Initialize, Close, Begin, Submit, SubmitPlan, Poll, Recover, Reply, ToSubmit, ToPoll, ToRecovery, Change, Read}
 use Rattle.calls.specs.Step.{World, After, world, stepOf, places, moves, closes, submits, plans, reports, polls, finishes, begins, recovers, rowsFitIn, areaFitsIn, placedOf, movedOf, begunOf, repliedOf}
 use Rattle.calls.specs.declared.Answer.the-variants as answer
-use Rattle.history.specs.Run.{Handed, Event, next, leftBy, endOf, answerTo, historyOf, isOpening, Handing, Follows, Fresh}
+use Rattle.runs.specs.Run.{Handed, Event, next, leftBy, endOf, answerTo, historyOf, isOpening, Handing, Follows, Fresh}
 use Rattle.history.specs.Journal.{Entry, Journal, isRecovering, endsBy, recoveryWaits, journalOf, blank}
 use Rattle.history.specs.Claim as claim
-use Rattle.history.proofs.Handings.{by-handed, follows-at, follows-front, follows-on, fresh-front}
+use Rattle.runs.proofs.Handings.{by-handed, follows-at, follows-front, follows-on, fresh-front}
 use Rattle.history.proofs.Led.{Led}
 use Rattle.history.proofs.Keeps.{begin-kept, begin-names}
 use Rattle.history.proofs.Never.{reply-ends}

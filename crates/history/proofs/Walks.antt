@@ -32,11 +32,13 @@ use Rattle.scope.specs.Returned.{Returned}
 use Rattle.recovery.specs.Entries.{WalkTo, rowCompletedBy, testedBy, completeOne, onwardBy, completeAll, abortedBy, abortOne, abortAll}
 use Rattle.recovery.specs.Reply.{abortsAfter, applyAll}
 use Rattle.scope.proofs.Scoping.{in-cons}
+use Rattle.runs.proofs.Held.{or-false}
+use Rattle.runs.proofs.Ids.{same-self}
 use Rattle.history.specs.Journal.{Entry, isEntry, entryOf, atEntry, release, ReleasedTo, releasedTo, completesBy, goesOn, completesAll, abortsAll, abortedAfter, releasesAll, View}
 use Rattle.history.specs.Claim.{rowView}
 use Rattle.history.proofs.Led.{rowW, each, Led, Changed, led-at, ids-kept, entry-is}
-use Rattle.history.proofs.Changes.{same-self, or-false, settle-change}
-use Rattle.history.proofs.Tokens.{tokensIn, Each, Distinct, distinct-last}
+use Rattle.history.proofs.Changes.{settle-change}
+use Rattle.runs.proofs.Tokens.{tokensIn, Each, Distinct, distinct-last}
 
 -- a refusal of an entry: not 2, 3, 49, 45 or 46, and not the ledger's 43
 abbrev pub isLate : ℕ → Bool

@@ -36,7 +36,7 @@ use Rattle.recovery.specs.declared.RecoveryReply.{RecoveryReply}
 use Rattle.calls.specs.Calls.{Call, Begin, Recover, Reply, ToRecovery, Change, Reclaim, Read, HeldCount, HeldBytes}
 use Rattle.calls.specs.Step.{World, stepOf}
 use Rattle.calls.specs.declared.Answer.the-variants as answer
-use Rattle.history.specs.Run.{Handed, own, Event, Answered, next, leftBy, endOf, historyOf, answerTo}
+use Rattle.runs.specs.Run.{Handed, own, Event, Answered, next, leftBy, endOf, historyOf, answerTo}
 use Rattle.history.specs.Journal.{Entry, View, entryView, blank, isOpen, isEntry, begunId, recoveryWaits, journalOf}
 
 -- what a row has in common with an entry

@@ -30,7 +30,7 @@ use Rattle.scope.specs.Returned.{Returned, returnedOf}
 use Rattle.calls.specs.Calls.{Call, Open, Place, Move, Acquire, Initialize, Close, Begin, Submit, SubmitPlan, Poll, Recover, Reply, ToSubmit, ToPoll, ToRecovery, Change, Read}
 use Rattle.calls.specs.declared.Answer.{Answer}
 use Rattle.calls.specs.declared.Answer.the-variants as answer
-use Rattle.history.specs.Run.{Answered}
+use Rattle.runs.specs.Run.{Answered}
 
 -- a request that was submitted, kept for ever: document 01's line
 pub record Entry : Type 0 where

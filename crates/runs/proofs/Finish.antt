@@ -39,11 +39,11 @@ use Rattle.polls.specs.declared.PollReply.{PollReply}
 use Rattle.polls.specs.declared.PollReply.the-variants as reply
 use Rattle.polls.specs.declared.finish.Judgement.{Judgement}
 use Rattle.calls.specs.Step.{World, world}
-use Rattle.history.specs.Sound.{rowAt, FlightReady, Sound}
-use Rattle.history.proofs.SoundMoves.{Moves, Idle, stays, marked-moves, effect-moves, moves-on, marked-idle, effect-idle, marked-apart}
-use Rattle.history.proofs.SoundRows.{Leads, kept, moved-idle, changed-certain, changed-uncertain}
-use Rattle.history.proofs.SoundSteps.{StepSound, StepCertain, complete-step, fail-step, quiet-step}
-use Rattle.history.proofs.SoundChange.{at-used}
+use Rattle.runs.specs.Sound.{rowAt, FlightReady, Sound}
+use Rattle.runs.proofs.Moves.{Moves, Idle, stays, marked-moves, effect-moves, moves-on, marked-idle, effect-idle, marked-apart}
+use Rattle.runs.proofs.Rows.{Leads, kept, moved-idle, changed-certain, changed-uncertain}
+use Rattle.runs.proofs.Rules.{StepSound, StepCertain, complete-step, fail-step, quiet-step}
+use Rattle.runs.proofs.Ids.{at-used}
 
 -- a valid completion is at most as long as requested, and its code is 1 or 13
 abbrev pub TestSound : ℕ → CompletionTest → Type 0

@@ -16,10 +16,10 @@ use Rattle.session.specs.declared.InFlight.the-variants as flight
 use Rattle.polls.specs.Poll.{pollRow, pollBy, pollOf}
 use Rattle.polls.specs.declared.Polled.{Polled}
 use Rattle.calls.specs.Step.{World, world}
-use Rattle.history.specs.Sound.{rowAt, Sound}
-use Rattle.history.proofs.SoundMoves.{stays}
-use Rattle.history.proofs.SoundRows.{Leads, kept, moved}
-use Rattle.history.proofs.SoundChange.{at-used, at-own}
+use Rattle.runs.specs.Sound.{rowAt, Sound}
+use Rattle.runs.proofs.Moves.{stays}
+use Rattle.runs.proofs.Rows.{Leads, kept, moved}
+use Rattle.runs.proofs.Ids.{at-own, at-used}
 
 abbrev pub PolledSound : World → Polled → Type 0
 PolledSound w o = Leads w (world (o .session) (w .bus) (w .store) (w .area))

@@ -11,7 +11,7 @@ use lib.Seq.{getD-set-same, getD-set-other}
 use Rattle.chain.specs.Lists.{count, anyIn, foundIn}
 use Rattle.chain.specs.declared.Found.{Found}
 use Rattle.chain.specs.declared.Found.the-variants as found
-use Rattle.chain.proofs.Chain.{caseB, if-by, both, and3}
+use Rattle.chain.proofs.Chain.{caseB, if-by, and3}
 use Rattle.words.specs.declared.OptionU64.{OptionU64}
 use Rattle.models.specs.Requests.{deviceMayAccess, sameDevice}
 use Rattle.models.specs.declared.BackendCompletion.{BackendCompletion}
@@ -21,7 +21,7 @@ use Rattle.models.specs.declared.RequestId.{RequestId}
 use Rattle.models.specs.declared.Verdict.{Verdict}
 use Rattle.models.specs.declared.Verdict.the-variants as verdict
 use Rattle.rows.specs.Store.{Store, putIn}
-use Rattle.rows.specs.Table.{emptyRow, isHeld, isUncertain, rowIn}
+use Rattle.rows.specs.Table.{emptyRow, isUncertain, rowIn}
 use Rattle.rows.specs.declared.Row.{Row}
 use Rattle.ledger.specs.Rules.{changeRow}
 use Rattle.ledger.specs.Search.{isAt}
@@ -54,23 +54,18 @@ use Rattle.recovery.specs.declared.Recovery.{Recovery}
 use Rattle.recovery.specs.declared.RecoveryReply.{RecoveryReply}
 use Rattle.recovery.specs.declared.RecoveryReply.the-variants as reply
 use Rattle.calls.specs.Step.{World, world}
-use Rattle.history.specs.Sound.{rowAt, FlightReady, Sound}
-use Rattle.history.proofs.Led.{any-count}
-use Rattle.history.proofs.Changes.{access-held}
-use Rattle.history.proofs.Tokens.{tokensIn, Each, each-last, scope-each}
-use Rattle.history.proofs.Recovers.{returned-tokens, affected-is-held, meant-below, meant-affected}
-use Rattle.history.proofs.SoundMoves.{Idle, stays, marked-moves, marked-idle}
-use Rattle.history.proofs.SoundRows.{Leads, kept, moved, moved-idle, changed-certain}
-use Rattle.history.proofs.SoundSteps.{StepCertain, StepUsed, complete-step, complete-used, abort-step, abort-used}
-use Rattle.history.proofs.SoundFinish.{TestSound, test-sound}
-use Rattle.history.proofs.SoundChange.{at-own}
+use Rattle.runs.specs.Sound.{rowAt, FlightReady, Sound}
+use Rattle.runs.proofs.Tokens.{tokensIn, Each, each-last, scope-each}
+use Rattle.runs.proofs.Moves.{Idle, stays, marked-moves, marked-idle}
+use Rattle.runs.proofs.Rows.{Leads, kept, moved, moved-idle, changed-certain}
+use Rattle.runs.proofs.Rules.{StepCertain, StepUsed, complete-step, complete-used, abort-step, abort-used}
+use Rattle.runs.proofs.Finish.{TestSound, test-sound}
+use Rattle.runs.proofs.Affected.{affected-is-held, meant-affected, meant-below, returned-tokens}
+use Rattle.runs.proofs.Held.{any-count, held-used}
+use Rattle.runs.proofs.Ids.{access-held, at-own}
 
 leads-then : (a b c : World) → Leads a b → Leads b c → Leads a c
 leads-then a b c p q = record { sound = q .sound; fitted = λ z. q .fitted (p .fitted z) }
-
-held-used : (r : Row) → isHeld r ≡ true → r .used ≡ true
-unfolding isHeld
-held-used r e = both (r .used) (deviceMayAccess (r .state)) e .0
 
 -- ---- the start
 abbrev pub BegunSound : World → Begun → Type 0

@@ -53,9 +53,9 @@ use Rattle.submissions.specs.Begin as begin
 use Rattle.submissions.specs.Submit.{SubmitTo, submittedBy, submittedTo, readyOf, preparedBy, roomBy, packetsBy, submitBy, submitOf, PlanTo, planStarted, plannedTo, plannedBy, planRoomBy, planBy, submitPlanOf}
 use Rattle.checks.proofs.Passed.{ready-fits, planned-fits}
 use Rattle.calls.specs.Step.{World, world}
-use Rattle.history.specs.Sound.{RowSound, rowAt, FlightSound, isBare, Sound}
-use Rattle.history.proofs.SoundMoves.{Moves}
-use Rattle.history.proofs.SoundRows.{Leads, kept, one, same, put}
+use Rattle.runs.specs.Sound.{RowSound, rowAt, FlightSound, isBare, Sound}
+use Rattle.runs.proofs.Moves.{Moves}
+use Rattle.runs.proofs.Rows.{Leads, kept, one, same, put}
 
 -- a device is ready, and a target passes, only where the controller is Initialized
 abbrev DeviceSound : Bool → DeviceChecked → Type 0

@@ -18,18 +18,18 @@ use Rattle.session.proofs.Sized.{fit-rows}
 use Rattle.calls.specs.Calls.{Call, Open, Place, Move, Acquire, Initialize, Close, Begin, Submit, SubmitPlan, Poll, Recover, Reply, ToSubmit, ToPoll, ToRecovery, Change, Read}
 use Rattle.calls.specs.Step.{World, world, opens, rowsFitIn, areaFitsIn, storeFitsIn, movedOf, begunOf, repliedOf, changeBy, stepOf}
 use Rattle.calls.specs.declared.Answer.the-variants as answer
-use Rattle.history.specs.Run.{Handed, Event, next, leftBy, endOf, isOpening, Handing, Follows}
-use Rattle.history.specs.Sound.{Sound, Fitted}
-use Rattle.history.proofs.Handings.{by-handed}
-use Rattle.history.proofs.SoundRows.{Leads, kept, same, all-free, all-fitted}
-use Rattle.history.proofs.SoundSteps.{change-step}
-use Rattle.history.proofs.SoundChange.{change-sound}
-use Rattle.history.proofs.SoundReply.{reply-sound}
-use Rattle.history.proofs.SoundPoll.{poll-sound}
-use Rattle.history.proofs.SoundFinish.{finish-sound}
-use Rattle.history.proofs.SoundSubmit.{submit-sound, plan-sound}
-use Rattle.history.proofs.SoundRecover.{begin-sound, recovery-sound}
-use Rattle.history.proofs.SoundClose.{acquire-sound, initialize-sound, close-sound}
+use Rattle.runs.specs.Run.{Handed, Event, next, leftBy, endOf, isOpening, Handing, Follows}
+use Rattle.runs.specs.Sound.{Sound, Fitted}
+use Rattle.runs.proofs.Handings.{by-handed}
+use Rattle.runs.proofs.Rows.{Leads, kept, same, all-free, all-fitted}
+use Rattle.runs.proofs.Rules.{change-step}
+use Rattle.runs.proofs.Change.{change-sound}
+use Rattle.runs.proofs.Reply.{reply-sound}
+use Rattle.runs.proofs.Poll.{poll-sound}
+use Rattle.runs.proofs.Finish.{finish-sound}
+use Rattle.runs.proofs.Submit.{submit-sound, plan-sound}
+use Rattle.runs.proofs.Recover.{begin-sound, recovery-sound}
+use Rattle.runs.proofs.Lifecycle.{acquire-sound, initialize-sound, close-sound}
 
 -- what an opening that passes says of the sizes
 open-fits : (o : Opening) (words area bus : ℕ) → openFits o words area bus ≡ true → rowsFit (o .«row_count») (o .«row_bytes») words ≡ true
@@ -87,12 +87,6 @@ leads (Reply (ToPoll reply bytes)) w k e = finish-sound w k reply bytes (rowsFit
 leads (Reply (ToRecovery reply tokens words aborted bytes)) w k e = recovery-sound w k tokens words aborted bytes (rowsFitIn w && areaFitsIn w) reply
 leads (Change id c) w k e = change-sound w k (rowsFitIn w) id (changeBy c) (λ r. change-step r c)
 leads (Read r) w k e = kept w k
-
-pub sound-step : (c : Call) (w : World) → Sound w → isOpening c ≡ false → Sound (next (stepOf c w))
-sound-step c w k e = leads c w k e .sound
-
-pub fitted-step : (c : Call) (w : World) → Sound w → isOpening c ≡ false → Fitted w → Fitted (next (stepOf c w))
-fitted-step c w k e = leads c w k e .fitted
 
 left-leads : (h : Handed) (c : Call) (w : World) → Sound w → Handing h c → Leads w (leftBy h c w)
 left-leads h c w k e =
