@@ -6,13 +6,15 @@ pub mod Affected
 pub mod Moves
 pub mod Rows
 pub mod Rules
+pub mod Ways
 pub mod Change
 pub mod Reply
 pub mod Poll
 pub mod Finish
+pub mod Stages
 pub mod Submit
 pub mod Lifecycle
 pub mod Recover
 pub mod Run
 pub mod Tally
-pub mod Found
+pub mod Facts

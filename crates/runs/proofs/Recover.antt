@@ -4,16 +4,14 @@ use mathlib.Core.Bool.{Bool, true, false, not, _&&_, false≢true}
 use mathlib.Core.List.{List, [], _∷_, _++_}
 use mathlib.Core.Path.{_≡_, refl, sym, ap, _∙_}
 use native.Mathlib.Omega.{arith}
-use borrow.Author.Tests.{eqb-true, eqb-false, not-true, not-false, ltb-false}
+use borrow.Author.Tests.{eqb-true, eqb-false, not-true, ltb-false}
 use lib.Dec.{eqb, ltb}
 use lib.ListN.{length, getD, set, take, drop, length-set}
 use lib.Seq.{getD-set-same, getD-set-other}
-use Rattle.chain.specs.Lists.{count, anyIn, foundIn}
-use Rattle.chain.specs.declared.Found.{Found}
-use Rattle.chain.specs.declared.Found.the-variants as found
+use Rattle.chain.specs.Lists.{count, anyIn}
 use Rattle.chain.proofs.Chain.{caseB, if-by, and3}
 use Rattle.words.specs.declared.OptionU64.{OptionU64}
-use Rattle.models.specs.Requests.{deviceMayAccess, sameDevice}
+use Rattle.models.specs.Requests.{sameDevice}
 use Rattle.models.specs.declared.BackendCompletion.{BackendCompletion}
 use Rattle.models.specs.declared.ControllerState.the-variants.{Initialized}
 use Rattle.models.specs.declared.DeviceId.{DeviceId}
@@ -24,14 +22,12 @@ use Rattle.rows.specs.Store.{Store, putIn}
 use Rattle.rows.specs.Table.{emptyRow, isUncertain, rowIn}
 use Rattle.rows.specs.declared.Row.{Row}
 use Rattle.ledger.specs.Rules.{changeRow}
-use Rattle.ledger.specs.Search.{isAt}
 use Rattle.ledger.specs.declared.rules.Change.the-variants as change
 use Rattle.ledger.specs.declared.rules.Step.{Step}
 use Rattle.ledger.specs.declared.rules.Step.the-variants as step
-use Rattle.ledger.proofs.Placing.{found-row}
 use Rattle.checks.specs.declared.completion.CompletionTest.{CompletionTest}
 use Rattle.checks.specs.declared.completion.CompletionTest.the-variants as test
-use Rattle.session.specs.Session.{mayRecover, withState, withFlight, withStall, marked}
+use Rattle.session.specs.Session.{withState, withFlight, withStall, marked}
 use Rattle.session.specs.declared.InFlight.{InFlight}
 use Rattle.session.specs.declared.InFlight.the-variants as flight
 use Rattle.session.specs.declared.OptionStall.{OptionStall}
@@ -42,17 +38,16 @@ use Rattle.session.specs.declared.Session.{Session}
 use Rattle.scope.specs.Affected.{affectedOf, tokensOf}
 use Rattle.scope.specs.Scope.{isIn, meant, inScope}
 use Rattle.scope.specs.Returned.{Returned, returnedOf}
-use Rattle.recovery.specs.Begin.{begunAs, beginRow, beginBy, beginOf}
+use Rattle.recovery.specs.Begin.{begunAs, beginOf}
 use Rattle.recovery.specs.Entries.{WalkTo, storedAt, rowCompletedBy, testedBy, completeOne, onwardBy, completeAll, AbortTo, abortedBy, abortOne, furtherBy, abortAll}
 use Rattle.recovery.specs.Reports.{idLists}
-use Rattle.recovery.specs.Reply.{RecoveredTo, isWhole, isRevision, restoredBy, resetBy, sessionAfter, refusedAfter, abortsAfter, applyAll, reportOf, concludedBy, scopedOf, doneOf, replyBy, replySized, replyIn, recoveryReplyOf}
+use Rattle.recovery.specs.Reply.{RecoveredTo, isWhole, isRevision, restoredBy, resetBy, sessionAfter, refusedAfter, abortsAfter, applyAll, reportOf, concludedBy, scopedOf, recoveryReplyOf}
 use Rattle.recovery.specs.declared.AbortReport.{AbortReport}
 use Rattle.recovery.specs.declared.Begun.{Begun}
 use Rattle.recovery.specs.declared.Ids.{Ids}
 use Rattle.recovery.specs.declared.Outcome.{Outcome}
 use Rattle.recovery.specs.declared.Recovery.{Recovery}
 use Rattle.recovery.specs.declared.RecoveryReply.{RecoveryReply}
-use Rattle.recovery.specs.declared.RecoveryReply.the-variants as reply
 use Rattle.calls.specs.Step.{World, world}
 use Rattle.runs.specs.Sound.{rowAt, FlightReady, Sound}
 use Rattle.runs.proofs.Tokens.{tokensIn, Each, each-last, scope-each}
@@ -63,6 +58,7 @@ use Rattle.runs.proofs.Finish.{TestSound, test-sound}
 use Rattle.runs.proofs.Affected.{affected-is-held, meant-affected, meant-below, returned-tokens}
 use Rattle.runs.proofs.Held.{any-count, held-used}
 use Rattle.runs.proofs.Ids.{access-held, at-own}
+use Rattle.runs.proofs.Ways.{begin-all, recovery-all}
 
 leads-then : (a b c : World) → Leads a b → Leads b c → Leads a c
 leads-then a b c p q = record { sound = q .sound; fitted = λ z. q .fitted (p .fitted z) }
@@ -71,36 +67,14 @@ leads-then a b c p q = record { sound = q .sound; fitted = λ z. q .fitted (p .f
 abbrev pub BegunSound : World → Begun → Type 0
 BegunSound w o = Leads w (world (o .session) (w .bus) (w .store) (w .area))
 
-module _ (w : World) (k : Sound w) where
-  by-row : (i : ℕ) → i < length (w .store .rows) → (id : RequestId) → isAt id (rowAt w i) ≡ true → (q : RecoveryKind)
-      → BegunSound w (beginRow (w .session) (rowAt w i) id q (w .store .rows))
-  unfolding beginRow begunAs
-  by-row i h id e q =
-      if-by (BegunSound w) _ _ _ (λ x. kept w k)
-      (λ a. if-by (BegunSound w) _ _ _ (λ x. kept w k)
-      (λ r. moved w k (withFlight (w .session) (flight.Recovery id (rowAt w i .metadata .device) (rowAt w i .metadata .endpoint) q)) (stays (w .session)) (w .bus) (w .area)
-      (record {
-        index = i;
-        below = h;
-        held = access-held id (rowAt w i) e (not-false (deviceMayAccess (rowAt w i .state)) a);
-        own = at-own id (rowAt w i) e;
-        of-device = refl;
-        of-endpoint = refl;
-      })
-      (not-false (mayRecover (w .session .state)) r)))
-
-  by-place : (id : RequestId) (q : RecoveryKind) (g : Found) → g ≡ foundIn (isAt id) (w .store .rows) → BegunSound w (beginBy g (w .session) id q (w .store .rows))
-  unfolding beginBy
-  by-place id q found.Nothing e = kept w k
-  by-place id q (found.At i) e =
-      let p = found-row id (w .store .rows) (found.At i) i e refl in
-      by-row i (p .0) id (p .1) q
-
-  pub begin-sound : (fits : Bool) (id : RequestId) (q : RecoveryKind) → BegunSound w (beginOf (w .session) fits id q (w .store .rows))
-  unfolding beginOf
-  begin-sound fits id q =
-      if-by (BegunSound w) _ _ _ (λ x. kept w k)
-      (λ x. if-by (BegunSound w) _ _ _ (λ y. kept w k) (λ y. by-place id q (foundIn (isAt id) (w .store .rows)) refl))
+pub begin-sound : (w : World) → Sound w → (fits : Bool) (id : RequestId) (q : RecoveryKind) → BegunSound w (beginOf (w .session) fits id q (w .store .rows))
+unfolding begunAs
+begin-sound w k fits id q =
+    begin-all (w .session) id q (w .store .rows) (BegunSound w) (λ n e. kept w k) (λ i h e m. kept w k)
+    (λ i h e a m.
+    moved w k (withFlight (w .session) (flight.Recovery id (rowAt w i .metadata .device) (rowAt w i .metadata .endpoint) q)) (stays (w .session)) (w .bus) (w .area)
+    (record { index = i; below = h; held = access-held id (rowAt w i) e a; own = at-own id (rowAt w i) e; of-device = refl; of-endpoint = refl }) m)
+    fits
 
 -- ---- the entries
 module _ (place : ℕ → ℕ) where
@@ -309,20 +283,7 @@ module _ (w : World) (k : Sound w) (tokens words aborted bytes : List ℕ) where
       leads-then w still _ stilled
       (leads-then still after _ a (concluded-after after (a .sound) refl (o′ .verdict) x o (reportOf x o (length tokens) (length aborted)) (idLists (w .store .rows) (meant affected mine) tokens aborted)))
 
-  by-reply : (x : Recovery) (r : RecoveryReply) → RecoveredSound (replyBy r quiet x tokens words aborted bytes (w .store) (w .area))
-  unfolding replyBy doneOf
-  by-reply x (reply.Error e) = marks
-  by-reply x (reply.Done o) = if-by RecoveredSound _ _ _ (λ e. marks) (λ e. scoped-sound x o (not-false _ e))
-
-  by-flight : (f : InFlight) (fits : Bool) (r : RecoveryReply) → RecoveredSound (replyIn f (w .session) fits r tokens words aborted bytes (w .store) (w .area))
-  unfolding replyIn replySized
-  by-flight flight.Nothing fits r = kept w k
-  by-flight (flight.Submission id) fits r = kept w k
-  by-flight (flight.Poll id) fits r = kept w k
-  by-flight (flight.Recovery target device endpoint q) fits r =
-      if-by RecoveredSound _ _ _ (λ e. kept w k)
-      (λ e. if-by RecoveredSound _ _ _ (λ y. kept w k) (λ y. by-reply (record { target = target; device = device; endpoint = endpoint; kind = q }) r))
-
   pub recovery-sound : (fits : Bool) (r : RecoveryReply) → RecoveredSound (recoveryReplyOf (w .session) fits r tokens words aborted bytes (w .store) (w .area))
-  unfolding recoveryReplyOf
-  recovery-sound fits r = by-flight (w .session .«in_flight») fits r
+  recovery-sound fits r =
+      recovery-all (w .session) tokens words aborted bytes (w .store) (w .area) RecoveredSound (kept w k) (kept w k) (kept w k) (λ e. marks) marks
+      (λ x own o s. scoped-sound x o s) fits r

@@ -78,8 +78,8 @@ leads (Place p) w k e = same w k _ (w .area)
 leads (Move (Acquire reply)) w k e = acquire-sound w k reply
 leads (Move (Initialize reply)) w k e = initialize-sound w k reply
 leads (Move (Close fresh reply)) w k e = close-sound w k (rowsFitIn w) fresh reply
-leads (Begin (Submit q bytes given packets first second)) w k e = submit-sound w k q bytes given first second (storeFitsIn w) packets
-leads (Begin (SubmitPlan q bytes first)) w k e = plan-sound w k q bytes first (storeFitsIn w)
+leads (Begin (Submit q bytes given packets first second)) w k e = submit-sound w k (storeFitsIn w) q bytes given packets first second
+leads (Begin (SubmitPlan q bytes first)) w k e = plan-sound w k (storeFitsIn w) q bytes first
 leads (Begin (Poll id)) w k e = poll-sound w k id (rowsFitIn w)
 leads (Begin (Recover id kind)) w k e = begin-sound w k (rowsFitIn w) id kind
 leads (Reply (ToSubmit reply)) w k e = reply-sound w k (rowsFitIn w) reply
@@ -88,7 +88,7 @@ leads (Reply (ToRecovery reply tokens words aborted bytes)) w k e = recovery-sou
 leads (Change id c) w k e = change-sound w k (rowsFitIn w) id (changeBy c) (λ r. change-step r c)
 leads (Read r) w k e = kept w k
 
-left-leads : (h : Handed) (c : Call) (w : World) → Sound w → Handing h c → Leads w (leftBy h c w)
+pub left-leads : (h : Handed) (c : Call) (w : World) → Sound w → Handing h c → Leads w (leftBy h c w)
 left-leads h c w k e =
     by-handed h c w (λ x v. Leads w v) e
     (λ first bus area.
