@@ -138,7 +138,7 @@ module _ (d : DeviceId) (endpoint : ℕ) where
     affected-sorted = let all = affected-all in rw all (up-to rows (length rows) (omega arith) .sorted)
 
   -- ---- the same views
-  module _ (rows : List Row) (entries : List Entry) (k : Led rows entries) where
+  module _ (rows : List Row) (entries : List Entry) (few : count isHeld rows ≤ 128) (k : Led rows entries) where
     once-view : (x : RequestId) → sumBy (only (isView x) each) (affectedViews d endpoint entries) ≤ 1
     once-view x =
         omega (
@@ -156,5 +156,5 @@ module _ (d : DeviceId) (endpoint : ℕ) where
     pub affected-same : map (seen rows) (affectedOf d endpoint rows) ≡ affectedViews d endpoint entries
     affected-same =
         sorted-same (map (seen rows) (affectedOf d endpoint rows)) (affectedViews d endpoint entries)
-        (λ w. affected-weighs rows (k .few) w ∙ k .same (scoped w) ∙ sym (entries-weigh w entries))
-        (affected-sorted rows (k .few)) (entries-sorted entries) once-view
+        (λ w. affected-weighs rows few w ∙ k .same (scoped w) ∙ sym (entries-weigh w entries))
+        (affected-sorted rows few) (entries-sorted entries) once-view

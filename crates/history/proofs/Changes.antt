@@ -7,7 +7,6 @@ use native.Mathlib.Nat.{le-refl}
 use native.Mathlib.Omega.{arith}
 use lib.Dec.{ltb}
 use lib.ListN.{length, getD, set, replicate}
-use borrow.Author.Tests.{le-ltb}
 use Rattle.chain.specs.Lists.{sumBy, only, count, mapAt}
 use Rattle.chain.proofs.Chain.{caseB, both}
 use Rattle.chain.proofs.Lists.{sum-set, count-keeps}
@@ -25,7 +24,7 @@ use Rattle.runs.proofs.Held.{empty-free, free-held, unheld-row}
 use Rattle.runs.proofs.Ids.{free-at, same-request, same-self}
 use Rattle.history.specs.Journal.{Entry, isNone, isOpen, isEntry, entryOf, release, markFailed, withToken, newEntry, View, entryView}
 use Rattle.history.specs.Claim.{rowView}
-use Rattle.history.proofs.Led.{rowW, entryW, each, long, twice, Led, Changed, Alike, row-none}
+use Rattle.history.proofs.Led.{rowW, entryW, each, twice, Led, Changed, Alike, row-none}
 
 -- the view of a row, marked Failed or not
 abbrev viewAs : Row → Bool → View
@@ -76,8 +75,6 @@ module _ (r : Row) (e : Entry) (held : isHeld r ≡ true) (is : (w : View → �
     row-id = i;
     entry-id = λ x. refl;
     single = bumps;
-    few = omega (arith, row-none each r′ h);
-    short = omega (arith, row-none long r′ h);
   }
 
   pub discard-change : Changed r emptyRow e (release e)
@@ -118,8 +115,6 @@ module _ (r : Row) (e : Entry) (held : isHeld r ≡ true) (is : (w : View → �
     row-id = λ x. rw (same-at t x) (le-refl _);
     entry-id = λ x. refl;
     single = stays r e held is;
-    few = rw (same-held t) (le-refl _);
-    short = rw (same-held t) (le-refl _);
   }
 
   -- a new state
@@ -148,8 +143,6 @@ module _ (r : Row) (e : Entry) (held : isHeld r ≡ true) (is : (w : View → �
         row-id = λ x. rw (state-at s x) (le-refl _);
         entry-id = λ x. refl;
         single = stays r e held is;
-        few = rw (on, held) (le-refl _);
-        short = rw (on, held) (le-refl _);
       }
 
 -- ---- flags
@@ -181,8 +174,7 @@ latest-entry x d endpoint requested l = rw (same-self x)
 
 -- ---- a new row and its entry
 module _ (rows : List Row) (entries : List Entry) (k : Led rows entries) (x : RequestId) (m : RequestMetadata) (i : ℕ) (lt : i < length rows)
-    (free : getD rows i emptyRow .used ≡ false) (new : count (isEntry x) entries ≡ 0) (room : count isHeld rows < 128)
-    (size : m .«requested_length» ≤ 65536) where
+    (free : getD rows i emptyRow .used ≡ false) (new : count (isEntry x) entries ≡ 0) where
   abbrev begun : Row
   begun = pendingRow x m
 
@@ -210,9 +202,6 @@ module _ (rows : List Row) (entries : List Entry) (k : Led rows entries) (x : Re
   weight-new : (w : View → ℕ) → sumBy (rowW w) (set rows i begun) ≡ sumBy (rowW w) rows + rowW w begun
   weight-new w = sum-new (rowW w) (λ r e. row-none w r (free-held r e))
 
-  begun-short : long (entryView (newEntry x (m .device) (m .endpoint) (m .«requested_length»))) ≡ 0
-  begun-short = rw (le-ltb 65536 (m .«requested_length») size)
-
   pub led-new : Led (set rows i begun) (newEntry x (m .device) (m .endpoint) (m .«requested_length») ∷ entries)
   led-new = record {
     same = λ w. omega (arith, weight-new w, begun-weight w, k .same w);
@@ -221,8 +210,6 @@ module _ (rows : List Row) (entries : List Entry) (k : Led rows entries) (x : Re
         (λ e. let q = same-request x y e in rw (e, ← q) (omega (arith, new)))
         (λ e. rw e (omega (arith, k .once y)));
     single = omega (arith, k .single);
-    few = omega (arith, weight-new each, begun-weight each);
-    short = omega (arith, weight-new long, begun-weight long, begun-short, k .short);
   }
 
 -- ---- an emptied store, and every entry released
@@ -263,6 +250,4 @@ led-closed rows entries rows′ k none ids = record {
   known = λ x. omega (arith, ids x, k .known x, closed-ids x entries);
   once = λ x. omega (arith, k .once x, closed-ids x entries);
   single = omega (arith, k .single, closed-single entries);
-  few = omega (arith, none each);
-  short = none long;
 }

@@ -31,10 +31,6 @@ each v = 1
 abbrev pub lengthOf : View → ℕ
 lengthOf v = v .requested
 
--- longer than any request may be
-abbrev pub long : View → ℕ
-long v = cond (ltb 65536 (v .requested)) 1 0
-
 -- the weight w at the id x alone
 abbrev pub isView : RequestId → View → Bool
 isView x v = sameRequest (v .id) x
@@ -50,8 +46,6 @@ pub record Led (rows : List Row) (entries : List Entry) : Type 0 where
   pub known : (x : RequestId) → count (isAt x) rows ≤ count (isEntry x) entries
   pub once : (x : RequestId) → count (isEntry x) entries ≤ 1
   pub single : count twice entries ≡ 0
-  pub few : count isHeld rows ≤ 128
-  pub short : sumBy (rowW long) rows ≡ 0
 
 -- ---- small facts
 
@@ -106,8 +100,6 @@ pub record Changed (r r′ : Row) (e e′ : Entry) : Type 0 where
   pub row-id : (x : RequestId) → only (isAt x) (λ y. 1) r′ ≤ only (isAt x) (λ y. 1) r
   pub entry-id : (x : RequestId) → isEntry x e′ ≡ isEntry x e
   pub single : twice e′ ≡ false
-  pub few : rowW each r′ ≤ rowW each r
-  pub short : rowW long r′ ≤ rowW long r
 
 module _ (rows : List Row) (entries : List Entry) (k : Led rows entries) (x : RequestId) (i : ℕ) (lt : i < length rows)
     (hit : isAt x (getD rows i emptyRow) ≡ true) (r′ : Row) (f : Entry → Entry)
@@ -130,8 +122,6 @@ module _ (rows : List Row) (entries : List Entry) (k : Led rows entries) (x : Re
     known = λ y. omega (arith, sum-set (only (isAt y) (λ z. 1)) rows i r′ emptyRow lt, c .row-id y, k .known y, ids-kept y);
     once = λ y. omega (arith, k .once y, ids-kept y);
     single = omega (arith, sum-entry (only twice (λ e. 1)), none-twice, k .single);
-    few = omega (arith, sum-set (rowW each) rows i r′ emptyRow lt, c .few, k .few);
-    short = omega (arith, sum-set (rowW long) rows i r′ emptyRow lt, c .short, k .short);
   }
 
 -- ---- a row changes, and not its weight: no entry changes
@@ -147,6 +137,4 @@ module _ (rows : List Row) (entries : List Entry) (k : Led rows entries) (i : �
     known = λ y. omega (arith, sum-set (only (isAt y) (λ z. 1)) rows i r′ emptyRow lt, c .row-id y, k .known y);
     once = k .once;
     single = k .single;
-    few = omega (arith, sum-set (rowW each) rows i r′ emptyRow lt, c .weight each, k .few);
-    short = omega (arith, sum-set (rowW long) rows i r′ emptyRow lt, c .weight long, k .short);
   }

@@ -7,7 +7,7 @@ use native.Mathlib.Omega.{arith}
 use lib.Dec.{eqb}
 use lib.ListN.{length, getD, set, take, drop, length-set, length-map, List·getD-map}
 use lib.Seq.{getD-set-same, getD-set-other, ext-getD}
-use borrow.Author.Tests.{eq-eqb, ne-eqb, eqb-true, eqb-false, ltb-true, not-false}
+use borrow.Author.Tests.{eq-eqb, ne-eqb, eqb-true, eqb-false, ltb-true}
 use Rattle.chain.specs.Chain.{_if_else_}
 use Rattle.chain.specs.Lists.{sumBy, count}
 use Rattle.chain.proofs.Chain.{caseB, if-by, both}
@@ -36,13 +36,12 @@ use Rattle.scope.specs.Scope.{isIn, slotOf, meant, eachOnce, allIn, inScope}
 use Rattle.scope.specs.Returned.{Returned, returnedOf}
 use Rattle.recovery.specs.Entries.{WalkTo, rowCompletedBy, testedBy, completeOne, onwardBy, completeAll, AbortTo, abortedBy, abortOne, furtherBy, abortAll}
 use Rattle.recovery.specs.Reports.{idLists}
-use Rattle.recovery.specs.Reply.{RecoveredTo, isWhole, abortsAfter, applyAll, reportOf, concludedBy, scopedOf, doneOf, replyBy, replySized, replyIn, recoveryReplyOf}
+use Rattle.recovery.specs.Reply.{RecoveredTo, isWhole, abortsAfter, applyAll, reportOf, concludedBy, scopedOf, recoveryReplyOf}
 use Rattle.recovery.specs.declared.AbortReport.{AbortReport}
 use Rattle.recovery.specs.declared.Ids.{Ids}
 use Rattle.recovery.specs.declared.Outcome.{Outcome}
 use Rattle.recovery.specs.declared.Recovery.{Recovery}
 use Rattle.recovery.specs.declared.RecoveryReply.{RecoveryReply}
-use Rattle.recovery.specs.declared.RecoveryReply.the-variants as reply
 use Rattle.session.specs.Session.{withFlight}
 use Rattle.session.specs.declared.InFlight.{InFlight}
 use Rattle.session.specs.declared.InFlight.the-variants as flight
@@ -54,6 +53,7 @@ use Rattle.calls.specs.declared.Answer.the-variants as answer
 use Rattle.scope.proofs.Scoping.{in-cons, in-append}
 use Rattle.runs.proofs.Affected.{meant-affected, meant-below, returned-tokens}
 use Rattle.runs.proofs.Held.{or-false, or-right}
+use Rattle.runs.proofs.Ways.{recovery-all}
 use Rattle.history.specs.Journal.{View}
 use Rattle.history.specs.Claim.{rowView, lengthIn, codeIn, cancelledIn, completedAs, namedAs, recoveredAs, isSettled, Different, Recovered}
 use Rattle.history.proofs.Led.{rowW}
@@ -482,24 +482,12 @@ module _ (s : Session) (store : Store) (few : count isHeld (store .rows) ≤ 128
       (recovered-rows (y .device) (y .endpoint) rows few different tokens words aborted scope _ a
       (scope-spares (y .device) (y .endpoint) store true (quiet .«row_bytes») tokens words aborted bytes area scope)))
 
-  by-told : (y : Recovery) (r : RecoveryReply) → Told (replyBy r quiet y tokens words aborted bytes store area)
-  unfolding replyBy doneOf scopedOf
-  by-told y (reply.Error e) = refuses _ (store .rows)
-  by-told y (reply.Done o) = if-by Told _ _ _ (λ n. refuses _ (store .rows))
-      (λ n. concluded-told y o (not-false _ n) _ (applyAll (means y) (quiet .«row_bytes») (returnedOf tokens words) aborted bytes store area) refl refl
-      (idLists (store .rows) (means y) tokens aborted))
-
   pub recovered-told : (fits : Bool) (r : RecoveryReply) → Told (recoveryReplyOf s fits r tokens words aborted bytes store area)
-  unfolding recoveryReplyOf replyIn replySized
-  recovered-told fits r = go (s .«in_flight»)
-    where
-      go : (f : InFlight) → Told (replyIn f s fits r tokens words aborted bytes store area)
-      go flight.Nothing = refuses _ (store .rows)
-      go (flight.Submission id) = refuses _ (store .rows)
-      go (flight.Poll id) = refuses _ (store .rows)
-      go (flight.Recovery target device endpoint q) =
-          if-by Told _ _ _ (λ n. refuses _ (store .rows))
-          (λ n. if-by Told _ _ _ (λ m. refuses _ (store .rows)) (λ m. by-told (record { target = target; device = device; endpoint = endpoint; kind = q }) r))
+  unfolding scopedOf
+  recovered-told fits r =
+      recovery-all s tokens words aborted bytes store area Told (refuses _ (store .rows)) (refuses _ (store .rows)) (refuses _ (store .rows)) (λ e. refuses _ (store .rows)) (refuses _ (store .rows))
+      (λ y own o n. concluded-told y o n _ (applyAll (means y) (quiet .«row_bytes») (returnedOf tokens words) aborted bytes store area) refl refl (idLists (store .rows) (means y) tokens aborted))
+      fits r
 
 -- ---- the report is of the operation that waited
 module _ (s : Session) (store : Store) (tokens words aborted bytes area : List ℕ) (x : AbortReport) where
@@ -517,32 +505,20 @@ module _ (s : Session) (store : Store) (tokens words aborted bytes area : List �
       let q : reportOf y o n m ≡ x = cc in
       (ap (λ (z : AbortReport). z .target) q, ap (λ (z : AbortReport). z .device) q, ap (λ (z : AbortReport). z .endpoint) q)
 
-  abbrev SameTo : Recovery → RecoveredTo → Type 0
-  SameTo y o = ofRecovery (o .result .answer) ≡ answer.Recovered x → Same y
-
-  by-same : (y : Recovery) (r : RecoveryReply) → SameTo y (replyBy r idle y tokens words aborted bytes store area)
-  unfolding replyBy doneOf scopedOf
-  by-same y (reply.Error e) = no-report _ x (Same y)
-  by-same y (reply.Done o) = if-by (SameTo y) _ _ _ (λ n. no-report _ x (Same y))
-      (λ n. concluded-same y o _ (length tokens) (length aborted) _ _)
-
   abbrev Waited : InFlight → Type 0
   Waited f = (q : RecoveryKind) × (f ≡ flight.Recovery (x .target) (x .device) (x .endpoint) q)
 
   same-flight : (y : Recovery) (q : RecoveryKind) → Same y → Waited (flight.Recovery (y .target) (y .device) (y .endpoint) q)
   same-flight y q e = let a = e .0 in let b = e .1 in let c = e .2 in (q, rw (a, b, c))
 
-  pub waited-told : (fits : Bool) (r : RecoveryReply) → ofRecovery (recoveryReplyOf s fits r tokens words aborted bytes store area .result .answer) ≡ answer.Recovered x → Waited (s .«in_flight»)
-  unfolding recoveryReplyOf replyIn replySized
-  waited-told fits r = go (s .«in_flight»)
-    where
-      go : (f : InFlight) → ofRecovery (replyIn f s fits r tokens words aborted bytes store area .result .answer) ≡ answer.Recovered x → Waited f
-      go flight.Nothing = no-report _ x (Waited flight.Nothing)
-      go (flight.Submission id) = no-report _ x (Waited (flight.Submission id))
-      go (flight.Poll id) = no-report _ x (Waited (flight.Poll id))
-      go (flight.Recovery target device endpoint q) =
-          let y : Recovery = record { target = target; device = device; endpoint = endpoint; kind = q } in
-          if-by (λ (o : RecoveredTo). ofRecovery (o .result .answer) ≡ answer.Recovered x → Waited (flight.Recovery target device endpoint q)) _ _ _
-          (λ n. no-report _ x (Waited (flight.Recovery target device endpoint q)))
-          (λ n. if-by (λ (o : RecoveredTo). ofRecovery (o .result .answer) ≡ answer.Recovered x → Waited (flight.Recovery target device endpoint q)) _ _ _
-          (λ m. no-report _ x (Waited (flight.Recovery target device endpoint q))) (λ m e. same-flight y q (by-same y r e)))
+  abbrev WaitedTo : RecoveredTo → Type 0
+  WaitedTo o = ofRecovery (o .result .answer) ≡ answer.Recovered x → Waited (s .«in_flight»)
+
+  refuses-too : (f : Refusal) → answer.Refused f ≡ answer.Recovered x → Waited (s .«in_flight»)
+  refuses-too f = no-report f x (Waited (s .«in_flight»))
+
+  pub waited-told : (fits : Bool) (r : RecoveryReply) → WaitedTo (recoveryReplyOf s fits r tokens words aborted bytes store area)
+  unfolding scopedOf
+  waited-told fits r =
+      recovery-all s tokens words aborted bytes store area WaitedTo (refuses-too _) (refuses-too _) (refuses-too _) (λ e. refuses-too _) (refuses-too _)
+      (λ y own o n e. subst Waited (sym own) (same-flight y (y .kind) (concluded-same y o _ (length tokens) (length aborted) _ _ e))) fits r

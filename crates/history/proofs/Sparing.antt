@@ -5,8 +5,6 @@ use mathlib.Core.Bool.{Bool, true, false, true≢false}
 use mathlib.Core.List.{List, [], _∷_, _++_}
 use lib.ListN.{length, set, take, drop, length-set}
 use lib.Seq.{getD-set-other}
-use borrow.Author.Tests.{not-false}
-use Rattle.chain.proofs.Chain.{if-by}
 use Rattle.words.specs.declared.OptionU32.{OptionU32}
 use Rattle.models.specs.declared.DeviceId.{DeviceId}
 use Rattle.models.specs.declared.Verdict.{Verdict}
@@ -23,16 +21,18 @@ use Rattle.checks.specs.declared.completion.CompletionTest.the-variants as test
 use Rattle.session.specs.declared.InFlight.{InFlight}
 use Rattle.session.specs.declared.InFlight.the-variants as flight
 use Rattle.session.specs.declared.Session.{Session}
-use Rattle.session.specs.Session.{withFlight}
 use Rattle.scope.specs.Affected.{isAffected, affectedOf, tokensOf}
 use Rattle.scope.specs.Scope.{meant, inScope}
 use Rattle.scope.specs.Returned.{Returned, returnedOf}
 use Rattle.recovery.specs.Entries.{WalkTo, rowCompletedBy, testedBy, completeOne, onwardBy, completeAll, AbortTo, abortedBy, abortOne, furtherBy, abortAll}
-use Rattle.recovery.specs.Reply.{RecoveredTo, isWhole, abortsAfter, applyAll, scopedOf, doneOf, replyBy, replySized, replyIn, recoveryReplyOf}
+use Rattle.recovery.specs.Reply.{RecoveredTo, isWhole, abortsAfter, applyAll, scopedOf, recoveryReplyOf}
 use Rattle.recovery.specs.declared.Recovery.{Recovery}
 use Rattle.recovery.specs.declared.RecoveryReply.{RecoveryReply}
-use Rattle.recovery.specs.declared.RecoveryReply.the-variants as reply
 use Rattle.runs.proofs.Affected.{meant-affected, returned-tokens}
+use Rattle.models.specs.Refusals.{refusalOf}
+use Rattle.recovery.specs.Reply.{recoveredTo, recoveryRefused}
+use mathlib.Core.Path.{subst}
+use Rattle.runs.proofs.Ways.{recovery-all}
 use Rattle.history.specs.Claim.{Spared}
 use Rattle.runs.proofs.Tokens.{tokensIn, Each, each-first, each-last, scope-each}
 
@@ -142,28 +142,17 @@ all-spared (flight.Poll id) rows = refl
 all-spared (flight.Recovery target d endpoint q) rows = record { number = refl; equal = λ i h e. refl }
 
 module _ (s : Session) (store : Store) (tokens words aborted bytes area : List ℕ) where
-  abbrev To : InFlight → RecoveredTo → Type 0
-  To f o = Spared f (store .rows) (o .store .rows)
+  abbrev To : RecoveredTo → Type 0
+  To o = Spared (s .«in_flight») (store .rows) (o .store .rows)
 
-  by-spares : (x : Recovery) (r : RecoveryReply)
-      → To (flight.Recovery (x .target) (x .device) (x .endpoint) (x .kind)) (replyBy r (withFlight s flight.Nothing) x tokens words aborted bytes store area)
-  unfolding replyBy doneOf scopedOf
-  by-spares x (reply.Error e) = all-spared (flight.Recovery (x .target) (x .device) (x .endpoint) (x .kind)) (store .rows)
-  by-spares x (reply.Done o) =
-      let f = flight.Recovery (x .target) (x .device) (x .endpoint) (x .kind) in
-      if-by (To f) _ _ _ (λ n. all-spared f (store .rows))
-      (λ n. let k = scope-spares (x .device) (x .endpoint) store (isWhole o) (s .«row_bytes») tokens words aborted bytes area (not-false _ n) in
-      record { number = k .size; equal = λ i h e. k .row i e })
+  same : To (recoveredTo (recoveryRefused s (refusalOf 2)) store area)
+  same = all-spared (s .«in_flight») (store .rows)
 
-  pub reply-spares : (fits : Bool) (r : RecoveryReply) → To (s .«in_flight») (recoveryReplyOf s fits r tokens words aborted bytes store area)
-  unfolding recoveryReplyOf replyIn replySized
-  reply-spares fits r = go (s .«in_flight»)
-    where
-      go : (f : InFlight) → To f (replyIn f s fits r tokens words aborted bytes store area)
-      go flight.Nothing = refl
-      go (flight.Submission id) = refl
-      go (flight.Poll id) = refl
-      go (flight.Recovery target d endpoint q) =
-          let f = flight.Recovery target d endpoint q in
-          if-by (To f) _ _ _ (λ n. all-spared f (store .rows))
-          (λ n. if-by (To f) _ _ _ (λ m. all-spared f (store .rows)) (λ m. by-spares (record { target = target; device = d; endpoint = endpoint; kind = q }) r))
+  pub reply-spares : (fits : Bool) (r : RecoveryReply) → To (recoveryReplyOf s fits r tokens words aborted bytes store area)
+  unfolding scopedOf
+  reply-spares fits r =
+      recovery-all s tokens words aborted bytes store area To same same same (λ e. same) same
+      (λ x own o n.
+      let k = scope-spares (x .device) (x .endpoint) store (isWhole o) (s .«row_bytes») tokens words aborted bytes area n in
+      subst (λ (f : InFlight). Spared f (store .rows) (applyAll (place (x .device) (x .endpoint) store) (s .«row_bytes») (returnedOf tokens words) aborted bytes store area .store .rows)) (sym own) (record { number = k .size; equal = λ i h e. k .row i e }))
+      fits r

@@ -1,5 +1,5 @@
 -- No row changes between a recovery's start and the reply that ends it. Assumes nothing.
-use Prim.Native.Nat.{ℕ}
+use Prim.Native.Nat.{ℕ, _≤_}
 use mathlib.Core.Bool.{Bool, cond, false, _&&_, true≢false}
 use mathlib.Core.List.{List, [], _∷_, _++_}
 use mathlib.Core.Path.{_≡_, refl, sym, ap, _∙_, subst}
@@ -22,7 +22,7 @@ use Rattle.polls.specs.Poll.{pollOf}
 use Rattle.polls.specs.Finish.{finishIn, finishOf}
 use Rattle.reports.specs.Change.{changeOf}
 use Rattle.recovery.specs.Begin.{beginOf}
-use Rattle.recovery.specs.Reply.{RecoveredTo, replySized, replyIn, recoveryReplyOf}
+use Rattle.recovery.specs.Reply.{RecoveredTo, recoveryReplyOf}
 use Rattle.recovery.specs.declared.Recovery.{Recovery}
 use Rattle.recovery.specs.declared.RecoveryReply.{RecoveryReply}
 use Rattle.calls.specs.Answers.{ofRecovery}
@@ -30,16 +30,20 @@ use Rattle.calls.specs.Calls.{Call, Open, Place, Device, Port, Endpoints, Recon
 use Rattle.calls.specs.Step.{World, After, world, stepOf, places, moves, closes, submits, plans, reports, polls, finishes, begins, recovers, rowsFitIn, areaFitsIn, placedOf, movedOf, begunOf, repliedOf}
 use Rattle.calls.specs.declared.Answer.the-variants as answer
 use Rattle.runs.specs.Run.{Handed, Event, next, leftBy, endOf, answerTo, historyOf, isOpening, Handing, Follows, Fresh}
+use Rattle.chain.specs.Lists.{count}
+use Rattle.rows.specs.Table.{isHeld}
+use Rattle.runs.proofs.Ways.{recovery-all}
+use Rattle.runs.proofs.Run.{sound-open, sound-run}
 use Rattle.history.specs.Journal.{Entry, Journal, isRecovering, endsBy, recoveryWaits, journalOf, blank}
 use Rattle.history.specs.Claim as claim
 use Rattle.runs.proofs.Handings.{by-handed, follows-at, follows-front, follows-on, fresh-front}
 use Rattle.history.proofs.Led.{Led}
 use Rattle.history.proofs.Keeps.{begin-kept, begin-names}
-use Rattle.history.proofs.Never.{reply-ends}
+use Rattle.history.proofs.Never.{scoped-ends}
 use Rattle.history.proofs.Theorem.{opened-holds, run-kept}
 
 -- ---- a call while a recovery waits
-module _ (w : World) (entries : List Entry) (k : Led (w .store .rows) entries) (x : Recovery)
+module _ (w : World) (entries : List Entry) (few : count isHeld (w .store .rows) ≤ 128) (k : Led (w .store .rows) entries) (x : Recovery)
     (own : w .session .«in_flight» ≡ flight.Recovery (x .target) (x .device) (x .endpoint) (x .kind)) where
   abbrev Same : After → Type 0
   Same a = next a ≡ w
@@ -54,12 +58,9 @@ module _ (w : World) (entries : List Entry) (k : Led (w .store .rows) entries) (
     Waits o = endsBy (ofRecovery (o .result .answer)) ≡ false → Same (recovers o w)
 
     reply-same : (fits : Bool) → Waits (recoveryReplyOf (w .session) fits r tokens words aborted bytes (w .store) (w .area))
-    unfolding recoveryReplyOf replyIn replySized
     reply-same fits =
-        subst (λ (f : InFlight). Waits (replyIn f (w .session) fits r tokens words aborted bytes (w .store) (w .area))) (sym own)
-        (if-by Waits _ _ _ (λ y e. refl)
-        (λ y. if-by Waits _ _ _ (λ z e. refl)
-        (λ z e. absurd (true≢false (sym (reply-ends (w .session) (w .store) entries k tokens words aborted bytes (w .area) x r) ∙ e)))))
+        recovery-all (w .session) tokens words aborted bytes (w .store) (w .area) Waits (λ e. refl) (λ e. refl) (λ e. refl) (λ y e. absurd (true≢false e)) (λ e. absurd (true≢false e))
+        (λ y on o n e. absurd (true≢false (sym (scoped-ends (w .session) (w .store) entries few k tokens words aborted bytes (w .area) y o n .0) ∙ e))) fits r
 
   pub stays : (c : Call) → isOpening c ≡ false
       → ((r : RecoveryReply) (tokens words aborted bytes : List ℕ) → c ≡ Reply (ToRecovery r tokens words aborted bytes) → endsBy (stepOf c w .result .answer) ≡ false) → Same (stepOf c w)
@@ -96,24 +97,25 @@ Kept w v = (v .session ≡ w .session) × (v .store ≡ w .store)
 abbrev InFlightIs : World → Recovery → Type 0
 InFlightIs w x = w .session .«in_flight» ≡ flight.Recovery (x .target) (x .device) (x .endpoint) (x .kind)
 
-event-stays : (h : Handed) (c : Call) (w : World) (entries : List Entry) → Led (w .store .rows) entries → (x : Recovery) → InFlightIs w x → Handing h c
+event-stays : (h : Handed) (c : Call) (w : World) (entries : List Entry) → count isHeld (w .store .rows) ≤ 128 → Led (w .store .rows) entries → (x : Recovery) → InFlightIs w x
+    → Handing h c
     → ((r : RecoveryReply) (tokens words aborted bytes : List ℕ) → c ≡ Reply (ToRecovery r tokens words aborted bytes) → endsBy (answerTo w (record { call = c; handed = h })) ≡ false)
     → Kept w (leftBy h c w)
-event-stays h c w entries k x own f =
+event-stays h c w entries few k x own f =
     by-handed h c w
     (λ a v. ((r : RecoveryReply) (tokens words aborted bytes : List ℕ) → c ≡ Reply (ToRecovery r tokens words aborted bytes) → endsBy a ≡ false) → Kept w v) f
-    (λ first bus area n. let e = stays (world (w .session) bus (w .store) area) entries k x own c first n in (ap (λ (v : World). v .session) e, ap (λ (v : World). v .store) e))
+    (λ first bus area n. let e = stays (world (w .session) bus (w .store) area) entries few k x own c first n in (ap (λ (v : World). v .session) e, ap (λ (v : World). v .store) e))
     (λ n. (refl, refl))
 
-waits-on : (es : List Event) (w : World) (entries : List Entry) → Led (w .store .rows) entries → (x : Recovery) → InFlightIs w x → Follows es → Unended w es
+waits-on : (es : List Event) (w : World) (entries : List Entry) → count isHeld (w .store .rows) ≤ 128 → Led (w .store .rows) entries → (x : Recovery) → InFlightIs w x → Follows es → Unended w es
     → Kept w (endOf w es)
-waits-on [] w entries k x own f n = (refl, refl)
-waits-on (e ∷ es) w entries k x own f n =
+waits-on [] w entries few k x own f n = (refl, refl)
+waits-on (e ∷ es) w entries few k x own f n =
     let v : World = leftBy (e .handed) (e .call) w in
-    let one = event-stays (e .handed) (e .call) w entries k x own (f .0)
+    let one = event-stays (e .handed) (e .call) w entries few k x own (f .0)
     (λ r tokens words aborted bytes is. ap (λ (c : Call). endsBy (answerTo w (record { call = c; handed = e .handed }))) is
     ∙ n [] es (e .handed) r tokens words aborted bytes (ap (λ (c : Call). record { call = c; handed = e .handed } ∷ es) is)) in
-    let rest = waits-on es v entries (subst (λ (s : Store). Led (s .rows) entries) (sym (one .1)) k) x
+    let rest = waits-on es v entries (subst (λ (s : Store). count isHeld (s .rows) ≤ 128) (sym (one .1)) few) (subst (λ (s : Store). Led (s .rows) entries) (sym (one .1)) k) x
     (ap (λ (s : Session). s .«in_flight») (one .0) ∙ own) (f .1)
     (λ before after h r tokens words aborted bytes is. n (e ∷ before) after h r tokens words aborted bytes (ap (λ (l : List Event). e ∷ l) is)) in
     (rest .0 ∙ one .0, rest .1 ∙ one .1)
@@ -141,7 +143,7 @@ module _ (o : Opening) (w : World) (pass : stepOf (Open o) w .result .answer ≡
   start-unchanged a follows fresh unended =
       let e : Event = claim.starts q id h in
       let j : Journal = journalOf (historyOf start before) blank in
-      let run = run-kept before start blank (o .session ∷ []) (opened-holds o w pass) (follows-front before (e ∷ more) follows) (fresh-front (o .session ∷ []) before (e ∷ more) fresh) in
+      let run = run-kept before start blank (o .session ∷ []) (sound-open o w pass) (opened-holds o w pass) (follows-front before (e ∷ more) follows) (fresh-front (o .session ∷ []) before (e ∷ more) fresh) in
       let one = by-handed h (Begin (Recover id q)) mid (λ y v. y ≡ answer.Recovering x → (v .store ≡ mid .store) × InFlightIs v x) (follows-at before more e follows)
       (λ first bus area y.
       let v = world (mid .session) bus (mid .store) area in
@@ -149,6 +151,7 @@ module _ (o : Opening) (w : World) (pass : stepOf (Open o) w .result .answer ≡
       (begin-kept (mid .session) j (run .0) (mid .store) (run .1) (rowsFitIn v) id q .agree) in
       (refl, sym (begin-names (mid .session) j (run .0) (mid .store) (run .1) x (rowsFitIn v) id q y ∙ agree)))
       (λ y. let z : _≡_ {A = ℕ} 0 1 = cc in absurd (omega arith)) a in
-      let rest = waits-on more (leftBy h (Begin (Recover id q)) mid) (j .entries) (subst (λ (s : Store). Led (s .rows) (j .entries)) (sym (one .0)) (run .1 .led)) x (one .1)
+      let rest = waits-on more (leftBy h (Begin (Recover id q)) mid) (j .entries)
+      (subst (λ (s : Store). count isHeld (s .rows) ≤ 128) (sym (one .0)) (sound-run o w before pass (follows-front before (e ∷ more) follows) .held)) (subst (λ (s : Store). Led (s .rows) (j .entries)) (sym (one .0)) (run .1 .led)) x (one .1)
       (follows-on before more e follows) unended in
       ap (λ (v : World). v .store .rows) (end-append start before (e ∷ more)) ∙ ap (λ (s : Store). s .rows) (rest .1 ∙ one .0)

@@ -1,5 +1,5 @@
 -- A reply's entries, applied to rows and to entries of the journal alike: by induction over them. Assumes nothing.
-use Prim.Native.Nat.{ℕ, _+_, _*_, _≤_, _<_}
+use Prim.Native.Nat.{ℕ, _+_, _*_, _<_}
 use mathlib.Core.Path.{_≡_, refl, sym, ap, _∙_, subst}
 use mathlib.Core.Bool.{Bool, true, false, cond, not, _&&_, _||_, true≢false, false≢true}
 use mathlib.Core.List.{List, [], _∷_, _++_}
@@ -11,7 +11,6 @@ use borrow.Author.Tests.{eq-eqb}
 use Rattle.chain.specs.Chain.{_if_else_}
 use Rattle.chain.specs.Lists.{count}
 use Rattle.chain.proofs.Chain.{both}
-use Rattle.chain.proofs.Lists.{sum-set}
 use Rattle.models.specs.Requests.{deviceMayAccess, isUncertainFailure}
 use Rattle.models.specs.declared.BackendCompletion.{BackendCompletion}
 use Rattle.models.specs.declared.RequestId.{RequestId}
@@ -36,7 +35,7 @@ use Rattle.runs.proofs.Held.{or-false}
 use Rattle.runs.proofs.Ids.{same-self}
 use Rattle.history.specs.Journal.{Entry, isEntry, entryOf, atEntry, release, ReleasedTo, releasedTo, completesBy, goesOn, completesAll, abortsAll, abortedAfter, releasesAll, View}
 use Rattle.history.specs.Claim.{rowView}
-use Rattle.history.proofs.Led.{rowW, each, Led, Changed, led-at, ids-kept, entry-is}
+use Rattle.history.proofs.Led.{Led, Changed, led-at, ids-kept, entry-is}
 use Rattle.history.proofs.Changes.{settle-change}
 use Rattle.runs.proofs.Tokens.{tokensIn, Each, Distinct, distinct-last}
 
@@ -52,11 +51,10 @@ LateBy verdict.Pass = Unit {0}
 pub record Kept (rows : List Row) (entries : List Entry) (rows′ : List Row) (entries′ : List Entry) : Type 0 where
   pub led : Led rows′ entries′
   pub ids : (x : RequestId) → count (isEntry x) entries′ ≡ count (isEntry x) entries
-  pub fewer : count isHeld rows′ ≤ count isHeld rows
 
 kept-on : (rows : List Row) (entries : List Entry) (rows′ : List Row) (entries′ : List Entry) (rows″ : List Row) (entries″ : List Entry)
     → Kept rows entries rows′ entries′ → Kept rows′ entries′ rows″ entries″ → Kept rows entries rows″ entries″
-kept-on rows entries rows′ entries′ rows″ entries″ a b = record { led = b .led; ids = λ x. b .ids x ∙ a .ids x; fewer = omega (arith, a .fewer, b .fewer) }
+kept-on rows entries rows′ entries′ rows″ entries″ a b = record { led = b .led; ids = λ x. b .ids x ∙ a .ids x }
 
 module _ (place : ℕ → ℕ) (view : ℕ → View) where
   -- the row that a token means is held, and is what the journal's entry says
@@ -108,7 +106,6 @@ module _ (place : ℕ → ℕ) (view : ℕ → View) where
     release-kept s h = record {
       led = led-at rows entries k (view t .id) (place t) (a .below) hit (withState (rowIn rows (place t)) s) release (changed s h);
       ids = ids-kept rows entries k (view t .id) (place t) (a .below) hit (withState (rowIn rows (place t)) s) release (changed s h);
-      fewer = omega (arith, sum-set (rowW each) rows (place t) (withState (rowIn rows (place t)) s) emptyRow (a .below), changed s h .few);
     }
 
   -- ---- one entry of the reply: refused on both sides, or a row changed and its entry released
@@ -160,7 +157,7 @@ module _ (place : ℕ → ℕ) (view : ℕ → View) where
   abort-kept : (ts : List ℕ) (store : Store) (entries : List Entry) → Led (store .rows) entries → Distinct ts → AllReady (store .rows) ts
       → Kept (store .rows) entries (abortAll place ts store .store .rows) (abortsAll view ts entries) × (abortAll place ts store .verdict ≡ verdict.Pass)
   unfolding abortOne abortedBy changeRow abortConfirmed moved putIn _if_else_ isHeld
-  abort-kept [] store entries k d a = (record { led = k; ids = λ x. refl; fewer = omega arith }, refl)
+  abort-kept [] store entries k d a = (record { led = k; ids = λ x. refl }, refl)
   abort-kept (t ∷ ts) store entries k d a =
       let row : Row = rowIn (store .rows) (place t) in
       let h : deviceMayAccess (row .state) ≡ true = both (row .used) (deviceMayAccess (row .state)) (a .0 .held) .1 in
@@ -170,7 +167,7 @@ module _ (place : ℕ → ℕ) (view : ℕ → View) where
       rw h (kept-on (store .rows) entries (next .rows) (atEntry (view t .id) release entries) _ _ one (rest .0), rest .1)
 
   kept-same : (rows : List Row) (entries : List Entry) → Led rows entries → Kept rows entries rows entries
-  kept-same rows entries k = record { led = k; ids = λ x. refl; fewer = omega arith }
+  kept-same rows entries k = record { led = k; ids = λ x. refl }
 
   -- both refused, or both through, with the tokens that are left still ready
   abbrev After : List ℕ → List Row → List Entry → Verdict → List Row → ReleasedTo → Type 0
