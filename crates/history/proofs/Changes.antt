@@ -6,7 +6,7 @@ use mathlib.Core.List.{List, [], _∷_}
 use native.Mathlib.Nat.{le-refl}
 use native.Mathlib.Omega.{arith}
 use lib.Dec.{ltb}
-use lib.ListN.{length, getD, set, replicate}
+use lib.ListN.{length, set, replicate}
 use Rattle.chain.specs.Lists.{sumBy, only, count, mapAt}
 use Rattle.chain.proofs.Chain.{caseB, both}
 use Rattle.chain.proofs.Lists.{sum-set, count-keeps}
@@ -16,7 +16,7 @@ use Rattle.models.specs.declared.RequestId.{RequestId}
 use Rattle.models.specs.declared.RequestMetadata.{RequestMetadata}
 use Rattle.models.specs.declared.RequestState.{RequestState}
 use Rattle.models.specs.declared.RequestState.the-variants.{Pending, Completed, Failed, Aborted}
-use Rattle.rows.specs.Table.{emptyRow, isHeld}
+use Rattle.rows.specs.Table.{emptyRow, isHeld, rowIn}
 use Rattle.rows.specs.declared.Row.{Row}
 use Rattle.ledger.specs.Search.{isAt}
 use Rattle.ledger.specs.Rules.{pendingRow, withState, flagged}
@@ -174,12 +174,12 @@ latest-entry x d endpoint requested l = rw (same-self x)
 
 -- ---- a new row and its entry
 module _ (rows : List Row) (entries : List Entry) (k : Led rows entries) (x : RequestId) (m : RequestMetadata) (i : ℕ) (lt : i < length rows)
-    (free : getD rows i emptyRow .used ≡ false) (new : count (isEntry x) entries ≡ 0) where
+    (free : rowIn rows i .used ≡ false) (new : count (isEntry x) entries ≡ 0) where
   abbrev begun : Row
   begun = pendingRow x m
 
   pub sum-new : (f : Row → ℕ) → ((r : Row) → r .used ≡ false → f r ≡ 0) → sumBy f (set rows i begun) ≡ sumBy f rows + f begun
-  sum-new f z = omega (arith, sum-set f rows i begun emptyRow lt, z (getD rows i emptyRow) free)
+  sum-new f z = omega (arith, sum-set f rows i begun emptyRow lt, z (rowIn rows i) free)
 
   begun-held : isHeld begun ≡ true
   unfolding isHeld pendingRow

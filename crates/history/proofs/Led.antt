@@ -6,12 +6,12 @@ use mathlib.Core.Bool.{Bool, true, false, cond, _&&_}
 use mathlib.Core.List.{List}
 use native.Mathlib.Omega.{arith}
 use lib.Dec.{ltb}
-use lib.ListN.{length, getD, set}
+use lib.ListN.{length, set}
 use Rattle.chain.specs.Lists.{sumBy, only, count, find}
 use Rattle.chain.proofs.Lists.{sum-eq, sum-set, sum-one, count-pos, find-hit, find-some}
 use Rattle.models.specs.Requests.{deviceMayAccess, sameRequest}
 use Rattle.models.specs.declared.RequestId.{RequestId}
-use Rattle.rows.specs.Table.{emptyRow, isHeld}
+use Rattle.rows.specs.Table.{emptyRow, isHeld, rowIn}
 use Rattle.rows.specs.declared.Row.{Row}
 use Rattle.ledger.specs.Search.{isAt}
 use Rattle.history.specs.Journal.{Entry, isOpen, isEntry, entryOf, atEntry, noEntry, View, entryView}
@@ -77,18 +77,18 @@ row-none w r e = rw e
 
 -- ---- the row of an id, where it is in the store, and its entry
 module _ (rows : List Row) (entries : List Entry) (k : Led rows entries) (x : RequestId) (i : ℕ) (lt : i < length rows)
-    (hit : isAt x (getD rows i emptyRow) ≡ true) where
+    (hit : isAt x (rowIn rows i) ≡ true) where
   pub lone : count (isAt x) rows ≤ 1
   lone = omega (arith, k .known x, k .once x)
 
-  rows-at : (w : View → ℕ) → sumBy (rowW (at x w)) rows ≡ rowW w (getD rows i emptyRow)
+  rows-at : (w : View → ℕ) → sumBy (rowW (at x w)) rows ≡ rowW w (rowIn rows i)
   rows-at w = sum-eq (rowW (at x w)) (only (isAt x) (rowW w)) rows (row-at x w) ∙ sum-one (isAt x) (rowW w) rows i emptyRow lt hit lone
 
   pub known-in : find (isEntry x) entries < length entries
   known-in = find-some (isEntry x) entries (omega (arith, k .known x, count-pos (isAt x) rows i emptyRow lt hit))
 
   -- what the entry of a row says is what the row says
-  pub entry-is : (w : View → ℕ) → entryW w (entryOf x entries) ≡ rowW w (getD rows i emptyRow)
+  pub entry-is : (w : View → ℕ) → entryW w (entryOf x entries) ≡ rowW w (rowIn rows i)
   entry-is w =
       sym (sum-one (isEntry x) (entryW w) entries (find (isEntry x) entries) noEntry known-in (find-hit (isEntry x) entries noEntry known-in) (k .once x))
       ∙ sum-eq (only (isEntry x) (entryW w)) (entryW (at x w)) entries (λ e. sym (entry-at x w e))
@@ -102,8 +102,8 @@ pub record Changed (r r′ : Row) (e e′ : Entry) : Type 0 where
   pub single : twice e′ ≡ false
 
 module _ (rows : List Row) (entries : List Entry) (k : Led rows entries) (x : RequestId) (i : ℕ) (lt : i < length rows)
-    (hit : isAt x (getD rows i emptyRow) ≡ true) (r′ : Row) (f : Entry → Entry)
-    (c : Changed (getD rows i emptyRow) r′ (entryOf x entries) (f (entryOf x entries))) where
+    (hit : isAt x (rowIn rows i) ≡ true) (r′ : Row) (f : Entry → Entry)
+    (c : Changed (rowIn rows i) r′ (entryOf x entries) (f (entryOf x entries))) where
   abbrev place : ℕ
   place = find (isEntry x) entries
 
@@ -130,7 +130,7 @@ pub record Alike (r r′ : Row) : Type 0 where
   pub row-id : (x : RequestId) → only (isAt x) (λ y. 1) r′ ≤ only (isAt x) (λ y. 1) r
 
 module _ (rows : List Row) (entries : List Entry) (k : Led rows entries) (i : ℕ) (lt : i < length rows) (r′ : Row)
-    (c : Alike (getD rows i emptyRow) r′) where
+    (c : Alike (rowIn rows i) r′) where
   pub led-set : Led (set rows i r′) entries
   led-set = record {
     same = λ w. omega (arith, sum-set (rowW w) rows i r′ emptyRow lt, c .weight w, k .same w);

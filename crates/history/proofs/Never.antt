@@ -41,7 +41,7 @@ use Rattle.runs.specs.Run.{Handed, Event, next, endOf, answerTo, Handing, Follo
 use Rattle.runs.proofs.Ids.{at-used}
 use Rattle.history.specs.Journal.{Entry, blank, refusalNumber, endsBy}
 use Rattle.history.specs.Claim.{starts}
-use Rattle.runs.specs.Sound.{rowAt, Sound}
+use Rattle.runs.specs.Sound.{worldRow, Sound}
 use Rattle.runs.proofs.Handings.{by-handed}
 use Rattle.history.proofs.Led.{Led}
 use Rattle.history.proofs.Affects.{allOf, affected-all}
@@ -66,7 +66,7 @@ module _ (w : World) (k : Sound w) where
   unfolding begunAs
   never-44 fits id q =
       begin-all (w .session) id q (w .store .rows) Begins (λ n e. e)
-      (λ i h e m. absurd (true≢false (ap not (sym m) ∙ full w k i h (at-used id (rowAt w i) e)))) (λ i h e a m. refl) fits
+      (λ i h e m. absurd (true≢false (ap not (sym m) ∙ full w k i h (at-used id (worldRow w i) e)))) (λ i h e a m. refl) fits
 
 -- ---- 43: a token of a reply in scope means a held row until its own entry
 module _ (s : Session) (store : Store) (entries : List Entry) (few : count isHeld (store .rows) ≤ 128) (k : Led (store .rows) entries)

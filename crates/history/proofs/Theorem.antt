@@ -116,10 +116,10 @@ module _ (rows : List Row) (entries : List Entry) (k : Led rows entries) where
       (λ e. let h = ltb-false 0 (count (isEntry x) entries) e in omega (arith, sum-none (isEntry x) (λ y. y .releases) entries (omega arith)))
 
   -- the row of an id that is not held has an entry with one release
-  pub unheld-once : (x : RequestId) (i : ℕ) → i < length rows → isAt x (getD rows i emptyRow) ≡ true → isHeld (getD rows i emptyRow) ≡ false → releasesOf x entries ≡ 1
+  pub unheld-once : (x : RequestId) (i : ℕ) → i < length rows → isAt x (rowIn rows i) ≡ true → isHeld (rowIn rows i) ≡ false → releasesOf x entries ≡ 1
   unheld-once x i lt hit free =
       let h = known-in rows entries k x i lt hit in
-      let z : entryW each (entryOf x entries) ≡ 0 = entry-is rows entries k x i lt hit each ∙ row-none each (getD rows i emptyRow) free in
+      let z : entryW each (entryOf x entries) ≡ 0 = entry-is rows entries k x i lt hit each ∙ row-none each (rowIn rows i) free in
       omega (arith, entry-releases x h, at-most (find (isEntry x) entries) h, go (entryOf x entries .releases) z)
     where
       go : (n : ℕ) → cond {A = ℕ} (isNone n) 1 0 ≡ 0 → 1 ≤ n

@@ -33,7 +33,7 @@ use Rattle.polls.specs.declared.PollReply.{PollReply}
 use Rattle.polls.specs.declared.PollReply.the-variants as reply
 use Rattle.polls.specs.declared.finish.Judgement.{Judgement}
 use Rattle.calls.specs.Step.{World, world}
-use Rattle.runs.specs.Sound.{rowAt, FlightReady, Sound}
+use Rattle.runs.specs.Sound.{worldRow, FlightReady, Sound}
 use Rattle.runs.proofs.Moves.{Moves, Idle, stays, marked-moves, effect-moves, moves-on, marked-idle, effect-idle, marked-apart}
 use Rattle.runs.proofs.Rows.{Leads, kept, moved-idle, changed-certain, changed-uncertain}
 use Rattle.runs.proofs.Rules.{StepSound, StepCertain, complete-step, fail-step, quiet-step}
@@ -112,7 +112,7 @@ abbrev pub FinishedSound : World → FinishTo → Type 0
 FinishedSound w o = Leads w (world (o .result .session) (w .bus) (o .store) (o .area))
 
 -- the row that was polled; the controller is Initialized
-module _ (w : World) (k : Sound w) (ready : isInitialized (w .session .state) ≡ true) (i : ℕ) (h : i < length (w .store .rows)) (u : rowAt w i .used ≡ true)
+module _ (w : World) (k : Sound w) (ready : isInitialized (w .session .state) ≡ true) (i : ℕ) (h : i < length (w .store .rows)) (u : worldRow w i .used ≡ true)
     (at room : ℕ) (bytes area : List ℕ) where
   abbrev idle : Session
   idle = withFlight (w .session) flight.Nothing
@@ -121,7 +121,7 @@ module _ (w : World) (k : Sound w) (ready : isInitialized (w .session .state) �
   idle-moves = stays (w .session)
 
   settled-sound : (m : Step) (j : Judgement) → Moves (w .session) (j .session) → Idle (j .session)
-      → StepCertain (rowAt w i) m ⊎ (StepSound (rowAt w i) m × (isInitialized (j .session .state) ≡ false))
+      → StepCertain (worldRow w i) m ⊎ (StepSound (worldRow w i) m × (isInitialized (j .session .state) ≡ false))
       → FinishedSound w (settled m j idle i at room bytes (w .store) area)
   unfolding settled
   settled-sound (step.Refused x) j m d c = moved-idle w k idle idle-moves (w .bus) area refl
@@ -134,14 +134,14 @@ module _ (w : World) (k : Sound w) (ready : isInitialized (w .session .state) �
   by-reply (reply.Error e) =
       moved-idle w k (effect e idle) (moves-on (w .session) idle (effect e idle) idle-moves (effect-moves e idle)) (w .bus) area (effect-idle e idle refl)
   by-reply (reply.Completion c) =
-      let j = judged idle (rowAt w i) c (length bytes) in
-      let d = judged-sound idle refl (rowAt w i) c (length bytes) in
-      settled-sound (changeRow (rowAt w i) (j .change)) j (moves-on (w .session) idle (j .session) idle-moves (d .moves)) (d .idle) (d .step)
+      let j = judged idle (worldRow w i) c (length bytes) in
+      let d = judged-sound idle refl (worldRow w i) c (length bytes) in
+      settled-sound (changeRow (worldRow w i) (j .change)) j (moves-on (w .session) idle (j .session) idle-moves (d .moves)) (d .idle) (d .step)
 
 pub finish-sound : (w : World) → Sound w → (x : PollReply) (bytes : List ℕ) (fits : Bool) → FinishedSound w (finishOf (w .session) fits x bytes (w .store) (w .area))
 finish-sound w k x bytes fits =
     finish-all (w .session) x bytes (w .store) (w .area) (FinishedSound w) (kept w k) (kept w k)
     (λ id own i h e.
-    by-reply w k (subst (λ (g : InFlight). FlightReady g (w .session .state)) own (k .ready)) i h (at-used id (rowAt w i) e)
+    by-reply w k (subst (λ (g : InFlight). FlightReady g (w .session .state)) own (k .ready)) i h (at-used id (worldRow w i) e)
     (i * w .session .«row_bytes») (w .session .«row_bytes») bytes (w .area) x)
     fits

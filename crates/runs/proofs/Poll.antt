@@ -6,7 +6,7 @@ use Rattle.session.specs.declared.InFlight.the-variants as flight
 use Rattle.polls.specs.Poll.{pollOf}
 use Rattle.polls.specs.declared.Polled.{Polled}
 use Rattle.calls.specs.Step.{World, world}
-use Rattle.runs.specs.Sound.{rowAt, Sound}
+use Rattle.runs.specs.Sound.{worldRow, Sound}
 use Rattle.runs.proofs.Moves.{stays}
 use Rattle.runs.proofs.Rows.{Leads, kept, moved}
 use Rattle.runs.proofs.Ids.{at-own, at-used}
@@ -20,5 +20,5 @@ poll-sound w k id fits =
     poll-all (w .session) id (w .store .rows) (PolledSound w) (λ x. kept w k) (λ i. kept w k)
     (λ i h e p r.
     moved w k (withFlight (w .session) (flight.Poll id)) (stays (w .session)) (w .bus) (w .area)
-    (record { index = i; below = h; used = at-used id (rowAt w i) e; own = at-own id (rowAt w i) e; state-is = p }) r)
+    (record { index = i; below = h; used = at-used id (worldRow w i) e; own = at-own id (worldRow w i) e; state-is = p }) r)
     fits

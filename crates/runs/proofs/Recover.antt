@@ -6,7 +6,7 @@ use mathlib.Core.Path.{_≡_, refl, sym, ap, _∙_}
 use native.Mathlib.Omega.{arith}
 use borrow.Author.Tests.{eqb-true, eqb-false, not-true, ltb-false}
 use lib.Dec.{eqb, ltb}
-use lib.ListN.{length, getD, set, take, drop, length-set}
+use lib.ListN.{length, set, take, drop, length-set}
 use lib.Seq.{getD-set-same, getD-set-other}
 use Rattle.chain.specs.Lists.{count, anyIn}
 use Rattle.chain.proofs.Chain.{caseB, if-by, and3}
@@ -49,7 +49,7 @@ use Rattle.recovery.specs.declared.Outcome.{Outcome}
 use Rattle.recovery.specs.declared.Recovery.{Recovery}
 use Rattle.recovery.specs.declared.RecoveryReply.{RecoveryReply}
 use Rattle.calls.specs.Step.{World, world}
-use Rattle.runs.specs.Sound.{rowAt, FlightReady, Sound}
+use Rattle.runs.specs.Sound.{worldRow, FlightReady, Sound}
 use Rattle.runs.proofs.Tokens.{tokensIn, Each, each-last, scope-each}
 use Rattle.runs.proofs.Moves.{Idle, stays, marked-moves, marked-idle}
 use Rattle.runs.proofs.Rows.{Leads, kept, moved, moved-idle, changed-certain}
@@ -72,15 +72,15 @@ unfolding begunAs
 begin-sound w k fits id q =
     begin-all (w .session) id q (w .store .rows) (BegunSound w) (λ n e. kept w k) (λ i h e m. kept w k)
     (λ i h e a m.
-    moved w k (withFlight (w .session) (flight.Recovery id (rowAt w i .metadata .device) (rowAt w i .metadata .endpoint) q)) (stays (w .session)) (w .bus) (w .area)
-    (record { index = i; below = h; held = access-held id (rowAt w i) e a; own = at-own id (rowAt w i) e; of-device = refl; of-endpoint = refl }) m)
+    moved w k (withFlight (w .session) (flight.Recovery id (worldRow w i .metadata .device) (worldRow w i .metadata .endpoint) q)) (stays (w .session)) (w .bus) (w .area)
+    (record { index = i; below = h; held = access-held id (worldRow w i) e a; own = at-own id (worldRow w i) e; of-device = refl; of-endpoint = refl }) m)
     fits
 
 -- ---- the entries
 module _ (place : ℕ → ℕ) where
   -- the row that a token means is used
   abbrev pub Used : List Row → ℕ → Type 0
-  Used rows t = (place t < length rows) × (getD rows (place t) emptyRow .used ≡ true)
+  Used rows t = (place t < length rows) × (rowIn rows (place t) .used ≡ true)
 
   abbrev pub AllUsed : List Row → List ℕ → Type 0
   AllUsed rows ts = Each (Used rows) ts
@@ -91,7 +91,7 @@ module _ (place : ℕ → ℕ) where
     (
       omega (arith, a .0 .0, length-set rows i q),
       caseB (eqb (place t) i)
-          (λ e. let z = eqb-true (place t) i e in ap (λ (r : Row). r .used) (ap (λ (n : ℕ). getD (set rows i q) n emptyRow) z ∙ getD-set-same rows i q emptyRow h) ∙ u)
+          (λ e. let z = eqb-true (place t) i e in ap (λ (r : Row). r .used) (ap (λ (n : ℕ). rowIn (set rows i q) n) z ∙ getD-set-same rows i q emptyRow h) ∙ u)
           (λ e. ap (λ (r : Row). r .used) (getD-set-other rows i (place t) q emptyRow (eqb-false (place t) i e)) ∙ a .0 .1),
     ),
     used-after rows i q h u ts (a .1),
@@ -101,9 +101,9 @@ module _ (place : ℕ → ℕ) where
     pub leads : Leads v (world (v .session) (v .bus) store area)
     pub used : AllUsed (store .rows) us
 
-  module _ (v : World) (k : Sound v) (idle : Idle (v .session)) (i : ℕ) (h : i < length (v .store .rows)) (u : rowAt v i .used ≡ true) (us : List ℕ)
+  module _ (v : World) (k : Sound v) (idle : Idle (v .session)) (i : ℕ) (h : i < length (v .store .rows)) (u : worldRow v i .used ≡ true) (us : List ℕ)
       (a : AllUsed (v .store .rows) us) where
-    stepped : (m : Step) → StepCertain (rowAt v i) m → StepUsed (rowAt v i) m → (at room : ℕ) (bytes : List ℕ)
+    stepped : (m : Step) → StepCertain (worldRow v i) m → StepUsed (worldRow v i) m → (at room : ℕ) (bytes : List ℕ)
         → Walked v (rowCompletedBy m i at room bytes (v .store) (v .area) .store) (rowCompletedBy m i at room bytes (v .store) (v .area) .area) us
     unfolding rowCompletedBy putIn
     stepped (step.Refused x) c s at room bytes = record { leads = kept v k; used = a }
@@ -112,20 +112,20 @@ module _ (place : ℕ → ℕ) where
       used = used-after (v .store .rows) i q h (s ∙ u) us a;
     }
 
-    tested : (p : CompletionTest) → TestSound (rowAt v i .metadata .«requested_length») p → (c : BackendCompletion) (at room : ℕ) (bytes : List ℕ)
+    tested : (p : CompletionTest) → TestSound (worldRow v i .metadata .«requested_length») p → (c : BackendCompletion) (at room : ℕ) (bytes : List ℕ)
         → Walked v (testedBy p (c .«completion_code») i at room bytes (v .store) (v .area) .store) (testedBy p (c .«completion_code») i at room bytes (v .store) (v .area) .area) us
     unfolding testedBy
     tested test.MissingLength t c at room bytes = record { leads = kept v k; used = a }
     tested test.Invalid t c at room bytes = record { leads = kept v k; used = a }
     tested (test.Valid actual n) t c at room bytes =
-        stepped (changeRow (rowAt v i) (change.Complete actual n)) (complete-step (rowAt v i) actual n (t .0) (t .1)) (complete-used (rowAt v i) actual n) at room bytes
+        stepped (changeRow (worldRow v i) (change.Complete actual n)) (complete-step (worldRow v i) actual n (t .0) (t .1)) (complete-used (worldRow v i) actual n) at room bytes
 
     completed-one : (c : BackendCompletion) (at room : ℕ) (bytes : List ℕ)
         → Walked v (completeOne i at room c bytes (v .store) (v .area) .store) (completeOne i at room c bytes (v .store) (v .area) .area) us
     unfolding completeOne
-    completed-one c at room bytes = tested _ (test-sound c (length bytes) (rowAt v i .metadata .«requested_length»)) c at room bytes
+    completed-one c at room bytes = tested _ (test-sound c (length bytes) (worldRow v i .metadata .«requested_length»)) c at room bytes
 
-    aborted-by : (m : Step) → StepCertain (rowAt v i) m → StepUsed (rowAt v i) m → Walked v (abortedBy m i (v .store) .store) (v .area) us
+    aborted-by : (m : Step) → StepCertain (worldRow v i) m → StepUsed (worldRow v i) m → Walked v (abortedBy m i (v .store) .store) (v .area) us
     unfolding abortedBy putIn
     aborted-by (step.Refused x) c s = record { leads = kept v k; used = a }
     aborted-by (step.To q x) c s = record {
@@ -135,7 +135,7 @@ module _ (place : ℕ → ℕ) where
 
     aborted-one : Walked v (abortOne i (v .store) .store) (v .area) us
     unfolding abortOne
-    aborted-one = aborted-by (changeRow (rowAt v i) change.ConfirmAbort) (abort-step (rowAt v i)) (abort-used (rowAt v i))
+    aborted-one = aborted-by (changeRow (worldRow v i) change.ConfirmAbort) (abort-step (worldRow v i)) (abort-used (worldRow v i))
 
   abbrev WalkedTo : World → List ℕ → WalkTo → Type 0
   WalkedTo v us o = Walked v (o .store) (o .area) us

@@ -28,7 +28,7 @@ use Rattle.session.specs.declared.Session.{Session}
 use Rattle.submissions.specs.Begin.{newId, beginBy}
 use Rattle.submissions.specs.Submit.{SubmitTo, submittedBy, submittedTo, submitOf, PlanTo, planStarted, plannedTo, submitPlanOf}
 use Rattle.calls.specs.Step.{World, world}
-use Rattle.runs.specs.Sound.{RowSound, rowAt, FlightSound, isBare, Sound}
+use Rattle.runs.specs.Sound.{RowSound, worldRow, FlightSound, isBare, Sound}
 use Rattle.runs.proofs.Moves.{Moves}
 use Rattle.runs.proofs.Rows.{Leads, kept, one, same, put}
 use Rattle.runs.proofs.Stages.{submit-all, plan-all, target-all}
@@ -58,7 +58,7 @@ module _ (w : World) (k : Sound w) (i : ℕ) (h : i < length (w .store .rows)) (
   row-own = record { session = refl; generation = refl; below = later; fits = fits; state = (refl, refl) }
 
   -- every other request has a lower sequence number
-  alone : (j : ℕ) → j < length (w .store .rows) → rowAt w j .used ≡ true → own .used ≡ true → rowAt w j .id ≡ own .id → j ≡ i
+  alone : (j : ℕ) → j < length (w .store .rows) → worldRow w j .used ≡ true → own .used ≡ true → worldRow w j .id ≡ own .id → j ≡ i
   unfolding pendingRow
   alone j g u v e =
       let l = k .rows j g u .below in
