@@ -79,7 +79,7 @@ use Rattle.calls.specs.declared.Answer.{Answer}
 use Rattle.calls.specs.declared.Answer.the-variants as answer
 use Rattle.runs.specs.Run.{Event, own, other, Answered, next, endOf, historyOf}
 use Rattle.history.specs.Journal.{Entry, journalStep}
-use Rattle.history.specs.Claim.{calls, rowsAfter, entriesAfter, recovers, Different, Recovered, Claim}
+use Rattle.history.specs.Claim.{calls, rowsAfter, entriesAfter, returns, Different, Recovered, Claim}
 use Rattle.history.proofs.Theorem.{history-claim}
 
 -- two rows of 8 bytes, one port
@@ -188,14 +188,14 @@ front =
     ∷ calls (asks 8) ∷ calls (Reply (ToSubmit (submit.Token 7)))
     ∷ calls (asks 4) ∷ calls (Reply (ToSubmit (submit.Token 9)))
     ∷ calls (Begin (Recover (id 0) kind.Abort)) ∷ calls (Read HeldCount) ∷ calls (Change (id 1) Timeout)
-    ∷ recovers whole (9 ∷ []) completion (7 ∷ []) (1 ∷ 2 ∷ 3 ∷ 4 ∷ 5 ∷ []) own
+    ∷ returns whole (9 ∷ []) completion (7 ∷ []) (1 ∷ 2 ∷ 3 ∷ 4 ∷ 5 ∷ []) own
     ∷ []
 
 abbrev back : List Event
 back = calls (Change (id 0) Reclaim) ∷ calls (Read HeldCount) ∷ calls (Read HeldBytes) ∷ []
 
 abbrev succeeds : Event
-succeeds = recovers whole (9 ∷ []) completion (7 ∷ []) (1 ∷ 2 ∷ 3 ∷ 4 ∷ []) own
+succeeds = returns whole (9 ∷ []) completion (7 ∷ []) (1 ∷ 2 ∷ 3 ∷ 4 ∷ []) own
 
 abbrev recovery : List Event
 recovery = front ++ (succeeds ∷ back)
@@ -214,7 +214,7 @@ toReset =
     ∷ []
 
 abbrev aborts : Event
-aborts = recovers whole [] [] (7 ∷ []) [] own
+aborts = returns whole [] [] (7 ∷ []) [] own
 
 abbrev toAbort : List Event
 toAbort =

@@ -6,8 +6,8 @@ pub mod Replies
 pub mod Ordered
 pub mod Affects
 pub mod Walks
-pub mod Recovers
-pub mod Keeps
+pub mod Scoped
+pub mod Recovery
 pub mod Steps
 pub mod Counting
 pub mod Sparing

@@ -46,8 +46,8 @@ use Rattle.runs.proofs.Handings.{by-handed}
 use Rattle.history.proofs.Led.{Led}
 use Rattle.history.proofs.Affects.{allOf, affected-all}
 use Rattle.history.proofs.Walks.{LateBy}
-use Rattle.history.proofs.Recovers.{recovered-kept}
-use Rattle.history.proofs.Keeps.{late-numbers, late-43}
+use Rattle.history.proofs.Scoped.{recovered-kept}
+use Rattle.history.proofs.Recovery.{late-numbers, late-43}
 use Rattle.runs.proofs.Rows.{full}
 use Rattle.runs.proofs.Ways.{begin-all, recovery-all}
 use Rattle.runs.proofs.Run.{sound-open, sound-run}

@@ -46,7 +46,7 @@ use Rattle.history.proofs.Changes.{flag-alike, empty-alike}
 use Rattle.history.proofs.Inv.{Inv, marks, quietly, seen-more, closed-again, closed-anew}
 use Rattle.history.proofs.Submits.{submit-kept, plan-kept}
 use Rattle.history.proofs.Replies.{reply-kept, poll-kept, finish-kept}
-use Rattle.history.proofs.Keeps.{begin-kept, recovery-kept}
+use Rattle.history.proofs.Recovery.{begin-kept, recovery-kept}
 
 -- ---- cancel, timeout and reclaim: the row they lead to weighs what it did
 abbrev pub Stays : Row → Step → Type 0

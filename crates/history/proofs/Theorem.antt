@@ -45,7 +45,7 @@ use Rattle.calls.specs.declared.Answer.the-variants as answer
 use Rattle.runs.specs.Run.{Handed, Event, next, answerTo, leftBy, endOf, historyOf, Handing, Follows, numberOf, isNew, noted, Fresh}
 use Rattle.runs.proofs.Held.{and-less, any-count, unheld-row}
 use Rattle.history.specs.Journal.{Entry, Journal, blank, isNone, isOpen, isEntry, noEntry, entryOf, recoveryWaits, journalStep, journalOf, View, entryView}
-use Rattle.history.specs.Claim.{rowView, heldAs, openAs, Agrees, releasesOf, rowsBy, entriesAfter, reclaims, starts, recovers, Recovered, Spared, Claim}
+use Rattle.history.specs.Claim.{rowView, heldAs, openAs, Agrees, releasesOf, rowsBy, entriesAfter, reclaims, starts, returns, Recovered, Spared, Claim}
 use Rattle.runs.proofs.Handings.{by-handed, follows-at, follows-front, fresh-front}
 use Rattle.runs.specs.Sound.{Sound}
 use Rattle.runs.proofs.Rows.{same}
@@ -55,7 +55,7 @@ use Rattle.runs.proofs.Tally.{count-answer, bytes-answer}
 use Rattle.history.proofs.Led.{cond-and, rowW, entryW, each, lengthOf, at, twice, Led, row-none, known-in, entry-is}
 use Rattle.history.proofs.Changes.{none-held, none-at}
 use Rattle.history.proofs.Inv.{Inv, seen-more}
-use Rattle.history.proofs.Keeps.{begin-names}
+use Rattle.history.proofs.Recovery.{begin-names}
 use Rattle.history.proofs.Steps.{step-kept}
 use Rattle.history.proofs.Counting.{refused-3, handed-over}
 use Rattle.history.proofs.Refusing.{refused-untouched}
@@ -225,12 +225,12 @@ module _ (o : Opening) (w : World) (es : List Event) (pass : stepOf (Open o) w .
       (λ a. let z : _≡_ {A = ℕ} 0 1 = cc in absurd (omega arith))
 
   module _ (before after : List Event) (h : Handed) (reply : RecoveryReply) (tokens words aborted bytes : List ℕ)
-      (is : es ≡ before ++ (recovers reply tokens words aborted bytes h ∷ after)) where
+      (is : es ≡ before ++ (returns reply tokens words aborted bytes h ∷ after)) where
     abbrev mid : World
     mid = endOf start before
 
     abbrev ending : Event
-    ending = recovers reply tokens words aborted bytes h
+    ending = returns reply tokens words aborted bytes h
 
     by-reply : (P : Answer → World → Type 0)
         → ((bus : Bus) (area : List ℕ) → P (stepOf (ending .call) (world (mid .session) bus (mid .store) area) .result .answer) (next (stepOf (ending .call) (world (mid .session) bus (mid .store) area))))

@@ -35,10 +35,10 @@ use Rattle.rows.specs.Table.{isHeld}
 use Rattle.runs.proofs.Ways.{recovery-all}
 use Rattle.runs.proofs.Run.{sound-open, sound-run}
 use Rattle.history.specs.Journal.{Entry, Journal, isRecovering, endsBy, recoveryWaits, journalOf, blank}
-use Rattle.history.specs.Claim as claim
+use Rattle.history.specs.Claim.{returns, rowsAfter, starts}
 use Rattle.runs.proofs.Handings.{by-handed, follows-at, follows-front, follows-on, fresh-front}
 use Rattle.history.proofs.Led.{Led}
-use Rattle.history.proofs.Keeps.{begin-kept, begin-names}
+use Rattle.history.proofs.Recovery.{begin-kept, begin-names}
 use Rattle.history.proofs.Never.{scoped-ends}
 use Rattle.history.proofs.Theorem.{opened-holds, run-kept}
 
@@ -88,7 +88,7 @@ module _ (w : World) (entries : List Entry) (few : count isHeld (w .store .rows)
 -- no reply of a recovery ends its operation
 abbrev pub Unended : World → List Event → Type 0
 Unended w es = (before after : List Event) (h : Handed) (r : RecoveryReply) (tokens words aborted bytes : List ℕ)
-    → es ≡ before ++ (claim.recovers r tokens words aborted bytes h ∷ after) → endsBy (answerTo (endOf w before) (claim.recovers r tokens words aborted bytes h)) ≡ false
+    → es ≡ before ++ (returns r tokens words aborted bytes h ∷ after) → endsBy (answerTo (endOf w before) (returns r tokens words aborted bytes h)) ≡ false
 
 -- the session and the rows are the same
 abbrev pub Kept : World → World → Type 0
@@ -134,14 +134,14 @@ module _ (o : Opening) (w : World) (pass : stepOf (Open o) w .result .answer ≡
   mid = endOf start before
 
   abbrev all : List Event
-  all = before ++ (claim.starts q id h ∷ more)
+  all = before ++ (starts q id h ∷ more)
 
   -- the rows after `more` are those before the start
-  pub start-unchanged : answerTo mid (claim.starts q id h) ≡ answer.Recovering x → Follows all → Fresh (o .session ∷ []) all → Unended (leftBy h (Begin (Recover id q)) mid) more
-      → claim.rowsAfter start all ≡ claim.rowsAfter start before
+  pub start-unchanged : answerTo mid (starts q id h) ≡ answer.Recovering x → Follows all → Fresh (o .session ∷ []) all → Unended (leftBy h (Begin (Recover id q)) mid) more
+      → rowsAfter start all ≡ rowsAfter start before
   unfolding stepOf begunOf
   start-unchanged a follows fresh unended =
-      let e : Event = claim.starts q id h in
+      let e : Event = starts q id h in
       let j : Journal = journalOf (historyOf start before) blank in
       let run = run-kept before start blank (o .session ∷ []) (sound-open o w pass) (opened-holds o w pass) (follows-front before (e ∷ more) follows) (fresh-front (o .session ∷ []) before (e ∷ more) fresh) in
       let one = by-handed h (Begin (Recover id q)) mid (λ y v. y ≡ answer.Recovering x → (v .store ≡ mid .store) × InFlightIs v x) (follows-at before more e follows)

@@ -166,8 +166,8 @@ abbrev pub starts : RecoveryKind → RequestId → Handed → Event
 starts q id h = record { call = Begin (Recover id q); handed = h }
 
 -- a recovery's reply
-abbrev pub recovers : RecoveryReply → List ℕ → List ℕ → List ℕ → List ℕ → Handed → Event
-recovers reply tokens words aborted bytes h = record { call = Reply (ToRecovery reply tokens words aborted bytes); handed = h }
+abbrev pub returns : RecoveryReply → List ℕ → List ℕ → List ℕ → List ℕ → Handed → Event
+returns reply tokens words aborted bytes h = record { call = Reply (ToRecovery reply tokens words aborted bytes); handed = h }
 
 pub record Claim (w : World) (es : List Event) : Type 0 where
   pub agrees : (p : View → Bool) → Agrees p (rowsAfter w es) (entriesAfter w es)
@@ -187,18 +187,18 @@ pub record Claim (w : World) (es : List Event) : Type 0 where
       → flight.Recovery (x .target) (x .device) (x .endpoint) (x .kind) ≡ recoveryWaits id q (journalOf (historyOf w before) blank) .waiting
   -- each recovery that succeeded, ready and without an error, the affected tokens all different
   pub recovered : (before after : List Event) (h : Handed) (reply : RecoveryReply) (tokens words aborted bytes : List ℕ)
-      → es ≡ before ++ (recovers reply tokens words aborted bytes h ∷ after) → (x : AbortReport)
-      → answerTo (endOf w before) (recovers reply tokens words aborted bytes h) ≡ answer.Recovered x → x .«restart_ready» ≡ true → hasError (x .error) ≡ false
+      → es ≡ before ++ (returns reply tokens words aborted bytes h ∷ after) → (x : AbortReport)
+      → answerTo (endOf w before) (returns reply tokens words aborted bytes h) ≡ answer.Recovered x → x .«restart_ready» ≡ true → hasError (x .error) ≡ false
       → Different (x .device) (x .endpoint) (rowsAfter w before)
-      → Recovered (x .device) (x .endpoint) tokens words aborted (rowsAfter w before) (rowsBy (endOf w before) (recovers reply tokens words aborted bytes h))
+      → Recovered (x .device) (x .endpoint) tokens words aborted (rowsAfter w before) (rowsBy (endOf w before) (returns reply tokens words aborted bytes h))
   -- whatever a recovery's reply is answered, it changes no row but those that are affected by the operation that, by the history, waits
   pub spared : (before after : List Event) (h : Handed) (reply : RecoveryReply) (tokens words aborted bytes : List ℕ)
-      → es ≡ before ++ (recovers reply tokens words aborted bytes h ∷ after)
-      → Spared (journalOf (historyOf w before) blank .waiting) (rowsAfter w before) (rowsBy (endOf w before) (recovers reply tokens words aborted bytes h))
+      → es ≡ before ++ (returns reply tokens words aborted bytes h ∷ after)
+      → Spared (journalOf (historyOf w before) blank .waiting) (rowsAfter w before) (rowsBy (endOf w before) (returns reply tokens words aborted bytes h))
   -- the report of any recovery is of the operation that, by the history, waited
   pub reported : (before after : List Event) (h : Handed) (reply : RecoveryReply) (tokens words aborted bytes : List ℕ)
-      → es ≡ before ++ (recovers reply tokens words aborted bytes h ∷ after) → (x : AbortReport)
-      → answerTo (endOf w before) (recovers reply tokens words aborted bytes h) ≡ answer.Recovered x
+      → es ≡ before ++ (returns reply tokens words aborted bytes h ∷ after) → (x : AbortReport)
+      → answerTo (endOf w before) (returns reply tokens words aborted bytes h) ≡ answer.Recovered x
       → (q : RecoveryKind) × (journalOf (historyOf w before) blank .waiting ≡ flight.Recovery (x .target) (x .device) (x .endpoint) q)
   -- a refusal by 3 leaves whatever the call was handed as it was
   pub untouched : (c : Call) (v : World) → stepOf c v .result .answer ≡ answer.Refused (refusalOf 3) → next (stepOf c v) ≡ v

@@ -49,7 +49,7 @@ use Rattle.history.proofs.Changes.{view-is}
 use Rattle.history.proofs.Ordered.{view-ext}
 use Rattle.history.proofs.Inv.{Inv, marks, ended, waits-for}
 use Rattle.history.proofs.Walks.{Kept, isLate, LateBy}
-use Rattle.history.proofs.Recovers.{recovered-kept}
+use Rattle.history.proofs.Scoped.{recovered-kept}
 
 -- ---- the session after the entries
 module _ (rows : List Row) (j : Journal) (seen : List ℕ) where
