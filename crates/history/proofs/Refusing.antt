@@ -1,7 +1,7 @@
 -- A refusal by 3 leaves whatever the call was handed as it was. Assumes nothing.
 use Prim.Native.Nat.{ℕ, _*_}
 use mathlib.Core.Bool.{Bool, false, _&&_, false≢true}
-use mathlib.Core.List.{List, [], _∷_}
+use mathlib.Core.List.{List, []}
 use mathlib.Core.Path.{_≡_, refl, sym, ap, _∙_}
 use lib.Dec.{eqb}
 use lib.ListN.{length, take, drop}
@@ -85,9 +85,9 @@ use Rattle.submissions.specs.declared.begin.Start.the-variants as start
 use Rattle.scope.specs.Affected.{affectedOf, tokensOf}
 use Rattle.recovery.specs.Begin as recoveryBegin
 use Rattle.scope.specs.Returned.{Returned, returnedOf}
-use Rattle.recovery.specs.Entries.{WalkTo, rowCompletedBy, testedBy, completeOne, onwardBy, completeAll, AbortTo, abortedBy, abortOne, furtherBy, abortAll}
+use Rattle.recovery.specs.Entries.{WalkTo, rowCompletedBy, testedBy, completeOne, abortedBy, abortOne}
 use Rattle.recovery.specs.Reports.{idLists}
-use Rattle.recovery.specs.Reply.{RecoveredTo, reportOf, abortsAfter, applyAll, concludedBy, scopedOf, recoveryReplyOf}
+use Rattle.recovery.specs.Reply.{RecoveredTo, reportOf, applyAll, concludedBy, scopedOf, recoveryReplyOf}
 use Rattle.scope.specs.Scope.{meant}
 use Rattle.recovery.specs.declared.AbortReport.{AbortReport}
 use Rattle.recovery.specs.declared.Begun.{Begun}
@@ -103,6 +103,7 @@ use Rattle.calls.specs.declared.Answer.the-variants as answer
 use Rattle.runs.specs.Run.{next}
 use Rattle.runs.proofs.Ways.{apply-all, change-all, poll-all, begin-all, reply-all, finish-all, recovery-all}
 use Rattle.runs.proofs.Stages.{submit-all, plan-all}
+use Rattle.runs.proofs.Entries.{Onward, entries-all}
 use Rattle.history.specs.Journal.{refusalNumber}
 
 no : (a : Answer) → eqb (refusalNumber a) 3 ≡ false → a ≡ answer.Refused (refusalOf 3) → ⊥
@@ -292,45 +293,32 @@ unfolding completeOne
 other-one i at room c bytes store area =
     other-test (testCompletion c (length bytes) (rowIn (store .rows) i .metadata .«requested_length»)) (c .«completion_code») i at room bytes store area
 
-other-on : (v : Verdict) (w : WalkTo) (f : Store → List ℕ → WalkTo) → OtherVerdict (w .verdict) → ((s : Store) (a : List ℕ) → OtherVerdict (f s a .verdict)) → OtherVerdict (onwardBy v w f .verdict)
-other-on (verdict.Refused r) w f h k = h
-other-on verdict.Pass w f h k = k (w .store) (w .area)
-
-other-completions : (place : ℕ → ℕ) (room : ℕ) (es : List Returned) (bytes : List ℕ) (store : Store) (area : List ℕ) → OtherVerdict (completeAll place room es bytes store area .verdict)
-other-completions place room [] bytes store area = tt
-other-completions place room (e ∷ es) bytes store area =
-    other-on (completeOne (place (e .token)) (place (e .token) * room) room (e .brought .completion) (take (e .brought .given) bytes) store area .verdict)
-    (completeOne (place (e .token)) (place (e .token) * room) room (e .brought .completion) (take (e .brought .given) bytes) store area)
-    (λ (s : Store) (a : List ℕ). completeAll place room es (drop (e .brought .given) bytes) s a)
-    (other-one (place (e .token)) (place (e .token) * room) room (e .brought .completion) (take (e .brought .given) bytes) store area)
-    (λ s a. other-completions place room es (drop (e .brought .given) bytes) s a)
-
 other-abort : (m : Step) → OtherStep m → (i : ℕ) (store : Store) → OtherVerdict (abortedBy m i store .verdict)
 unfolding abortedBy
 other-abort (step.Refused r) h i store = h
 other-abort (step.To q x) h i store = tt
 
-other-further : (v : Verdict) (w : AbortTo) (f : Store → AbortTo) → OtherVerdict (w .verdict) → ((s : Store) → OtherVerdict (f s .verdict)) → OtherVerdict (furtherBy v w f .verdict)
-other-further (verdict.Refused r) w f h k = h
-other-further verdict.Pass w f h k = k (w .store)
+abbrev All : List Returned → List ℕ → List ℕ → Store → List ℕ → Type 0
+All es ts bytes store area = Unit {0}
 
-other-aborts : (place : ℕ → ℕ) (ts : List ℕ) (store : Store) → OtherVerdict (abortAll place ts store .verdict)
-unfolding abortOne
-other-aborts place [] store = tt
-other-aborts place (t ∷ ts) store =
-    other-further (abortOne (place t) store .verdict) (abortOne (place t) store) (λ (s : Store). abortAll place ts s)
-    (other-abort (changeRow (rowIn (store .rows) (place t)) change.ConfirmAbort) (other-step (rowIn (store .rows) (place t)) change.ConfirmAbort) (place t) store)
-    (λ s. other-aborts place ts s)
+abbrev Other : Verdict → Store → List ℕ → Type 0
+Other v store area = OtherVerdict v
 
-other-after : (v : Verdict) (w : WalkTo) (place : ℕ → ℕ) (ts : List ℕ) → OtherVerdict (w .verdict) → OtherVerdict (abortsAfter v w place ts .verdict)
-unfolding abortsAfter
-other-after (verdict.Refused r) w place ts h = h
-other-after verdict.Pass w place ts h = other-aborts place ts (w .store)
+other-on : (place : ℕ → ℕ) (room : ℕ) (v : Verdict) → OtherVerdict v → (es : List Returned) (ts bytes : List ℕ) (store : Store) (area : List ℕ)
+    → Onward place room All Other v es ts bytes store area
+other-on place room (verdict.Refused r) h es ts bytes store area = h
+other-on place room verdict.Pass h es ts bytes store area = tt
 
 other-all : (place : ℕ → ℕ) (room : ℕ) (es : List Returned) (aborted bytes : List ℕ) (store : Store) (area : List ℕ) → OtherVerdict (applyAll place room es aborted bytes store area .verdict)
-unfolding applyAll
+unfolding abortOne
 other-all place room es aborted bytes store area =
-    other-after (completeAll place room es bytes store area .verdict) (completeAll place room es bytes store area) place aborted (other-completions place room es bytes store area)
+    entries-all place room All Other (λ bytes s x h. tt)
+    (λ e es ts bytes s x h.
+    let one : WalkTo = completeOne (place (e .token)) (place (e .token) * room) room (e .brought .completion) (take (e .brought .given) bytes) s x in
+    other-on place room (one .verdict) (other-one (place (e .token)) (place (e .token) * room) room (e .brought .completion) (take (e .brought .given) bytes) s x) es ts
+    (drop (e .brought .given) bytes) (one .store) (one .area))
+    (λ t ts bytes s x h. other-on place room (abortOne (place t) s .verdict) (other-abort (changeRow (rowIn (s .rows) (place t)) change.ConfirmAbort) (other-step (rowIn (s .rows) (place t)) change.ConfirmAbort) (place t) s) [] ts bytes (abortOne (place t) s .store) x)
+    es aborted bytes store area tt
 
 -- ---- each call
 module _ (w : World) where

@@ -14,6 +14,7 @@ pub mod Finish
 pub mod Stages
 pub mod Submit
 pub mod Lifecycle
+pub mod Entries
 pub mod Recover
 pub mod Run
 pub mod Tally

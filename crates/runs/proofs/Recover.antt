@@ -39,9 +39,9 @@ use Rattle.scope.specs.Affected.{affectedOf, tokensOf}
 use Rattle.scope.specs.Scope.{isIn, meant, inScope}
 use Rattle.scope.specs.Returned.{Returned, returnedOf}
 use Rattle.recovery.specs.Begin.{begunAs, beginOf}
-use Rattle.recovery.specs.Entries.{WalkTo, storedAt, rowCompletedBy, testedBy, completeOne, onwardBy, completeAll, AbortTo, abortedBy, abortOne, furtherBy, abortAll}
+use Rattle.recovery.specs.Entries.{WalkTo, storedAt, rowCompletedBy, testedBy, completeOne, abortedBy, abortOne}
 use Rattle.recovery.specs.Reports.{idLists}
-use Rattle.recovery.specs.Reply.{RecoveredTo, isWhole, isRevision, restoredBy, resetBy, sessionAfter, refusedAfter, abortsAfter, applyAll, reportOf, concludedBy, scopedOf, recoveryReplyOf}
+use Rattle.recovery.specs.Reply.{RecoveredTo, isWhole, isRevision, restoredBy, resetBy, sessionAfter, refusedAfter, applyAll, reportOf, concludedBy, scopedOf, recoveryReplyOf}
 use Rattle.recovery.specs.declared.AbortReport.{AbortReport}
 use Rattle.recovery.specs.declared.Begun.{Begun}
 use Rattle.recovery.specs.declared.Ids.{Ids}
@@ -50,7 +50,7 @@ use Rattle.recovery.specs.declared.Recovery.{Recovery}
 use Rattle.recovery.specs.declared.RecoveryReply.{RecoveryReply}
 use Rattle.calls.specs.Step.{World, world}
 use Rattle.runs.specs.Sound.{worldRow, FlightReady, Sound}
-use Rattle.runs.proofs.Tokens.{tokensIn, Each, each-last, scope-each}
+use Rattle.runs.proofs.Tokens.{tokensIn, Each, scope-each}
 use Rattle.runs.proofs.Moves.{Idle, stays, marked-moves, marked-idle}
 use Rattle.runs.proofs.Rows.{Leads, kept, moved, moved-idle, changed-certain}
 use Rattle.runs.proofs.Rules.{StepCertain, StepUsed, complete-step, complete-used, abort-step, abort-used}
@@ -59,6 +59,7 @@ use Rattle.runs.proofs.Affected.{affected-is-held, meant-affected, mean
 use Rattle.runs.proofs.Held.{any-count, held-used}
 use Rattle.runs.proofs.Ids.{access-held, at-own}
 use Rattle.runs.proofs.Ways.{begin-all, recovery-all}
+use Rattle.runs.proofs.Entries.{Onward, entries-all}
 
 leads-then : (a b c : World) → Leads a b → Leads b c → Leads a c
 leads-then a b c p q = record { sound = q .sound; fitted = λ z. q .fitted (p .fitted z) }
@@ -137,54 +138,31 @@ module _ (place : ℕ → ℕ) where
     unfolding abortOne
     aborted-one = aborted-by (changeRow (worldRow v i) change.ConfirmAbort) (abort-step (worldRow v i)) (abort-used (worldRow v i))
 
-  abbrev WalkedTo : World → List ℕ → WalkTo → Type 0
-  WalkedTo v us o = Walked v (o .store) (o .area) us
-
-  completed-all : (room : ℕ) (us : List ℕ) (es : List Returned) (bytes : List ℕ) (v : World) → Sound v → Idle (v .session) → AllUsed (v .store .rows) (tokensIn es ++ us)
-      → WalkedTo v us (completeAll place room es bytes (v .store) (v .area))
-  completed-all room us [] bytes v k idle a = record { leads = kept v k; used = a }
-  completed-all room us (e ∷ es) bytes v k idle a =
-      go (completeOne (place (e .token)) (place (e .token) * room) room (e .brought .completion) (take (e .brought .given) bytes) (v .store) (v .area) .verdict)
-      (completeOne (place (e .token)) (place (e .token) * room) room (e .brought .completion) (take (e .brought .given) bytes) (v .store) (v .area))
-      (completed-one v k idle (place (e .token)) (a .0 .0) (a .0 .1) (tokensIn es ++ us) (a .1) (e .brought .completion) (place (e .token) * room) room (take (e .brought .given) bytes))
-      (λ s x q b. completed-all room us es (drop (e .brought .given) bytes) (world (v .session) (v .bus) s x) q idle b)
-    where
-      go : (x : Verdict) (w : WalkTo) → WalkedTo v (tokensIn es ++ us) w
-          → ((s : Store) (x : List ℕ) → Sound (world (v .session) (v .bus) s x) → AllUsed (s .rows) (tokensIn es ++ us)
-          → WalkedTo (world (v .session) (v .bus) s x) us (completeAll place room es (drop (e .brought .given) bytes) s x))
-          → WalkedTo v us (onwardBy x w (λ (s : Store) (y : List ℕ). completeAll place room es (drop (e .brought .given) bytes) s y))
-      go (verdict.Refused r) w o rest = record { leads = o .leads; used = each-last (Used (w .store .rows)) (tokensIn es) us (o .used) }
-      go verdict.Pass w o rest =
-          let n = rest (w .store) (w .area) (o .leads .sound) (o .used) in
-          record { leads = leads-then v (world (v .session) (v .bus) (w .store) (w .area)) _ (o .leads) (n .leads); used = n .used }
-
-  abbrev AbortedTo : World → AbortTo → Type 0
-  AbortedTo v o = Leads v (world (v .session) (v .bus) (o .store) (v .area))
-
-  aborted-all : (ts : List ℕ) (v : World) → Sound v → Idle (v .session) → AllUsed (v .store .rows) ts → AbortedTo v (abortAll place ts (v .store))
-  aborted-all [] v k idle a = kept v k
-  aborted-all (t ∷ ts) v k idle a =
-      go (abortOne (place t) (v .store) .verdict) (abortOne (place t) (v .store)) (aborted-one v k idle (place t) (a .0 .0) (a .0 .1) ts (a .1))
-      (λ s q b. aborted-all ts (world (v .session) (v .bus) s (v .area)) q idle b)
-    where
-      go : (x : Verdict) (w : AbortTo) → Walked v (w .store) (v .area) ts
-          → ((s : Store) → Sound (world (v .session) (v .bus) s (v .area)) → AllUsed (s .rows) ts → AbortedTo (world (v .session) (v .bus) s (v .area)) (abortAll place ts s))
-          → AbortedTo v (furtherBy x w (λ (s : Store). abortAll place ts s))
-      go (verdict.Refused r) w o rest = o .leads
-      go verdict.Pass w o rest = leads-then v (world (v .session) (v .bus) (w .store) (v .area)) _ (o .leads) (rest (w .store) (o .leads .sound) (o .used))
-
   applied-all : (room : ℕ) (es : List Returned) (aborted bytes : List ℕ) (v : World) → Sound v → Idle (v .session) → AllUsed (v .store .rows) (tokensIn es ++ aborted)
       → Leads v (world (v .session) (v .bus) (applyAll place room es aborted bytes (v .store) (v .area) .store) (applyAll place room es aborted bytes (v .store) (v .area) .area))
-  unfolding applyAll abortsAfter
   applied-all room es aborted bytes v k idle a =
-      go (completeAll place room es bytes (v .store) (v .area) .verdict) (completeAll place room es bytes (v .store) (v .area)) (completed-all room aborted es bytes v k idle a)
+      entries-all place room J P (λ bytes store area h. h .leads)
+      (λ e es ts bytes store area h.
+      let u = world (v .session) (v .bus) store area in
+      let one : WalkTo = completeOne (place (e .token)) (place (e .token) * room) room (e .brought .completion) (take (e .brought .given) bytes) store area in
+      on (one .verdict) es ts (drop (e .brought .given) bytes) store area (one .store) (one .area) h (completed-one u (h .leads .sound) idle (place (e .token)) (h .used .0 .0) (h .used .0 .1) (tokensIn es ++ ts) (h .used .1)
+      (e .brought .completion) (place (e .token) * room) room (take (e .brought .given) bytes)))
+      (λ t ts bytes store area h.
+      let u = world (v .session) (v .bus) store area in
+      on (abortOne (place t) store .verdict) [] ts bytes store area (abortOne (place t) store .store) area h (aborted-one u (h .leads .sound) idle (place t) (h .used .0 .0) (h .used .0 .1) ts (h .used .1)))
+      es aborted bytes (v .store) (v .area) (record { leads = kept v k; used = a })
     where
-      go : (x : Verdict) (w : WalkTo) → WalkedTo v aborted w
-          → Leads v (world (v .session) (v .bus) (abortsAfter x w place aborted .store) (abortsAfter x w place aborted .area))
-      go (verdict.Refused r) w o = o .leads
-      go verdict.Pass w o =
-          leads-then v (world (v .session) (v .bus) (w .store) (w .area)) _ (o .leads)
-          (aborted-all aborted (world (v .session) (v .bus) (w .store) (w .area)) (o .leads .sound) idle (o .used))
+      J : List Returned → List ℕ → List ℕ → Store → List ℕ → Type 0
+      J es ts bytes store area = Walked v store area (tokensIn es ++ ts)
+
+      P : Verdict → Store → List ℕ → Type 0
+      P x store area = Leads v (world (v .session) (v .bus) store area)
+
+      on : (x : Verdict) (es : List Returned) (ts bytes : List ℕ) (store : Store) (area : List ℕ) (store′ : Store) (area′ : List ℕ) {us : List ℕ} → Walked v store area us
+          → Walked (world (v .session) (v .bus) store area) store′ area′ (tokensIn es ++ ts) → Onward place room J P x es ts bytes store′ area′
+      on (verdict.Refused r) es ts bytes store area store′ area′ h o = leads-then v (world (v .session) (v .bus) store area) _ (h .leads) (o .leads)
+      on verdict.Pass es ts bytes store area store′ area′ h o =
+          record { leads = leads-then v (world (v .session) (v .bus) store area) _ (h .leads) (o .leads); used = o .used }
 
 -- ---- the session after the entries
 module _ (v : World) (k : Sound v) (idle : Idle (v .session)) where
