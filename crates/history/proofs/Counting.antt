@@ -16,18 +16,6 @@ use Rattle.models.specs.declared.OptionError.the-variants as error
 use Rattle.models.specs.declared.RequestId.{RequestId}
 use Rattle.models.specs.declared.Verdict.{Verdict}
 use Rattle.models.specs.declared.Verdict.the-variants as verdict
-use Rattle.reports.specs.declared.ReportAnswer.{ReportAnswer}
-use Rattle.reports.specs.declared.ReportAnswer.the-variants as report
-use Rattle.polls.specs.declared.PollAnswer.{PollAnswer}
-use Rattle.polls.specs.declared.PollAnswer.the-variants as poll
-use Rattle.reports.specs.declared.NextReport.{NextReport}
-use Rattle.reports.specs.declared.NextReport.the-variants as nextReport
-use Rattle.reports.specs.declared.Tally.{Tally}
-use Rattle.reports.specs.declared.Tally.the-variants as tally
-use Rattle.recovery.specs.declared.BeginAnswer.{BeginAnswer}
-use Rattle.recovery.specs.declared.BeginAnswer.the-variants as begin
-use Rattle.recovery.specs.declared.RecoveryAnswer.{RecoveryAnswer}
-use Rattle.recovery.specs.declared.RecoveryAnswer.the-variants as recovery
 use Rattle.checks.specs.Completion.{testCompletion}
 use Rattle.checks.specs.Plan.{stageOf}
 use Rattle.checks.specs.declared.completion.CompletionTest.{CompletionTest}
@@ -36,29 +24,41 @@ use Rattle.session.specs.Lifecycle.{acquireOf, initializeOf, closeOf}
 use Rattle.session.specs.declared.InFlight.{InFlight}
 use Rattle.session.specs.declared.InFlight.the-variants as flight
 use Rattle.session.specs.declared.RecoveryKind.{RecoveryKind}
-use Rattle.submissions.specs.Submit.{submitOf, submitPlanOf}
-use Rattle.submissions.specs.Reply.{submitReplyOf}
-use Rattle.polls.specs.Poll.{pollOf}
-use Rattle.polls.specs.Finish.{finishOf}
+use Rattle.reports.specs.declared.ReportAnswer.{ReportAnswer}
+use Rattle.reports.specs.declared.ReportAnswer.the-variants as report
+use Rattle.reports.specs.declared.NextReport.{NextReport}
+use Rattle.reports.specs.declared.NextReport.the-variants as nextReport
+use Rattle.reports.specs.declared.Tally.{Tally}
+use Rattle.reports.specs.declared.Tally.the-variants as tally
 use Rattle.reports.specs.Change.{changeOf}
 use Rattle.reports.specs.Status.{statusOf, nextOf, shownCount, heldCountOf, heldBytesOf}
 use Rattle.reports.specs.declared.OptionId.{OptionId}
 use Rattle.reports.specs.declared.OptionId.the-variants as option
+use Rattle.polls.specs.declared.PollAnswer.{PollAnswer}
+use Rattle.polls.specs.declared.PollAnswer.the-variants as poll
+use Rattle.polls.specs.Poll.{pollOf}
+use Rattle.polls.specs.Finish.{finishOf}
 use Rattle.polls.specs.declared.PollReply.{PollReply}
 use Rattle.polls.specs.declared.PollReply.the-variants as pollReply
+use Rattle.submissions.specs.Submit.{submitOf, submitPlanOf}
+use Rattle.submissions.specs.Reply.{submitReplyOf}
 use Rattle.submissions.specs.declared.SubmitReply.{SubmitReply}
 use Rattle.submissions.specs.declared.SubmitReply.the-variants as submitReply
-use Rattle.recovery.specs.Begin.{beginOf}
 use Rattle.scope.specs.Returned.{Returned, returnedOf}
+use Rattle.recovery.specs.declared.BeginAnswer.{BeginAnswer}
+use Rattle.recovery.specs.declared.BeginAnswer.the-variants as begin
+use Rattle.recovery.specs.declared.RecoveryAnswer.{RecoveryAnswer}
+use Rattle.recovery.specs.declared.RecoveryAnswer.the-variants as recovery
+use Rattle.recovery.specs.Begin.{beginOf}
 use Rattle.calls.specs.Answers.{ofVerdict, ofSubmit, ofPlan, ofReport, ofPoll, ofNext, ofTally, ofBegin, ofRecovery}
 use Rattle.calls.specs.Calls.{Reading, Status, Reports, CountReports, CompletedBytes, HeldCount, HeldBytes, Call, Open, Place, Move, Acquire, Initialize, Close, Begin, Submit, SubmitPlan, Poll, Recover, Reply, ToSubmit, ToPoll, ToRecovery, Change, Read}
 use Rattle.calls.specs.Step.{World, world, stepOf, rowsFitIn, areaFitsIn, storeFitsIn, recoversOf, placedOf, movedOf, begunOf, repliedOf, changeBy, readOf}
 use Rattle.calls.specs.declared.Answer.{Answer}
 use Rattle.calls.specs.declared.Answer.the-variants as answer
 use Rattle.runs.specs.Run.{Handed, Event, isOpening, leftBy, answerTo, historyOf, Handing, Follows}
+use Rattle.runs.proofs.Handings.{by-handed}
 use Rattle.history.specs.Journal.{Entry, Journal, View, isEntry, atEntry, release, begunId, isAsked, isPass, isRecovering, endsBy, countsBy, begunBy, acceptedAs, testedAs, settledBy, atWaiting, polledBy, ReleasedTo, completesBy, completesAll, abortsAll, releasesAll, releasedIn, recoveryWaits, recoveredJournal, journalStep, journalOf}
 use Rattle.history.specs.Claim.{isBegun, handsOver}
-use Rattle.runs.proofs.Handings.{by-handed}
 use Rattle.history.proofs.Changes.{closed-ids}
 
 -- a refusal by 3 adds nothing to the journal

@@ -8,10 +8,10 @@ use lib.ListN.{length, getD, take, replicate}
 use Rattle.chain.specs.Chain.{_if_else_}
 use Rattle.chain.specs.Lists.{foundIn, listed}
 use Rattle.words.specs.Records.{splice, part}
-use Rattle.models.specs.Requests.{requestBefore}
 use Rattle.words.specs.declared.OptionI32.the-variants as i32
 use Rattle.words.specs.declared.OptionU32.the-variants as u32
 use Rattle.words.specs.declared.OptionU64.the-variants as u64
+use Rattle.models.specs.Requests.{requestBefore}
 use Rattle.models.specs.declared.ControllerState.the-variants.{Closed}
 use Rattle.models.specs.declared.DeviceId.{DeviceId}
 use Rattle.models.specs.declared.DeviceSnapshot.{DeviceSnapshot}
@@ -55,21 +55,21 @@ use Rattle.session.specs.declared.Session.{Session}
 use Rattle.session.specs.declared.lifecycle.AcquireReply.the-variants as acquire
 use Rattle.session.specs.declared.lifecycle.Opening.{Opening}
 use Rattle.reports.specs.Answers.{effect}
-use Rattle.submissions.specs.Begin.{roomIn, writeOf, beginBy, beginOf, targetBy, targetOf}
 use Rattle.reports.specs.Change.{reportedBy, changeOf}
+use Rattle.reports.specs.Status.{heldCountOf, heldBytesOf}
 use Rattle.polls.specs.Finish.{stallOf, failedAs, judgedTest, judgedBy, judged, storedIn, settled, finishAt, finishBy, finishFound, finishIn, finishOf}
 use Rattle.polls.specs.Poll.{pollRow, pollBy, pollOf}
-use Rattle.submissions.specs.Reply.{acceptedBy, discardedBy, submitReplyBy, submitReplyIn, submitReplyOf}
-use Rattle.reports.specs.Status.{heldCountOf, heldBytesOf}
-use Rattle.submissions.specs.Submit.{submittedBy, preparedBy, roomBy, packetsBy, readyOf, submitBy, submitOf}
 use Rattle.polls.specs.declared.PollReply.the-variants as poll
+use Rattle.submissions.specs.Begin.{roomIn, writeOf, beginBy, beginOf, targetBy, targetOf}
+use Rattle.submissions.specs.Reply.{acceptedBy, discardedBy, submitReplyBy, submitReplyIn, submitReplyOf}
+use Rattle.submissions.specs.Submit.{submittedBy, preparedBy, roomBy, packetsBy, readyOf, submitBy, submitOf}
 use Rattle.submissions.specs.declared.SubmitReply.the-variants as submit
 use Rattle.scope.specs.Affected.{isAffected, joined, affectedOf}
+use Rattle.scope.specs.Returned.{broughtOf, broughtAt, returnedOf, listsAgree}
+use Rattle.scope.specs.Scope.{inScope}
 use Rattle.recovery.specs.Begin as recoveryBegin
 use Rattle.recovery.specs.Entries.{storedAt, rowCompletedBy, testedBy, completeOne, abortedBy, abortOne}
 use Rattle.recovery.specs.Reply.{restoredBy, resetBy, sessionAfter, refusedAfter, abortsAfter, applyAll, concludedBy, scopedOf, doneOf, replyBy, replySized, replyIn, recoveryReplyOf}
-use Rattle.scope.specs.Returned.{broughtOf, broughtAt, returnedOf, listsAgree}
-use Rattle.scope.specs.Scope.{inScope}
 use Rattle.recovery.specs.declared.AbortReport.{AbortReport}
 use Rattle.recovery.specs.declared.RecoveryReply.{RecoveryReply}
 use Rattle.recovery.specs.declared.RecoveryReply.the-variants as reply

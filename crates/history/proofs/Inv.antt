@@ -4,9 +4,9 @@ use mathlib.Core.Path.{_≡_, refl, sym, _∙_, subst}
 use mathlib.Core.Bool.{true, false, true≢false}
 use mathlib.Core.List.{List, _∷_}
 use native.Mathlib.Omega.{arith}
+use borrow.Author.Tests.{eq-eqb}
 use lib.Dec.{eqb}
 use lib.ListN.{length, set, replicate}
-use borrow.Author.Tests.{eq-eqb}
 use Rattle.chain.specs.Lists.{count}
 use Rattle.chain.proofs.Chain.{caseB, if-all}
 use Rattle.chain.proofs.Lists.{sum-none}

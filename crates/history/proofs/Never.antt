@@ -7,11 +7,11 @@ use mathlib.Core.Path.{_≡_, refl, sym, ap, _∙_}
 use lib.Dec.{eqb}
 use lib.ListN.{length}
 use Rattle.chain.specs.Lists.{count}
-use Rattle.rows.specs.Table.{isHeld}
 use Rattle.models.specs.declared.DeviceId.{DeviceId}
 use Rattle.models.specs.declared.RequestId.{RequestId}
 use Rattle.models.specs.declared.Verdict.{Verdict}
 use Rattle.models.specs.declared.Verdict.the-variants as verdict
+use Rattle.rows.specs.Table.{isHeld}
 use Rattle.rows.specs.Store.{Store}
 use Rattle.rows.specs.declared.Row.{Row}
 use Rattle.session.specs.Session.{withFlight}
@@ -20,12 +20,12 @@ use Rattle.session.specs.declared.RecoveryKind.{RecoveryKind}
 use Rattle.session.specs.declared.Session.{Session}
 use Rattle.session.specs.declared.lifecycle.Opening.{Opening}
 use Rattle.scope.specs.Affected.{affectedOf, tokensOf}
+use Rattle.scope.specs.Returned.{returnedOf}
+use Rattle.scope.specs.Scope.{meant, inScope}
 use Rattle.recovery.specs.Begin.{begunAs, beginOf}
 use Rattle.recovery.specs.Reports.{idLists}
-use Rattle.scope.specs.Returned.{returnedOf}
 use Rattle.recovery.specs.Reply.{RecoveredTo, isWhole, applyAll, reportOf, concludedBy, scopedOf, recoveryReplyOf}
 use Rattle.recovery.specs.Entries.{WalkTo}
-use Rattle.scope.specs.Scope.{meant, inScope}
 use Rattle.recovery.specs.declared.AbortReport.{AbortReport}
 use Rattle.recovery.specs.declared.Begun.{Begun}
 use Rattle.recovery.specs.declared.Ids.{Ids}
@@ -38,19 +38,19 @@ use Rattle.calls.specs.Step.{World, begunOf, repliedOf, stepOf}
 use Rattle.calls.specs.declared.Answer.{Answer}
 use Rattle.calls.specs.declared.Answer.the-variants as answer
 use Rattle.runs.specs.Run.{Handed, Event, next, endOf, answerTo, Handing, Follows, Fresh}
+use Rattle.runs.specs.Sound.{worldRow, Sound}
 use Rattle.runs.proofs.Ids.{at-used}
+use Rattle.runs.proofs.Handings.{by-handed}
+use Rattle.runs.proofs.Rows.{full}
+use Rattle.runs.proofs.Ways.{begin-all, recovery-all}
+use Rattle.runs.proofs.Run.{sound-open, sound-run}
 use Rattle.history.specs.Journal.{Entry, blank, refusalNumber, endsBy}
 use Rattle.history.specs.Claim.{starts}
-use Rattle.runs.specs.Sound.{worldRow, Sound}
-use Rattle.runs.proofs.Handings.{by-handed}
 use Rattle.history.proofs.Led.{Led}
 use Rattle.history.proofs.Affects.{allOf, affected-all}
 use Rattle.history.proofs.Walks.{LateBy}
 use Rattle.history.proofs.Scoped.{recovered-kept}
 use Rattle.history.proofs.Recovery.{late-numbers, late-43}
-use Rattle.runs.proofs.Rows.{full}
-use Rattle.runs.proofs.Ways.{begin-all, recovery-all}
-use Rattle.runs.proofs.Run.{sound-open, sound-run}
 use Rattle.history.proofs.Theorem.{opened-holds, run-kept}
 
 -- an answer is not the refusal n

@@ -69,26 +69,26 @@ use Rattle.session.specs.declared.lifecycle.AcquireReply.{AcquireReply}
 use Rattle.session.specs.declared.lifecycle.AcquireReply.the-variants as acquire
 use Rattle.session.specs.declared.lifecycle.Opening.{Opening}
 use Rattle.reports.specs.Answers.{ReportedTo, reportedTo}
-use Rattle.submissions.specs.Begin as begin
 use Rattle.reports.specs.Change.{reportedBy, changeOf}
 use Rattle.polls.specs.Finish.{FinishTo, judged, settled, finishAt, finishOf}
 use Rattle.polls.specs.Poll.{pollOf}
-use Rattle.submissions.specs.Reply.{acceptedBy, discardedBy, submitReplyBy, submitReplyOf}
-use Rattle.submissions.specs.Submit.{SubmitTo, submittedBy, submitOf, PlanTo, planStarted, submitPlanOf}
 use Rattle.polls.specs.declared.Polled.{Polled}
 use Rattle.polls.specs.declared.PollReply.{PollReply}
 use Rattle.polls.specs.declared.PollReply.the-variants as pollReply
+use Rattle.submissions.specs.Begin as begin
+use Rattle.submissions.specs.Reply.{acceptedBy, discardedBy, submitReplyBy, submitReplyOf}
+use Rattle.submissions.specs.Submit.{SubmitTo, submittedBy, submitOf, PlanTo, planStarted, submitPlanOf}
 use Rattle.submissions.specs.declared.SubmitReply.{SubmitReply}
 use Rattle.submissions.specs.declared.SubmitReply.the-variants as submitReply
 use Rattle.submissions.specs.declared.begin.Start.{Start}
 use Rattle.submissions.specs.declared.begin.Start.the-variants as start
 use Rattle.scope.specs.Affected.{affectedOf, tokensOf}
-use Rattle.recovery.specs.Begin as recoveryBegin
 use Rattle.scope.specs.Returned.{Returned, returnedOf}
+use Rattle.scope.specs.Scope.{meant}
+use Rattle.recovery.specs.Begin as recoveryBegin
 use Rattle.recovery.specs.Entries.{WalkTo, rowCompletedBy, testedBy, completeOne, abortedBy, abortOne}
 use Rattle.recovery.specs.Reports.{idLists}
 use Rattle.recovery.specs.Reply.{RecoveredTo, reportOf, applyAll, concludedBy, scopedOf, recoveryReplyOf}
-use Rattle.scope.specs.Scope.{meant}
 use Rattle.recovery.specs.declared.AbortReport.{AbortReport}
 use Rattle.recovery.specs.declared.Begun.{Begun}
 use Rattle.recovery.specs.declared.Ids.{Ids}

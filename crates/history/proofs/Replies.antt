@@ -31,15 +31,15 @@ use Rattle.session.specs.declared.InFlight.{InFlight}
 use Rattle.session.specs.declared.InFlight.the-variants as flight
 use Rattle.session.specs.declared.Session.{Session}
 use Rattle.reports.specs.Answers.{effect, ReportedTo, reportedTo}
-use Rattle.submissions.specs.Reply.{acceptedBy, discardedBy, submitReplyBy, submitReplyOf}
 use Rattle.polls.specs.Poll.{pollOf}
 use Rattle.polls.specs.Finish.{failedAs, invalidAs, judgedTest, judgedBy, judged, FinishTo, settled, finishAt, finishOf}
 use Rattle.polls.specs.declared.Polled.{Polled}
 use Rattle.polls.specs.declared.PollReply.{PollReply}
 use Rattle.polls.specs.declared.PollReply.the-variants as poll
+use Rattle.polls.specs.declared.finish.Judgement.{Judgement}
+use Rattle.submissions.specs.Reply.{acceptedBy, discardedBy, submitReplyBy, submitReplyOf}
 use Rattle.submissions.specs.declared.SubmitReply.{SubmitReply}
 use Rattle.submissions.specs.declared.SubmitReply.the-variants as submit
-use Rattle.polls.specs.declared.finish.Judgement.{Judgement}
 use Rattle.calls.specs.Answers.{ofReport, ofPoll}
 use Rattle.calls.specs.Step.{World}
 use Rattle.runs.specs.Sound.{Sound}

@@ -4,9 +4,9 @@ use mathlib.Core.Path.{_≡_, sym, ap, _∙_}
 use mathlib.Core.Bool.{Bool, true}
 use mathlib.Core.List.{List, _++_, map, map-map}
 use native.Mathlib.Omega.{arith}
+use borrow.Author.Tests.{eqb-true, ltb-true}
 use lib.Dec.{eqb}
 use lib.ListN.{length, getD, length-map, List·getD-map}
-use borrow.Author.Tests.{eqb-true, ltb-true}
 use Rattle.chain.specs.Lists.{count, find}
 use Rattle.chain.proofs.Lists.{find-hit, getD-any}
 use Rattle.models.specs.declared.DeviceId.{DeviceId}
@@ -18,11 +18,11 @@ use Rattle.scope.specs.Scope.{slotOf, isIn, meant, inScope}
 use Rattle.scope.specs.Returned.{returnedOf}
 use Rattle.recovery.specs.Reply.{applyAll}
 use Rattle.runs.proofs.Affected.{affected-is-held, meant-affected, meant-below, returned-tokens, slot-in}
+use Rattle.runs.proofs.Tokens.{scope-each, scope-distinct}
 use Rattle.history.specs.Journal.{Entry, noEntry, affectedViews, meantView, releasesAll, View, entryView}
 use Rattle.history.specs.Claim.{rowView}
 use Rattle.history.proofs.Led.{Led}
 use Rattle.history.proofs.Affects.{seen, affected-same}
-use Rattle.runs.proofs.Tokens.{scope-each, scope-distinct}
 use Rattle.history.proofs.Walks.{Kept, LateBy, Ready, apply-kept}
 
 -- ---- what a token means on both sides

@@ -4,10 +4,10 @@ use mathlib.Core.Path.{_≡_, refl, sym, ap, _∙_, subst}
 use mathlib.Core.Bool.{Bool, true, false, cond, not, _&&_, _||_, false≢true}
 use mathlib.Core.List.{List, [], _∷_, _++_, map}
 use native.Mathlib.Omega.{arith}
+use borrow.Author.Tests.{eq-eqb, ne-eqb, eqb-true, eqb-false, ltb-true}
 use lib.Dec.{eqb}
 use lib.ListN.{length, getD, set, take, drop, length-set, length-map, List·getD-map}
 use lib.Seq.{getD-set-same, getD-set-other, ext-getD}
-use borrow.Author.Tests.{eq-eqb, ne-eqb, eqb-true, eqb-false, ltb-true}
 use Rattle.chain.specs.Chain.{_if_else_}
 use Rattle.chain.specs.Lists.{sumBy, count}
 use Rattle.chain.proofs.Chain.{caseB, if-by, both}
@@ -23,6 +23,7 @@ use Rattle.models.specs.declared.RequestState.{RequestState}
 use Rattle.models.specs.declared.RequestState.the-variants.{Pending, Completed, Failed, Aborted}
 use Rattle.models.specs.declared.Verdict.{Verdict}
 use Rattle.models.specs.declared.Verdict.the-variants as verdict
+use Rattle.models.specs.declared.Refusal.{Refusal}
 use Rattle.rows.specs.Store.{Store, putIn}
 use Rattle.rows.specs.Table.{emptyRow, isHeld, rowIn, tokenIn}
 use Rattle.rows.specs.declared.Row.{Row}
@@ -31,9 +32,15 @@ use Rattle.ledger.specs.declared.rules.Step.{Step}
 use Rattle.checks.specs.Completion.{hasError, codeTested, testCode, testLength, testCompletion}
 use Rattle.checks.specs.declared.completion.CompletionTest.{CompletionTest}
 use Rattle.checks.specs.declared.completion.CompletionTest.the-variants as test
+use Rattle.session.specs.Session.{withFlight}
+use Rattle.session.specs.declared.InFlight.{InFlight}
+use Rattle.session.specs.declared.InFlight.the-variants as flight
+use Rattle.session.specs.declared.RecoveryKind.{RecoveryKind}
+use Rattle.session.specs.declared.Session.{Session}
 use Rattle.scope.specs.Affected.{isAffected, affectedOf, tokensOf}
 use Rattle.scope.specs.Scope.{isIn, slotOf, meant, eachOnce, allIn, inScope}
 use Rattle.scope.specs.Returned.{Returned, returnedOf}
+use Rattle.scope.proofs.Scoping.{in-cons, in-append}
 use Rattle.recovery.specs.Entries.{WalkTo, rowCompletedBy, testedBy, completeOne, abortedBy, abortOne}
 use Rattle.recovery.specs.Reports.{idLists}
 use Rattle.recovery.specs.Reply.{RecoveredTo, isWhole, applyAll, reportOf, concludedBy, scopedOf, recoveryReplyOf}
@@ -42,24 +49,17 @@ use Rattle.recovery.specs.declared.Ids.{Ids}
 use Rattle.recovery.specs.declared.Outcome.{Outcome}
 use Rattle.recovery.specs.declared.Recovery.{Recovery}
 use Rattle.recovery.specs.declared.RecoveryReply.{RecoveryReply}
-use Rattle.session.specs.Session.{withFlight}
-use Rattle.session.specs.declared.InFlight.{InFlight}
-use Rattle.session.specs.declared.InFlight.the-variants as flight
-use Rattle.session.specs.declared.RecoveryKind.{RecoveryKind}
-use Rattle.session.specs.declared.Session.{Session}
-use Rattle.models.specs.declared.Refusal.{Refusal}
 use Rattle.calls.specs.Answers.{ofRecovery}
 use Rattle.calls.specs.declared.Answer.the-variants as answer
-use Rattle.scope.proofs.Scoping.{in-cons, in-append}
 use Rattle.runs.proofs.Affected.{meant-affected, meant-below, returned-tokens}
 use Rattle.runs.proofs.Held.{or-false, or-right}
 use Rattle.runs.proofs.Ways.{recovery-all}
 use Rattle.runs.proofs.Entries.{Onward, entries-all}
+use Rattle.runs.proofs.Tokens.{tokensIn, Each, Distinct, each-last, scope-each, scope-distinct}
 use Rattle.history.specs.Journal.{View}
 use Rattle.history.specs.Claim.{rowView, lengthIn, codeIn, cancelledIn, completedAs, namedAs, recoveredAs, isSettled, Different, Recovered}
 use Rattle.history.proofs.Led.{rowW}
 use Rattle.history.proofs.Affects.{seen, scoped, affected-cond, affected-weighs}
-use Rattle.runs.proofs.Tokens.{tokensIn, Each, Distinct, each-last, scope-each, scope-distinct}
 use Rattle.history.proofs.Sparing.{Spares, scope-spares}
 
 -- ---- a completion that passes says its length and its code

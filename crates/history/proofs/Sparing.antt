@@ -1,6 +1,6 @@
 -- What a recovery's reply leaves of the rows that it does not affect, whatever it is answered. Assumes nothing.
 use Prim.Native.Nat.{ℕ, _*_}
-use mathlib.Core.Path.{_≡_, refl, sym, ap, _∙_}
+use mathlib.Core.Path.{_≡_, refl, sym, ap, _∙_, subst}
 use mathlib.Core.Bool.{Bool, true, false, true≢false}
 use mathlib.Core.List.{List, [], _∷_, _++_}
 use lib.ListN.{length, set, take, drop, length-set}
@@ -9,6 +9,7 @@ use Rattle.words.specs.declared.OptionU32.{OptionU32}
 use Rattle.models.specs.declared.DeviceId.{DeviceId}
 use Rattle.models.specs.declared.Verdict.{Verdict}
 use Rattle.models.specs.declared.Verdict.the-variants as verdict
+use Rattle.models.specs.Refusals.{refusalOf}
 use Rattle.rows.specs.Store.{Store, putIn}
 use Rattle.rows.specs.Table.{emptyRow, rowIn}
 use Rattle.rows.specs.declared.Row.{Row}
@@ -25,17 +26,14 @@ use Rattle.scope.specs.Affected.{isAffected, affectedOf, tokensOf}
 use Rattle.scope.specs.Scope.{meant, inScope}
 use Rattle.scope.specs.Returned.{Returned, returnedOf}
 use Rattle.recovery.specs.Entries.{WalkTo, rowCompletedBy, testedBy, completeOne, abortedBy, abortOne}
-use Rattle.recovery.specs.Reply.{RecoveredTo, isWhole, applyAll, scopedOf, recoveryReplyOf}
+use Rattle.recovery.specs.Reply.{RecoveredTo, isWhole, applyAll, scopedOf, recoveryReplyOf, recoveredTo, recoveryRefused}
 use Rattle.recovery.specs.declared.Recovery.{Recovery}
 use Rattle.recovery.specs.declared.RecoveryReply.{RecoveryReply}
 use Rattle.runs.proofs.Affected.{meant-affected, returned-tokens}
-use Rattle.models.specs.Refusals.{refusalOf}
-use Rattle.recovery.specs.Reply.{recoveredTo, recoveryRefused}
-use mathlib.Core.Path.{subst}
 use Rattle.runs.proofs.Ways.{recovery-all}
 use Rattle.runs.proofs.Entries.{Onward, entries-all}
-use Rattle.history.specs.Claim.{Spared}
 use Rattle.runs.proofs.Tokens.{tokensIn, Each, scope-each}
+use Rattle.history.specs.Claim.{Spared}
 
 -- ---- a walk that changes marked rows only
 module _ (marks : ℕ → Bool) where

@@ -3,8 +3,8 @@ use Prim.Native.Nat.{ℕ, _<_}
 use mathlib.Core.Path.{_≡_, refl, ap}
 use mathlib.Core.Bool.{Bool, true, false, not, cond, _&&_, true≢false}
 use mathlib.Core.List.{List}
-use lib.ListN.{length}
 use borrow.Author.Tests.{not-true}
+use lib.ListN.{length}
 use Rattle.chain.specs.Lists.{count}
 use Rattle.chain.proofs.Chain.{if-all, if-by}
 use Rattle.words.specs.declared.OptionU64.{OptionU64}
@@ -31,10 +31,10 @@ use Rattle.session.specs.declared.lifecycle.AcquireReply.{AcquireReply}
 use Rattle.session.specs.declared.lifecycle.AcquireReply.the-variants as acquire
 use Rattle.reports.specs.Answers.{ReportedTo, reportedTo}
 use Rattle.reports.specs.Change.{reportedBy, changeOf}
+use Rattle.scope.specs.Scope.{isIn}
 use Rattle.calls.specs.Answers.{ofVerdict}
 use Rattle.calls.specs.Calls.{Changing, Cancel, Timeout, Reclaim, Call, Open, Place, Move, Acquire, Initialize, Close, Begin, Submit, SubmitPlan, Poll, Recover, Reply, ToSubmit, ToPoll, ToRecovery, Change, Read}
 use Rattle.calls.specs.Step.{World, After, rowsFitIn, areaFitsIn, storeFitsIn, movedOf, begunOf, repliedOf, changeBy, stepOf}
-use Rattle.scope.specs.Scope.{isIn}
 use Rattle.runs.specs.Run.{isOpening, numberOf, isNew, noted}
 use Rattle.runs.specs.Sound.{Sound}
 use Rattle.runs.proofs.Held.{unheld-row}

@@ -4,9 +4,9 @@ use mathlib.Core.Path.{_≡_, refl, sym, ap, _∙_, subst}
 use mathlib.Core.Bool.{Bool, true, false, not, cond, _&&_}
 use mathlib.Core.List.{List, [], _∷_, _++_}
 use native.Mathlib.Omega.{arith}
+use borrow.Author.Tests.{eq-eqb, ltb-true, ltb-false}
 use lib.Dec.{ltb}
 use lib.ListN.{length, getD, replicate}
-use borrow.Author.Tests.{eq-eqb, ltb-true, ltb-false}
 use Rattle.chain.specs.Chain.{_if_else_}
 use Rattle.chain.specs.Lists.{sumBy, only, count, find}
 use Rattle.chain.proofs.Chain.{caseB, if-by}
@@ -24,34 +24,34 @@ use Rattle.ledger.specs.Rules.{reclaimed, changeRow}
 use Rattle.ledger.specs.Search.{isAt}
 use Rattle.ledger.specs.declared.rules.Change.the-variants as change
 use Rattle.ledger.specs.declared.rules.Step.{Step}
+use Rattle.bus.specs.Tables.{Bus, busOf}
 use Rattle.session.specs.Lifecycle.{OpenedTo, newSession, openOf}
 use Rattle.session.specs.Sizes.{openFits}
-use Rattle.bus.specs.Tables.{Bus, busOf}
 use Rattle.session.specs.declared.InFlight.{InFlight}
 use Rattle.session.specs.declared.InFlight.the-variants as flight
 use Rattle.session.specs.declared.RecoveryKind.{RecoveryKind}
 use Rattle.session.specs.declared.Session.{Session}
 use Rattle.session.specs.declared.lifecycle.Opening.{Opening}
+use Rattle.reports.specs.Answers.{ReportedTo, reportedTo}
+use Rattle.reports.specs.Change.{reportedBy}
 use Rattle.recovery.specs.declared.AbortReport.{AbortReport}
 use Rattle.recovery.specs.declared.Recovery.{Recovery}
 use Rattle.recovery.specs.declared.RecoveryReply.{RecoveryReply}
-use Rattle.reports.specs.Answers.{ReportedTo, reportedTo}
-use Rattle.reports.specs.Change.{reportedBy}
 use Rattle.calls.specs.Answers.{ofOpened, ofReport}
 use Rattle.calls.specs.Calls.{Call, Open, Begin, Recover, Change, Reclaim}
 use Rattle.calls.specs.Step.{World, world, rowsFitIn, begunOf, repliedOf, stepOf}
 use Rattle.calls.specs.declared.Answer.{Answer}
 use Rattle.calls.specs.declared.Answer.the-variants as answer
 use Rattle.runs.specs.Run.{Handed, Event, next, answerTo, leftBy, endOf, historyOf, Handing, Follows, numberOf, isNew, noted, Fresh}
-use Rattle.runs.proofs.Held.{and-less, any-count, unheld-row}
-use Rattle.history.specs.Journal.{Entry, Journal, blank, isNone, isOpen, isEntry, noEntry, entryOf, recoveryWaits, journalStep, journalOf, View, entryView}
-use Rattle.history.specs.Claim.{rowView, heldAs, openAs, Agrees, releasesOf, rowsBy, entriesAfter, reclaims, starts, returns, Recovered, Spared, Claim}
-use Rattle.runs.proofs.Handings.{by-handed, follows-at, follows-front, fresh-front}
 use Rattle.runs.specs.Sound.{Sound}
+use Rattle.runs.proofs.Held.{and-less, any-count, unheld-row}
+use Rattle.runs.proofs.Handings.{by-handed, follows-at, follows-front, fresh-front}
 use Rattle.runs.proofs.Rows.{same}
 use Rattle.runs.proofs.Ways.{change-all}
 use Rattle.runs.proofs.Run.{Whole, lent-rows, sound-open, left-leads, sound-run, fitted-run}
 use Rattle.runs.proofs.Tally.{count-answer, bytes-answer}
+use Rattle.history.specs.Journal.{Entry, Journal, blank, isNone, isOpen, isEntry, noEntry, entryOf, recoveryWaits, journalStep, journalOf, View, entryView}
+use Rattle.history.specs.Claim.{rowView, heldAs, openAs, Agrees, releasesOf, rowsBy, entriesAfter, reclaims, starts, returns, Recovered, Spared, Claim}
 use Rattle.history.proofs.Led.{cond-and, rowW, entryW, each, lengthOf, at, twice, Led, row-none, known-in, entry-is}
 use Rattle.history.proofs.Changes.{none-held, none-at}
 use Rattle.history.proofs.Inv.{Inv, seen-more}

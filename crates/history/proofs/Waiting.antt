@@ -6,8 +6,10 @@ use mathlib.Core.Path.{_≡_, refl, sym, ap, _∙_, subst}
 use native.Mathlib.Omega.{arith}
 use Rattle.chain.specs.Chain.{_if_else_}
 use Rattle.chain.proofs.Chain.{if-by}
+use Rattle.chain.specs.Lists.{count}
 use Rattle.models.specs.declared.RequestId.{RequestId}
 use Rattle.rows.specs.Store.{Store}
+use Rattle.rows.specs.Table.{isHeld}
 use Rattle.session.specs.Session.{isBusy}
 use Rattle.session.specs.Lifecycle.{acquireOf, initializeOf, closeOf}
 use Rattle.session.specs.Place.{placed, setDeviceOf, setPortOf, setEndpointsOf, setReconcileOf}
@@ -16,11 +18,11 @@ use Rattle.session.specs.declared.InFlight.the-variants as flight
 use Rattle.session.specs.declared.RecoveryKind.{RecoveryKind}
 use Rattle.session.specs.declared.Session.{Session}
 use Rattle.session.specs.declared.lifecycle.Opening.{Opening}
-use Rattle.submissions.specs.Submit.{readyOf, submitBy, submitOf, planBy, submitPlanOf}
-use Rattle.submissions.specs.Reply.{submitReplyIn, submitReplyOf}
+use Rattle.reports.specs.Change.{changeOf}
 use Rattle.polls.specs.Poll.{pollOf}
 use Rattle.polls.specs.Finish.{finishIn, finishOf}
-use Rattle.reports.specs.Change.{changeOf}
+use Rattle.submissions.specs.Submit.{readyOf, submitBy, submitOf, planBy, submitPlanOf}
+use Rattle.submissions.specs.Reply.{submitReplyIn, submitReplyOf}
 use Rattle.recovery.specs.Begin.{beginOf}
 use Rattle.recovery.specs.Reply.{RecoveredTo, recoveryReplyOf}
 use Rattle.recovery.specs.declared.Recovery.{Recovery}
@@ -30,13 +32,11 @@ use Rattle.calls.specs.Calls.{Call, Open, Place, Device, Port, Endpoints, Recon
 use Rattle.calls.specs.Step.{World, After, world, stepOf, places, moves, closes, submits, plans, reports, polls, finishes, begins, recovers, rowsFitIn, areaFitsIn, placedOf, movedOf, begunOf, repliedOf}
 use Rattle.calls.specs.declared.Answer.the-variants as answer
 use Rattle.runs.specs.Run.{Handed, Event, next, leftBy, endOf, answerTo, historyOf, isOpening, Handing, Follows, Fresh}
-use Rattle.chain.specs.Lists.{count}
-use Rattle.rows.specs.Table.{isHeld}
 use Rattle.runs.proofs.Ways.{recovery-all}
 use Rattle.runs.proofs.Run.{sound-open, sound-run}
+use Rattle.runs.proofs.Handings.{by-handed, follows-at, follows-front, follows-on, fresh-front}
 use Rattle.history.specs.Journal.{Entry, Journal, isRecovering, endsBy, recoveryWaits, journalOf, blank}
 use Rattle.history.specs.Claim.{returns, rowsAfter, starts}
-use Rattle.runs.proofs.Handings.{by-handed, follows-at, follows-front, follows-on, fresh-front}
 use Rattle.history.proofs.Led.{Led}
 use Rattle.history.proofs.Recovery.{begin-kept, begin-names}
 use Rattle.history.proofs.Never.{scoped-ends}

@@ -4,10 +4,10 @@ use mathlib.Core.Path.{_≡_, refl, sym, ap, _∙_, subst}
 use mathlib.Core.Bool.{Bool, true, false, cond, not, _&&_, _||_, true≢false, false≢true}
 use mathlib.Core.List.{List, [], _∷_, _++_}
 use native.Mathlib.Omega.{arith}
+use borrow.Author.Tests.{eq-eqb}
 use lib.Dec.{eqb}
 use lib.ListN.{length, set, take, drop, length-set}
 use lib.Seq.{getD-set-other}
-use borrow.Author.Tests.{eq-eqb}
 use Rattle.chain.specs.Chain.{_if_else_}
 use Rattle.chain.specs.Lists.{count}
 use Rattle.chain.proofs.Chain.{both}
@@ -28,16 +28,16 @@ use Rattle.checks.specs.declared.completion.CompletionTest.{CompletionTest}
 use Rattle.checks.specs.declared.completion.CompletionTest.the-variants as test
 use Rattle.scope.specs.Scope.{isIn}
 use Rattle.scope.specs.Returned.{Returned}
+use Rattle.scope.proofs.Scoping.{in-cons}
 use Rattle.recovery.specs.Entries.{WalkTo, rowCompletedBy, testedBy, completeOne, onwardBy, completeAll, abortedBy, abortOne, abortAll}
 use Rattle.recovery.specs.Reply.{abortsAfter, applyAll}
-use Rattle.scope.proofs.Scoping.{in-cons}
 use Rattle.runs.proofs.Held.{or-false}
 use Rattle.runs.proofs.Ids.{same-self}
+use Rattle.runs.proofs.Tokens.{tokensIn, Each, Distinct, distinct-last}
 use Rattle.history.specs.Journal.{Entry, isEntry, entryOf, atEntry, release, ReleasedTo, releasedTo, completesBy, goesOn, completesAll, abortsAll, abortedAfter, releasesAll, View}
 use Rattle.history.specs.Claim.{rowView}
 use Rattle.history.proofs.Led.{Led, Changed, led-at, ids-kept, entry-is}
 use Rattle.history.proofs.Changes.{settle-change}
-use Rattle.runs.proofs.Tokens.{tokensIn, Each, Distinct, distinct-last}
 
 -- a refusal of an entry: not 2, 3, 49, 45 or 46, and not the ledger's 43
 abbrev pub isLate : ℕ → Bool

@@ -22,14 +22,14 @@ use Rattle.rows.specs.declared.Row.{Row}
 use Rattle.ledger.specs.Rules.{withState}
 use Rattle.ledger.specs.Search.{isAt}
 use Rattle.checks.specs.Completion.{hasError}
+use Rattle.session.specs.declared.InFlight.{InFlight}
+use Rattle.session.specs.declared.InFlight.the-variants as flight
+use Rattle.session.specs.declared.RecoveryKind.{RecoveryKind}
 use Rattle.reports.specs.declared.OptionId.{OptionId}
 use Rattle.reports.specs.declared.OptionId.the-variants as option
 use Rattle.scope.specs.Affected.{isAffected}
 use Rattle.scope.specs.Returned.{Returned, returnedOf}
 use Rattle.scope.specs.Scope.{isIn}
-use Rattle.session.specs.declared.InFlight.{InFlight}
-use Rattle.session.specs.declared.InFlight.the-variants as flight
-use Rattle.session.specs.declared.RecoveryKind.{RecoveryKind}
 use Rattle.recovery.specs.declared.AbortReport.{AbortReport}
 use Rattle.recovery.specs.declared.Recovery.{Recovery}
 use Rattle.recovery.specs.declared.RecoveryReply.{RecoveryReply}

@@ -5,9 +5,9 @@ use mathlib.Core.Bool.{true, _&&_}
 use mathlib.Core.List.{List, [], _∷_, map}
 use native.Mathlib.Omega.{arith}
 use native.Mathlib.Nat.{le-of-suc-le-suc}
+use borrow.Author.Tests.{ltb-true}
 use lib.Dec.{ltb}
 use lib.ListN.{length, getD, length-map}
-use borrow.Author.Tests.{ltb-true}
 use Rattle.chain.proofs.Chain.{caseB, both}
 use Rattle.words.proofs.Records.{map-tab, tab-list}
 use Rattle.models.specs.declared.DeviceId.{DeviceId}

@@ -3,8 +3,8 @@ use Prim.Native.Nat.{ℕ}
 use mathlib.Core.Path.{_≡_, sym, subst}
 use mathlib.Core.Bool.{false}
 use mathlib.Core.List.{List, [], _∷_, _++_}
-use Rattle.bus.specs.Tables.{Bus}
 use Rattle.models.specs.Refusals.{refusalOf}
+use Rattle.bus.specs.Tables.{Bus}
 use Rattle.calls.specs.Calls.{Call}
 use Rattle.calls.specs.Step.{World, world, stepOf}
 use Rattle.calls.specs.declared.Answer.{Answer}

@@ -4,9 +4,9 @@ use mathlib.Core.Bool.{Bool, true, false, cond, _&&_, _||_, true≢false}
 use mathlib.Core.List.{List}
 use mathlib.Core.Path.{_≡_, refl, sym, _∙_}
 use native.Mathlib.Omega.{arith}
+use borrow.Author.Tests.{lt-ltb, ltb-true, ltb-false}
 use lib.Dec.{ltb}
 use lib.ListN.{length}
-use borrow.Author.Tests.{lt-ltb, ltb-true, ltb-false}
 use Rattle.chain.specs.Lists.{count, find, anyIn}
 use Rattle.chain.proofs.Chain.{caseB, both}
 use Rattle.chain.proofs.Lists.{count-pos, find-hit, find-some}

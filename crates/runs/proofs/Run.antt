@@ -1,10 +1,10 @@
 -- Every list of calls after an opening that passed leads to a sound session. Assumes nothing.
+use Prim.Native.Nat.{ℕ}
 use mathlib.Core.Bool.{true, false, _&&_, true≢false}
 use mathlib.Core.List.{List, [], _∷_}
 use mathlib.Core.Path.{_≡_, refl, sym}
 use native.Mathlib.Omega.{arith}
 use borrow.Author.Tests.{not-false}
-use Prim.Native.Nat.{ℕ}
 use lib.ListN.{length}
 use Rattle.chain.proofs.Chain.{if-by, both}
 use Rattle.rows.specs.Store.{storeOf, emptied}
