@@ -16,7 +16,7 @@ extern "C" {
 /* Lengths of the slices. */
 #define TAPEWOAD_SESSION_WORDS 26u
 #define TAPEWOAD_BUS_WORDS 10750u
-#define TAPEWOAD_ROW_WORDS 27u /* a row of `rows` */
+#define TAPEWOAD_ROW_WORDS 26u /* a row of `rows` */
 #define TAPEWOAD_OUT_WORDS 32u /* at least */
 #define TAPEWOAD_LIST_WORDS 386u /* at least */
 #define TAPEWOAD_MOST_ROWS 1024u

@@ -4,10 +4,10 @@ use mathlib.Core.Path.{_≡_, refl, sym, ap, _∙_}
 use mathlib.Core.Bool.{Bool, true, false, cond, _&&_}
 use mathlib.Core.List.{List, [], _∷_, map}
 use native.Mathlib.Omega.{arith}
+use borrow.Author.Tests.{lt-ltb}
 use lib.Dec.{eqb}
 use lib.ListN.{length, take}
 use lib.Seq.{take-all}
-use borrow.Author.Tests.{lt-ltb}
 use Rattle.chain.specs.Lists.{sumBy, only, count}
 use Rattle.chain.proofs.Chain.{caseB}
 use Rattle.chain.proofs.Lists.{sum-suc, sum-le}
@@ -138,7 +138,7 @@ module _ (d : DeviceId) (endpoint : ℕ) where
     affected-sorted = let all = affected-all in rw all (up-to rows (length rows) (omega arith) .sorted)
 
   -- ---- the same views
-  module _ (rows : List Row) (entries : List Entry) (k : Led rows entries) where
+  module _ (rows : List Row) (entries : List Entry) (few : count isHeld rows ≤ 128) (k : Led rows entries) where
     once-view : (x : RequestId) → sumBy (only (isView x) each) (affectedViews d endpoint entries) ≤ 1
     once-view x =
         omega (
@@ -156,5 +156,5 @@ module _ (d : DeviceId) (endpoint : ℕ) where
     pub affected-same : map (seen rows) (affectedOf d endpoint rows) ≡ affectedViews d endpoint entries
     affected-same =
         sorted-same (map (seen rows) (affectedOf d endpoint rows)) (affectedViews d endpoint entries)
-        (λ w. affected-weighs rows (k .few) w ∙ k .same (scoped w) ∙ sym (entries-weigh w entries))
-        (affected-sorted rows (k .few)) (entries-sorted entries) once-view
+        (λ w. affected-weighs rows few w ∙ k .same (scoped w) ∙ sym (entries-weigh w entries))
+        (affected-sorted rows few) (entries-sorted entries) once-view

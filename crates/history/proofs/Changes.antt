@@ -1,13 +1,12 @@
 -- The changes of one row and its entry; a new row; an emptied store. Assumes nothing.
 use Prim.Native.Nat.{ℕ, zero, suc, _+_, _≤_, _<_}
 use mathlib.Core.Path.{_≡_, refl, sym, ap, _∙_}
-use mathlib.Core.Bool.{Bool, true, false, cond, _&&_, _||_, true≢false, false≢true}
+use mathlib.Core.Bool.{Bool, true, false, cond, _&&_, false≢true}
 use mathlib.Core.List.{List, [], _∷_}
 use native.Mathlib.Nat.{le-refl}
 use native.Mathlib.Omega.{arith}
-use lib.Dec.{eqb, ltb}
-use lib.ListN.{length, getD, set, replicate}
-use borrow.Author.Tests.{eqb-true, eq-eqb, le-ltb}
+use lib.Dec.{ltb}
+use lib.ListN.{length, set, replicate}
 use Rattle.chain.specs.Lists.{sumBy, only, count, mapAt}
 use Rattle.chain.proofs.Chain.{caseB, both}
 use Rattle.chain.proofs.Lists.{sum-set, count-keeps}
@@ -17,36 +16,15 @@ use Rattle.models.specs.declared.RequestId.{RequestId}
 use Rattle.models.specs.declared.RequestMetadata.{RequestMetadata}
 use Rattle.models.specs.declared.RequestState.{RequestState}
 use Rattle.models.specs.declared.RequestState.the-variants.{Pending, Completed, Failed, Aborted}
-use Rattle.rows.specs.Table.{emptyRow, isHeld}
+use Rattle.rows.specs.Table.{emptyRow, isHeld, rowIn}
 use Rattle.rows.specs.declared.Row.{Row}
 use Rattle.ledger.specs.Search.{isAt}
 use Rattle.rules.specs.Rules.{pendingRow, withState, flagged}
+use Rattle.runs.proofs.Held.{empty-free, free-held, unheld-row}
+use Rattle.runs.proofs.Ids.{free-at, same-request, same-self}
 use Rattle.history.specs.Journal.{Entry, isNone, isOpen, isEntry, entryOf, release, markFailed, withToken, newEntry, View, entryView}
 use Rattle.history.specs.Claim.{rowView}
-use Rattle.history.proofs.Led.{rowW, entryW, each, long, twice, Led, Changed, Alike, row-none, unheld-row, free-held, free-at, empty-free}
-
--- ---- small facts
-pub or-false : (a b : Bool) → (a || b) ≡ false → (a ≡ false) × (b ≡ false)
-or-false true b e = absurd (true≢false e)
-or-false false b e = (refl, e)
-
-pub or-right : (a b : Bool) → a ≡ false → (a || b) ≡ true → b ≡ true
-or-right true b n e = absurd (true≢false n)
-or-right false b n e = e
-
-pub pending-access : (s : RequestState) → isPending s ≡ true → deviceMayAccess s ≡ true
-pending-access (Pending cancel late) e = refl
-pending-access (Completed actual code cancel) e = absurd (false≢true e)
-pending-access (Failed error code quiescent) e = absurd (false≢true e)
-pending-access Aborted e = absurd (false≢true e)
-
--- the row of an id that the device may access is held, so one that is Pending
-pub access-held : (x : RequestId) (r : Row) → isAt x r ≡ true → deviceMayAccess (r .state) ≡ true → isHeld r ≡ true
-unfolding isAt isHeld
-access-held x r h e = rw (both (r .used) (sameRequest (r .id) x) h .0, e)
-
-pub pending-held : (x : RequestId) (r : Row) → isAt x r ≡ true → isPending (r .state) ≡ true → isHeld r ≡ true
-pending-held x r h e = access-held x r h (pending-access (r .state) e)
+use Rattle.history.proofs.Led.{rowW, entryW, each, twice, Led, Changed, Alike, row-none}
 
 -- the view of a row, marked Failed or not
 abbrev viewAs : Row → Bool → View
@@ -97,8 +75,6 @@ module _ (r : Row) (e : Entry) (held : isHeld r ≡ true) (is : (w : View → �
     row-id = i;
     entry-id = λ x. refl;
     single = bumps;
-    few = omega (arith, row-none each r′ h);
-    short = omega (arith, row-none long r′ h);
   }
 
   pub discard-change : Changed r emptyRow e (release e)
@@ -139,8 +115,6 @@ module _ (r : Row) (e : Entry) (held : isHeld r ≡ true) (is : (w : View → �
     row-id = λ x. rw (same-at t x) (le-refl _);
     entry-id = λ x. refl;
     single = stays r e held is;
-    few = rw (same-held t) (le-refl _);
-    short = rw (same-held t) (le-refl _);
   }
 
   -- a new state
@@ -169,8 +143,6 @@ module _ (r : Row) (e : Entry) (held : isHeld r ≡ true) (is : (w : View → �
         row-id = λ x. rw (state-at s x) (le-refl _);
         entry-id = λ x. refl;
         single = stays r e held is;
-        few = rw (on, held) (le-refl _);
-        short = rw (on, held) (le-refl _);
       }
 
 -- ---- flags
@@ -195,19 +167,6 @@ empty-alike r e = record {
   row-id = λ x. rw (free-at x emptyRow empty-free) (omega arith);
 }
 
--- ---- ids
-pub same-request : (x y : RequestId) → sameRequest x y ≡ true → x ≡ y
-same-request x y e =
-    let p = both (eqb (x .session) (y .session) && eqb (x .generation) (y .generation)) (eqb (x .sequence) (y .sequence)) e in
-    let q = both (eqb (x .session) (y .session)) (eqb (x .generation) (y .generation)) (p .0) in
-    let a = eqb-true _ _ (q .0) in
-    let b = eqb-true _ _ (q .1) in
-    let c = eqb-true _ _ (p .1) in
-    λ i. record { session = a i; generation = b i; sequence = c i }
-
-pub same-self : (x : RequestId) → sameRequest x x ≡ true
-same-self x = rw (eq-eqb (x .session) (x .session) refl, eq-eqb (x .generation) (x .generation) refl, eq-eqb (x .sequence) (x .sequence) refl)
-
 -- the entry of an id is the latest of that id
 pub latest-entry : (x : RequestId) (d : DeviceId) (endpoint requested : ℕ) (l : List Entry)
     → entryOf x (newEntry x d endpoint requested ∷ l) ≡ newEntry x d endpoint requested
@@ -215,13 +174,12 @@ latest-entry x d endpoint requested l = rw (same-self x)
 
 -- ---- a new row and its entry
 module _ (rows : List Row) (entries : List Entry) (k : Led rows entries) (x : RequestId) (m : RequestMetadata) (i : ℕ) (lt : i < length rows)
-    (free : getD rows i emptyRow .used ≡ false) (new : count (isEntry x) entries ≡ 0) (room : count isHeld rows < 128)
-    (size : m .«requested_length» ≤ 65536) where
+    (free : rowIn rows i .used ≡ false) (new : count (isEntry x) entries ≡ 0) where
   abbrev begun : Row
   begun = pendingRow x m
 
   pub sum-new : (f : Row → ℕ) → ((r : Row) → r .used ≡ false → f r ≡ 0) → sumBy f (set rows i begun) ≡ sumBy f rows + f begun
-  sum-new f z = omega (arith, sum-set f rows i begun emptyRow lt, z (getD rows i emptyRow) free)
+  sum-new f z = omega (arith, sum-set f rows i begun emptyRow lt, z (rowIn rows i) free)
 
   begun-held : isHeld begun ≡ true
   unfolding isHeld pendingRow
@@ -244,9 +202,6 @@ module _ (rows : List Row) (entries : List Entry) (k : Led rows entries) (x : Re
   weight-new : (w : View → ℕ) → sumBy (rowW w) (set rows i begun) ≡ sumBy (rowW w) rows + rowW w begun
   weight-new w = sum-new (rowW w) (λ r e. row-none w r (free-held r e))
 
-  begun-short : long (entryView (newEntry x (m .device) (m .endpoint) (m .«requested_length»))) ≡ 0
-  begun-short = rw (le-ltb 65536 (m .«requested_length») size)
-
   pub led-new : Led (set rows i begun) (newEntry x (m .device) (m .endpoint) (m .«requested_length») ∷ entries)
   led-new = record {
     same = λ w. omega (arith, weight-new w, begun-weight w, k .same w);
@@ -255,8 +210,6 @@ module _ (rows : List Row) (entries : List Entry) (k : Led rows entries) (x : Re
         (λ e. let q = same-request x y e in rw (e, ← q) (omega (arith, new)))
         (λ e. rw e (omega (arith, k .once y)));
     single = omega (arith, k .single);
-    few = omega (arith, weight-new each, begun-weight each);
-    short = omega (arith, weight-new long, begun-weight long, begun-short, k .short);
   }
 
 -- ---- an emptied store, and every entry released
@@ -297,6 +250,4 @@ led-closed rows entries rows′ k none ids = record {
   known = λ x. omega (arith, ids x, k .known x, closed-ids x entries);
   once = λ x. omega (arith, k .once x, closed-ids x entries);
   single = omega (arith, k .single, closed-single entries);
-  few = omega (arith, none each);
-  short = none long;
 }

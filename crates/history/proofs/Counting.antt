@@ -16,82 +16,70 @@ use Rattle.models.specs.declared.OptionError.the-variants as error
 use Rattle.models.specs.declared.RequestId.{RequestId}
 use Rattle.models.specs.declared.Verdict.{Verdict}
 use Rattle.models.specs.declared.Verdict.the-variants as verdict
-use Rattle.reports.specs.declared.ReportAnswer.{ReportAnswer}
-use Rattle.reports.specs.declared.ReportAnswer.the-variants as report
-use Rattle.polls.specs.declared.PollAnswer.{PollAnswer}
-use Rattle.polls.specs.declared.PollAnswer.the-variants as poll
-use Rattle.reports.specs.declared.NextReport.{NextReport}
-use Rattle.reports.specs.declared.NextReport.the-variants as nextReport
-use Rattle.reports.specs.declared.Tally.{Tally}
-use Rattle.reports.specs.declared.Tally.the-variants as tally
-use Rattle.recovery.specs.declared.BeginAnswer.{BeginAnswer}
-use Rattle.recovery.specs.declared.BeginAnswer.the-variants as begin
-use Rattle.recovery.specs.declared.RecoveryAnswer.{RecoveryAnswer}
-use Rattle.recovery.specs.declared.RecoveryAnswer.the-variants as recovery
-use Rattle.rules.specs.declared.Change.the-variants as change
 use Rattle.checks.specs.Completion.{testCompletion}
 use Rattle.checks.specs.Plan.{stageOf}
 use Rattle.checks.specs.declared.completion.CompletionTest.{CompletionTest}
 use Rattle.checks.specs.declared.completion.CompletionTest.the-variants as test
 use Rattle.session.specs.Lifecycle.{acquireOf, initializeOf, closeOf}
-use Rattle.session.specs.Place.{setDeviceOf, setPortOf, setEndpointsOf, setReconcileOf}
 use Rattle.session.specs.declared.InFlight.{InFlight}
 use Rattle.session.specs.declared.InFlight.the-variants as flight
 use Rattle.session.specs.declared.RecoveryKind.{RecoveryKind}
-use Rattle.session.specs.declared.RecoveryKind.the-variants as kind
-use Rattle.submissions.specs.Submit.{submitOf, submitPlanOf}
-use Rattle.submissions.specs.Reply.{submitReplyOf}
-use Rattle.polls.specs.Poll.{pollOf}
-use Rattle.polls.specs.Finish.{finishOf}
+use Rattle.reports.specs.declared.ReportAnswer.{ReportAnswer}
+use Rattle.reports.specs.declared.ReportAnswer.the-variants as report
+use Rattle.reports.specs.declared.NextReport.{NextReport}
+use Rattle.reports.specs.declared.NextReport.the-variants as nextReport
+use Rattle.reports.specs.declared.PartAnswer.{PartAnswer}
+use Rattle.reports.specs.declared.PartAnswer.the-variants as part
+use Rattle.reports.specs.declared.Tally.{Tally}
+use Rattle.reports.specs.declared.Tally.the-variants as tally
 use Rattle.reports.specs.Change.{changeOf}
-use Rattle.reports.specs.Status.{statusOf, nextOf, shownCount, heldCountOf, heldBytesOf}
+use Rattle.reports.specs.Status.{statusOf, nextOf, shownCount, completedPart, heldCountOf, heldBytesOf}
 use Rattle.reports.specs.declared.OptionId.{OptionId}
 use Rattle.reports.specs.declared.OptionId.the-variants as option
+use Rattle.polls.specs.declared.PollAnswer.{PollAnswer}
+use Rattle.polls.specs.declared.PollAnswer.the-variants as poll
+use Rattle.polls.specs.Poll.{pollOf}
+use Rattle.polls.specs.Finish.{finishOf}
 use Rattle.polls.specs.declared.PollReply.{PollReply}
 use Rattle.polls.specs.declared.PollReply.the-variants as pollReply
+use Rattle.submissions.specs.Submit.{submitOf, submitPlanOf}
+use Rattle.submissions.specs.Reply.{submitReplyOf}
 use Rattle.submissions.specs.declared.SubmitReply.{SubmitReply}
 use Rattle.submissions.specs.declared.SubmitReply.the-variants as submitReply
-use Rattle.recovery.specs.Begin.{beginOf}
 use Rattle.scope.specs.Returned.{Returned, returnedOf}
-use Rattle.calls.specs.Answers.{ofVerdict, ofSubmit, ofPlan, ofReport, ofPoll, ofNext, ofTally, ofBegin, ofRecovery}
-use Rattle.calls.specs.Calls.{Call, Open, SetDevice, SetPort, SetEndpoints, SetReconcile, Acquire, Initialize, Close, Submit, SubmitPlan, ReplySubmit, Poll, ReplyPoll, AbortRequest, ResetEndpoint, ReplyRecovery, Cancel, Timeout, Reclaim, Status, Reports, CountReports, CompletedBytes, HeldCount, HeldBytes}
-use Rattle.calls.specs.Step.{World, world, stepOf, rowsFitIn, areaFitsIn, busFitsIn, storeFitsIn, recoversOf}
+use Rattle.recovery.specs.declared.BeginAnswer.{BeginAnswer}
+use Rattle.recovery.specs.declared.BeginAnswer.the-variants as begin
+use Rattle.recovery.specs.declared.RecoveryAnswer.{RecoveryAnswer}
+use Rattle.recovery.specs.declared.RecoveryAnswer.the-variants as recovery
+use Rattle.recovery.specs.Begin.{beginOf}
+use Rattle.calls.specs.Answers.{ofVerdict, ofSubmit, ofPlan, ofReport, ofPoll, ofNext, ofTally, ofPart, ofBegin, ofRecovery}
+use Rattle.calls.specs.Calls.{Reading, Status, Reports, CountReports, CompletedBytes, HeldCount, HeldBytes, Call, Open, Place, Move, Acquire, Initialize, Close, Begin, Submit, SubmitPlan, Poll, Recover, Reply, ToSubmit, ToPoll, ToRecovery, Change, Read}
+use Rattle.calls.specs.Step.{World, world, stepOf, rowsFitIn, areaFitsIn, storeFitsIn, recoversOf, placedOf, movedOf, begunOf, repliedOf, changeBy, readOf}
 use Rattle.calls.specs.declared.Answer.{Answer}
 use Rattle.calls.specs.declared.Answer.the-variants as answer
-use Rattle.history.specs.Run.{Handed, Event, isOpening, leftBy, answerTo, historyOf, Handing, Follows}
+use Rattle.runs.specs.Run.{Handed, Event, isOpening, leftBy, answerTo, historyOf, Handing, Follows}
+use Rattle.runs.proofs.Handings.{by-handed}
 use Rattle.history.specs.Journal.{Entry, Journal, View, isEntry, atEntry, release, begunId, isAsked, isPass, isRecovering, endsBy, countsBy, begunBy, acceptedAs, testedAs, settledBy, atWaiting, polledBy, ReleasedTo, completesBy, completesAll, abortsAll, releasesAll, releasedIn, recoveryWaits, recoveredJournal, journalStep, journalOf}
 use Rattle.history.specs.Claim.{isBegun, handsOver}
-use Rattle.history.proofs.Handings.{by-handed}
 use Rattle.history.proofs.Changes.{closed-ids}
 
 -- a refusal by 3 adds nothing to the journal
 pub refused-3 : (c : Call) (j : Journal) → journalStep c (answer.Refused (refusalOf 3)) j ≡ j
 unfolding journalStep
 refused-3 (Open o) j = refl
-refused-3 (SetDevice d) j = refl
-refused-3 (SetPort number row) j = refl
-refused-3 (SetEndpoints slot list) j = refl
-refused-3 (SetReconcile slot mark) j = refl
-refused-3 (Acquire reply) j = refl
-refused-3 (Initialize reply) j = refl
-refused-3 (Close fresh reply) j = refl
-refused-3 (Submit q bytes packed packets first second) j = refl
-refused-3 (SubmitPlan q bytes first) j = refl
-refused-3 (ReplySubmit reply) j = refl
-refused-3 (Poll id) j = refl
-refused-3 (ReplyPoll reply bytes) j = refl
-refused-3 (AbortRequest id) j = refl
-refused-3 (ResetEndpoint id preserve) j = refl
-refused-3 (ReplyRecovery reply tokens words aborted bytes) j = refl
-refused-3 (Cancel id) j = refl
-refused-3 (Timeout id) j = refl
-refused-3 (Reclaim id) j = refl
-refused-3 (Status id) j = refl
-refused-3 (Reports from) j = refl
-refused-3 CountReports j = refl
-refused-3 (CompletedBytes id) j = refl
-refused-3 HeldCount j = refl
-refused-3 HeldBytes j = refl
+refused-3 (Place p) j = refl
+refused-3 (Move (Acquire reply)) j = refl
+refused-3 (Move (Initialize reply)) j = refl
+refused-3 (Move (Close fresh reply)) j = refl
+refused-3 (Begin (Submit q bytes packed packets first second)) j = refl
+refused-3 (Begin (SubmitPlan q bytes first)) j = refl
+refused-3 (Begin (Poll id)) j = refl
+refused-3 (Begin (Recover id kind)) j = refl
+refused-3 (Reply (ToSubmit reply)) j = refl
+refused-3 (Reply (ToPoll reply bytes)) j = refl
+refused-3 (Reply (ToRecovery reply tokens words aborted bytes)) j = refl
+refused-3 (Change id c) j = refl
+refused-3 (Read r) j = refl
 
 module _ (x : RequestId) where
   abbrev number : List Entry → ℕ
@@ -209,51 +197,52 @@ module _ (x : RequestId) where
   recovery-still (recovery.Refused r) n m e = omega (arith, e)
   recovery-still (recovery.Report y) n m e = omega (arith, e)
 
+  part-still : (a : PartAnswer) (n m : ℕ) → m ≡ n → m ≡ n + cond (isBegun x (begunId (ofPart a))) 1 0
+  part-still (part.Refused r) n m e = omega (arith, e)
+  part-still (part.Part p) n m e = omega (arith, e)
+
+  read-still : (r : Reading) (w : World) (n : ℕ) → n ≡ n + cond (isBegun x (begunId (readOf r w))) 1 0
+  unfolding readOf
+  read-still (Status id) w n = report-still (statusOf (w .session) (rowsFitIn w) id (w .store .rows)) n n refl
+  read-still (Reports from) w n = nextReport-still (nextOf (w .session) (rowsFitIn w) from (w .store .rows)) n n refl
+  read-still CountReports w n = tally-still (shownCount (w .session) (rowsFitIn w) (w .store .rows)) n n refl
+  read-still (CompletedBytes id) w n = part-still (completedPart (w .session) (rowsFitIn w && areaFitsIn w) id (w .store .rows)) n n refl
+  read-still HeldCount w n = tally-still (heldCountOf (rowsFitIn w) (w .store .rows)) n n refl
+  read-still HeldBytes w n = tally-still (heldBytesOf (rowsFitIn w) (w .store .rows)) n n refl
+
   step-ids : (c : Call) (w : World) (j : Journal) → isOpening c ≡ false
       → number (journalStep c (stepOf c w .result .answer) j .entries) ≡ number (j .entries) + cond (isBegun x (begunId (stepOf c w .result .answer))) 1 0
-  unfolding stepOf journalStep
+  unfolding stepOf movedOf begunOf repliedOf journalStep
   step-ids (Open o) w j f = absurd (true≢false f)
-  step-ids (SetDevice d) w j f = verdict-still (setDeviceOf (w .session) (busFitsIn w) d (w .bus) .answer) _ _ refl
-  step-ids (SetPort n row) w j f = verdict-still (setPortOf (w .session) (busFitsIn w) n row (w .bus) .answer) _ _ refl
-  step-ids (SetEndpoints slot list) w j f = verdict-still (setEndpointsOf (w .session) (busFitsIn w) slot list (w .bus) .answer) _ _ refl
-  step-ids (SetReconcile slot mark) w j f = verdict-still (setReconcileOf (w .session) (busFitsIn w) slot mark (w .bus) .answer) _ _ refl
-  step-ids (Acquire reply) w j f = verdict-still (acquireOf (w .session) reply .answer) _ _ refl
-  step-ids (Initialize reply) w j f = verdict-still (initializeOf (w .session) reply .answer) _ _ refl
-  step-ids (Close fresh reply) w j f =
+  step-ids (Place p) w j f = verdict-still (placedOf p w .answer) _ _ refl
+  step-ids (Move (Acquire reply)) w j f = verdict-still (acquireOf (w .session) reply .answer) _ _ refl
+  step-ids (Move (Initialize reply)) w j f = verdict-still (initializeOf (w .session) reply .answer) _ _ refl
+  step-ids (Move (Close fresh reply)) w j f =
       let a : Answer = ofVerdict (closeOf (w .session) (rowsFitIn w) fresh reply (w .store) .result .answer) in
       verdict-still (closeOf (w .session) (rowsFitIn w) fresh reply (w .store) .result .answer) _ _
       (let c = closed-ids x (j .entries) in caseB (isPass a) (λ e. rw e (omega (arith, c))) (λ e. rw e))
-  step-ids (Submit q bytes given packets one two) w j f =
+  step-ids (Begin (Submit q bytes given packets one two)) w j f =
       begun-ids (begunId (ofSubmit (submitOf (w .session) (storeFitsIn w) q bytes given packets one two (w .bus) (w .store) (w .area) .result .answer))) (q .device) (q .endpoint) (q .length) j
-  step-ids (SubmitPlan q bytes one) w j f =
+  step-ids (Begin (SubmitPlan q bytes one)) w j f =
       begun-ids (begunId (ofPlan (submitPlanOf (w .session) (storeFitsIn w) q bytes one (w .bus) (w .store) (w .area) .result .answer))) (q .device) 0
       (stageOf (q .«data_stage») (q .setup .«request_type») .length) j
-  step-ids (ReplySubmit reply) w j f =
+  step-ids (Begin (Poll id)) w j f =
+      let a : Answer = ofPoll (pollOf (w .session) (rowsFitIn w) id (w .store .rows) .answer) in
+      poll-still (pollOf (w .session) (rowsFitIn w) id (w .store .rows) .answer) _ _ (caseB (isAsked a) (λ e. rw e) (λ e. rw e))
+  step-ids (Begin (Recover id kind)) w j f = begin-ids (beginOf (w .session) (rowsFitIn w) id kind (w .store .rows) .answer) id kind j
+  step-ids (Reply (ToSubmit reply)) w j f =
       let a : Answer = ofReport (submitReplyOf (w .session) (rowsFitIn w) reply (w .store) .result .answer) in
       report-still (submitReplyOf (w .session) (rowsFitIn w) reply (w .store) .result .answer) _ _
       (caseB (endsBy a) (λ e. rw e (waiting-ids (j .waiting) (acceptedAs reply) (λ y. accepted-id reply y) (j .entries))) (λ e. rw e))
-  step-ids (Poll id) w j f =
-      let a : Answer = ofPoll (pollOf (w .session) (rowsFitIn w) id (w .store .rows) .answer) in
-      poll-still (pollOf (w .session) (rowsFitIn w) id (w .store .rows) .answer) _ _ (caseB (isAsked a) (λ e. rw e) (λ e. rw e))
-  step-ids (ReplyPoll reply bytes) w j f =
+  step-ids (Reply (ToPoll reply bytes)) w j f =
       let a : Answer = ofReport (finishOf (w .session) (rowsFitIn w && areaFitsIn w) reply bytes (w .store) (w .area) .result .answer) in
       report-still (finishOf (w .session) (rowsFitIn w && areaFitsIn w) reply bytes (w .store) (w .area) .result .answer) _ _
       (caseB (endsBy a) (λ e. rw e (polled-ids reply (length bytes) j)) (λ e. rw e))
-  step-ids (AbortRequest id) w j f = begin-ids (beginOf (w .session) (rowsFitIn w) id kind.Abort (w .store .rows) .answer) id kind.Abort j
-  step-ids (ResetEndpoint id preserve) w j f =
-      begin-ids (beginOf (w .session) (rowsFitIn w) id (kind.Reset preserve) (w .store .rows) .answer) id (kind.Reset preserve) j
-  step-ids (ReplyRecovery reply tokens words aborted bytes) w j f =
+  step-ids (Reply (ToRecovery reply tokens words aborted bytes)) w j f =
       recovery-still (recoversOf reply tokens words aborted bytes w .result .answer) _ _
       (recovered-ids (ofRecovery (recoversOf reply tokens words aborted bytes w .result .answer)) (returnedOf tokens words) aborted bytes j)
-  step-ids (Cancel id) w j f = report-still (changeOf (w .session) (rowsFitIn w) id change.LogicalCancel (w .store) .result .answer) _ _ refl
-  step-ids (Timeout id) w j f = report-still (changeOf (w .session) (rowsFitIn w) id change.Timeout (w .store) .result .answer) _ _ refl
-  step-ids (Reclaim id) w j f = report-still (changeOf (w .session) (rowsFitIn w) id change.Reclaim (w .store) .result .answer) _ _ refl
-  step-ids (Status id) w j f = report-still (statusOf (w .session) (rowsFitIn w) id (w .store .rows)) _ _ refl
-  step-ids (Reports from) w j f = nextReport-still (nextOf (w .session) (rowsFitIn w) from (w .store .rows)) _ _ refl
-  step-ids CountReports w j f = tally-still (shownCount (w .session) (rowsFitIn w) (w .store .rows)) _ _ refl
-  step-ids (CompletedBytes id) w j f = omega arith
-  step-ids HeldCount w j f = tally-still (heldCountOf (rowsFitIn w) (w .store .rows)) _ _ refl
-  step-ids HeldBytes w j f = tally-still (heldBytesOf (rowsFitIn w) (w .store .rows)) _ _ refl
+  step-ids (Change id c) w j f = report-still (changeOf (w .session) (rowsFitIn w) id (changeBy c) (w .store) .result .answer) _ _ refl
+  step-ids (Read r) w j f = read-still r w (number (j .entries))
 
   event-ids : (h : Handed) (c : Call) (w : World) (j : Journal) → Handing h c
       → number (journalStep c (answerTo w (record { call = c; handed = h })) j .entries)

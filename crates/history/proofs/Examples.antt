@@ -8,10 +8,10 @@ use lib.ListN.{length, getD, take, replicate}
 use Rattle.chain.specs.Chain.{_if_else_}
 use Rattle.chain.specs.Lists.{foundIn, listed}
 use Rattle.words.specs.Records.{splice, part}
-use Rattle.models.specs.Requests.{requestBefore}
 use Rattle.words.specs.declared.OptionI32.the-variants as i32
 use Rattle.words.specs.declared.OptionU32.the-variants as u32
 use Rattle.words.specs.declared.OptionU64.the-variants as u64
+use Rattle.models.specs.Requests.{requestBefore}
 use Rattle.models.specs.declared.ControllerState.the-variants.{Closed}
 use Rattle.models.specs.declared.DeviceId.{DeviceId}
 use Rattle.models.specs.declared.DeviceSnapshot.{DeviceSnapshot}
@@ -47,38 +47,40 @@ use Rattle.targets.specs.Target as target
 use Rattle.session.specs.Session.{isInitialized, raised, marked}
 use Rattle.session.specs.Lifecycle.{openOf, acquiredBy, acquireOf, initializedBy, initializeOf, closedBy, freshBy, closeOf}
 use Rattle.session.specs.Place.{placed, setDeviceOf, setPortOf, setEndpointsOf}
+use Rattle.session.specs.Start.{guarded, readyOf}
 use Rattle.session.specs.Sizes.{openFits, rowsFit, areaFits}
 use Rattle.session.specs.declared.InFlight.the-variants as flight
 use Rattle.session.specs.declared.OptionStall.the-variants as stall
+use Rattle.session.specs.declared.RecoveryKind.the-variants as kind
 use Rattle.session.specs.declared.Session.{Session}
 use Rattle.session.specs.declared.lifecycle.AcquireReply.the-variants as acquire
 use Rattle.session.specs.declared.lifecycle.Opening.{Opening}
 use Rattle.reports.specs.Answers.{effect}
-use Rattle.submissions.specs.Begin.{roomIn, writeOf, beginBy, beginOf, targetBy, targetOf}
 use Rattle.reports.specs.Change.{reportedBy, changeOf}
+use Rattle.reports.specs.Status.{heldCountOf, heldBytesOf}
 use Rattle.polls.specs.Finish.{stallOf, failedAs, judgedTest, judgedBy, judged, storedIn, settled, finishAt, finishBy, finishFound, finishIn, finishOf}
 use Rattle.polls.specs.Poll.{pollRow, pollBy, pollOf}
-use Rattle.submissions.specs.Reply.{acceptedBy, discardedBy, submitReplyBy, submitReplyIn, submitReplyOf}
-use Rattle.reports.specs.Status.{heldCountOf, heldBytesOf}
-use Rattle.submissions.specs.Submit.{submittedBy, preparedBy, roomBy, packetsBy, readyOf, submitBy, submitOf}
 use Rattle.polls.specs.declared.PollReply.the-variants as poll
+use Rattle.submissions.specs.Begin.{roomIn, writeOf, beginBy, beginOf, targetBy, targetOf}
+use Rattle.submissions.specs.Reply.{acceptedBy, discardedBy, submitReplyBy, submitReplyIn, submitReplyOf}
+use Rattle.submissions.specs.Submit.{submittedBy, preparedBy, roomBy, packetsBy, submitBy, submitOf}
 use Rattle.submissions.specs.declared.SubmitReply.the-variants as submit
 use Rattle.scope.specs.Affected.{isAffected, joined, affectedOf}
+use Rattle.scope.specs.Returned.{broughtOf, broughtAt, returnedOf, listsAgree}
+use Rattle.scope.specs.Scope.{inScope}
 use Rattle.recovery.specs.Begin as recoveryBegin
 use Rattle.recovery.specs.Entries.{storedAt, rowCompletedBy, testedBy, completeOne, abortedBy, abortOne}
 use Rattle.recovery.specs.Reply.{restoredBy, resetBy, sessionAfter, refusedAfter, abortsAfter, applyAll, concludedBy, scopedOf, doneOf, replyBy, replySized, replyIn, recoveryReplyOf}
-use Rattle.scope.specs.Returned.{broughtOf, broughtAt, returnedOf, listsAgree}
-use Rattle.scope.specs.Scope.{inScope}
 use Rattle.recovery.specs.declared.AbortReport.{AbortReport}
 use Rattle.recovery.specs.declared.RecoveryReply.{RecoveryReply}
 use Rattle.recovery.specs.declared.RecoveryReply.the-variants as reply
-use Rattle.calls.specs.Calls.{Call, Open, SetDevice, SetPort, SetEndpoints, Acquire, Initialize, Close, Submit, ReplySubmit, Poll, ReplyPoll, AbortRequest, ResetEndpoint, ReplyRecovery, Timeout, Reclaim, HeldCount, HeldBytes}
-use Rattle.calls.specs.Step.{World, world, stepOf}
+use Rattle.calls.specs.Calls.{Call, Open, Place, Device, Port, Endpoints, Move, Acquire, Initialize, Close, Begin, Submit, Poll, Recover, Reply, ToSubmit, ToPoll, Change, Timeout, Reclaim, Read, HeldCount, HeldBytes}
+use Rattle.calls.specs.Step.{World, world, placedOf, movedOf, begunOf, repliedOf, readOf, stepOf}
 use Rattle.calls.specs.declared.Answer.{Answer}
 use Rattle.calls.specs.declared.Answer.the-variants as answer
-use Rattle.history.specs.Run.{Event, own, other, Answered, next, endOf, historyOf}
+use Rattle.runs.specs.Run.{Event, own, other, Answered, next, endOf, historyOf}
 use Rattle.history.specs.Journal.{Entry, journalStep}
-use Rattle.history.specs.Claim.{calls, rowsAfter, entriesAfter, recovers, Different, Recovered, Claim}
+use Rattle.history.specs.Claim.{calls, rowsAfter, entriesAfter, returns, Different, Recovered, Claim}
 use Rattle.history.proofs.Theorem.{history-claim}
 
 -- two rows of 8 bytes, one port
@@ -128,48 +130,48 @@ id n = record { session = 5; generation = 0; sequence = n }
 
 -- n bytes from endpoint 81h
 abbrev asks : ℕ → Call
-asks n = Submit (record { device = camera; endpoint = 0x81; «transfer_type» = Bulk; direction = In; length = n; setup = setup.None }) [] false [] (Word 0x403) (Word 0x403)
+asks n = Begin (Submit (record { device = camera; endpoint = 0x81; «transfer_type» = Bulk; direction = In; length = n; setup = setup.None }) [] false [] (Word 0x403) (Word 0x403))
 
 abbrev broken : OperationError
 broken = record { category = Validation; message = 1; «os_code» = i32.None; «completion_code» = u32.None }
 
 -- n bytes, quiescent or not, with an error or without
 abbrev came : ℕ → Bool → OptionError → Call
-came n quiescent e = ReplyPoll
-    (poll.Completion (record { «actual_length» = u64.Some n; «completion_code» = u32.Some 1; «has_data» = true; error = e; quiescent = quiescent })) (replicate n 0)
+came n quiescent e =
+    Reply (ToPoll (poll.Completion (record { «actual_length» = u64.Some n; «completion_code» = u32.Some 1; «has_data» = true; error = e; quiescent = quiescent })) (replicate n 0))
 
 -- code 6 with an error that says so: a stall
 abbrev stalls : Call
-stalls = ReplyPoll
-    (poll.Completion (record {
+stalls =
+    Reply (ToPoll (poll.Completion (record {
       «actual_length» = u64.None;
       «completion_code» = u32.Some 6;
       «has_data» = false;
       error = error.Some (record { category = RecoveryRequired; message = 1; «os_code» = i32.None; «completion_code» = u32.Some 6 });
       quiescent = false;
-    })) []
+    })) [])
 
 -- a close that is handed another session and its slices
 abbrev elsewhere : Event
-elsewhere = record { call = Close (u64.Some 6) error.None; handed = other before }
+elsewhere = record { call = Move (Close (u64.Some 6) error.None); handed = other before }
 
 -- ---- requests
 -- request 0 completes and is reclaimed, 1 is refused by the backend, 2 times out, fails and is not quiescent, 3 stays
 abbrev script : List Event
 script =
-    calls (SetPort 1 (record { generation = 1; reading = u32.Some 0x403 })) ∷ calls (SetDevice plugged) ∷ calls (SetEndpoints 1 (0x181 ∷ []))
-    ∷ calls (Acquire acquire.Acquired) ∷ calls (Initialize error.None)
-    ∷ calls (asks 8) ∷ calls (ReplySubmit (submit.Token 7))
-    ∷ calls (asks 4) ∷ calls (ReplySubmit (submit.Error broken))
+    calls (Place (Port 1 (record { generation = 1; reading = u32.Some 0x403 }))) ∷ calls (Place (Device plugged)) ∷ calls (Place (Endpoints 1 (0x181 ∷ [])))
+    ∷ calls (Move (Acquire acquire.Acquired)) ∷ calls (Move (Initialize error.None))
+    ∷ calls (asks 8) ∷ calls (Reply (ToSubmit (submit.Token 7)))
+    ∷ calls (asks 4) ∷ calls (Reply (ToSubmit (submit.Error broken)))
     ∷ calls (asks 9)
-    ∷ calls (asks 3) ∷ calls (ReplySubmit (submit.Token 9))
+    ∷ calls (asks 3) ∷ calls (Reply (ToSubmit (submit.Token 9)))
     ∷ calls (asks 1)
-    ∷ calls (Timeout (id 2))
-    ∷ calls (Poll (id 0)) ∷ calls (came 8 true error.None) ∷ calls (Reclaim (id 0))
-    ∷ calls (asks 2) ∷ calls (ReplySubmit (submit.Token 7))
-    ∷ calls (Poll (id 2)) ∷ calls (came 0 false (error.Some broken)) ∷ calls (Reclaim (id 2))
+    ∷ calls (Change (id 2) Timeout)
+    ∷ calls (Begin (Poll (id 0))) ∷ calls (came 8 true error.None) ∷ calls (Change (id 0) Reclaim)
+    ∷ calls (asks 2) ∷ calls (Reply (ToSubmit (submit.Token 7)))
+    ∷ calls (Begin (Poll (id 2))) ∷ calls (came 0 false (error.Some broken)) ∷ calls (Change (id 2) Reclaim)
     ∷ elsewhere
-    ∷ calls HeldCount ∷ calls HeldBytes
+    ∷ calls (Read HeldCount) ∷ calls (Read HeldBytes)
     ∷ []
 
 -- ---- a recovery: requests 0 and 1 have the tokens 7 and 9; a reply is refused by 49; then 1 completes with 4 bytes, 0 is aborted and reclaimed
@@ -182,19 +184,19 @@ completion = 0 ∷ 0 ∷ 0 ∷ 0 ∷ 0 ∷ 1 ∷ 4 ∷ 2 ∷ 1 ∷ 1 ∷ 4 ∷ [
 -- the calls before the reply that succeeds, and those after it
 abbrev front : List Event
 front =
-    calls (SetPort 1 (record { generation = 1; reading = u32.Some 0x403 })) ∷ calls (SetDevice plugged) ∷ calls (SetEndpoints 1 (0x181 ∷ []))
-    ∷ calls (Acquire acquire.Acquired) ∷ calls (Initialize error.None)
-    ∷ calls (asks 8) ∷ calls (ReplySubmit (submit.Token 7))
-    ∷ calls (asks 4) ∷ calls (ReplySubmit (submit.Token 9))
-    ∷ calls (AbortRequest (id 0)) ∷ calls HeldCount ∷ calls (Timeout (id 1))
-    ∷ calls (ReplyRecovery whole (9 ∷ []) completion (7 ∷ []) (1 ∷ 2 ∷ 3 ∷ 4 ∷ 5 ∷ []))
+    calls (Place (Port 1 (record { generation = 1; reading = u32.Some 0x403 }))) ∷ calls (Place (Device plugged)) ∷ calls (Place (Endpoints 1 (0x181 ∷ [])))
+    ∷ calls (Move (Acquire acquire.Acquired)) ∷ calls (Move (Initialize error.None))
+    ∷ calls (asks 8) ∷ calls (Reply (ToSubmit (submit.Token 7)))
+    ∷ calls (asks 4) ∷ calls (Reply (ToSubmit (submit.Token 9)))
+    ∷ calls (Begin (Recover (id 0) kind.Abort)) ∷ calls (Read HeldCount) ∷ calls (Change (id 1) Timeout)
+    ∷ returns whole (9 ∷ []) completion (7 ∷ []) (1 ∷ 2 ∷ 3 ∷ 4 ∷ 5 ∷ []) own
     ∷ []
 
 abbrev back : List Event
-back = calls (Reclaim (id 0)) ∷ calls HeldCount ∷ calls HeldBytes ∷ []
+back = calls (Change (id 0) Reclaim) ∷ calls (Read HeldCount) ∷ calls (Read HeldBytes) ∷ []
 
 abbrev succeeds : Event
-succeeds = recovers whole (9 ∷ []) completion (7 ∷ []) (1 ∷ 2 ∷ 3 ∷ 4 ∷ []) own
+succeeds = returns whole (9 ∷ []) completion (7 ∷ []) (1 ∷ 2 ∷ 3 ∷ 4 ∷ []) own
 
 abbrev recovery : List Event
 recovery = front ++ (succeeds ∷ back)
@@ -205,26 +207,26 @@ report = record { target = id 0; device = camera; endpoint = 0x81; completed = 1
 -- ---- a stall: request 0 fails, and a reset that aborts it makes the controller Initialized again; requests 1 and 2 have one token
 abbrev toReset : List Event
 toReset =
-    calls (SetPort 1 (record { generation = 1; reading = u32.Some 0x403 })) ∷ calls (SetDevice plugged) ∷ calls (SetEndpoints 1 (0x181 ∷ []))
-    ∷ calls (Acquire acquire.Acquired) ∷ calls (Initialize error.None)
-    ∷ calls (asks 8) ∷ calls (ReplySubmit (submit.Token 7))
-    ∷ calls (Poll (id 0)) ∷ calls stalls ∷ calls (asks 4)
-    ∷ calls (ResetEndpoint (id 0) false)
+    calls (Place (Port 1 (record { generation = 1; reading = u32.Some 0x403 }))) ∷ calls (Place (Device plugged)) ∷ calls (Place (Endpoints 1 (0x181 ∷ [])))
+    ∷ calls (Move (Acquire acquire.Acquired)) ∷ calls (Move (Initialize error.None))
+    ∷ calls (asks 8) ∷ calls (Reply (ToSubmit (submit.Token 7)))
+    ∷ calls (Begin (Poll (id 0))) ∷ calls stalls ∷ calls (asks 4)
+    ∷ calls (Begin (Recover (id 0) (kind.Reset false)))
     ∷ []
 
 abbrev aborts : Event
-aborts = recovers whole [] [] (7 ∷ []) [] own
+aborts = returns whole [] [] (7 ∷ []) [] own
 
 abbrev toAbort : List Event
 toAbort =
-    toReset ++ (aborts ∷ calls (Reclaim (id 0))
-    ∷ calls (asks 4) ∷ calls (ReplySubmit (submit.Token 7))
-    ∷ calls (asks 2) ∷ calls (ReplySubmit (submit.Token 7))
-    ∷ calls (AbortRequest (id 2))
+    toReset ++ (aborts ∷ calls (Change (id 0) Reclaim)
+    ∷ calls (asks 4) ∷ calls (Reply (ToSubmit (submit.Token 7)))
+    ∷ calls (asks 2) ∷ calls (Reply (ToSubmit (submit.Token 7)))
+    ∷ calls (Begin (Recover (id 2) kind.Abort))
     ∷ [])
 
 abbrev closing : List Event
-closing = calls HeldCount ∷ calls HeldBytes ∷ calls (Close (u64.Some 6) error.None) ∷ calls HeldCount ∷ []
+closing = calls (Read HeldCount) ∷ calls (Read HeldBytes) ∷ calls (Move (Close (u64.Some 6) error.None)) ∷ calls (Read HeldCount) ∷ []
 
 abbrev stalled : List Event
 stalled = toAbort ++ (aborts ∷ closing)
@@ -308,7 +310,7 @@ two-apart (r ∷ q ∷ []) e = go
 two-apart (r ∷ q ∷ p ∷ l) e = let z : _≡_ {A = ℕ} 2 3 = ap (λ (m : List ℕ). length (take 3 m)) (sym e) ∙ refl in absurd (omega arith)
 
 pub shown : Shown
-unfolding stepOf openOf openFits rowsFit areaFits cleared _if_else_ foundIn splice putIn emptied emptyRow isHeld putRow putWords rowCount rowOf recordOf applyBy applyAt applyOf pendingRow spendSequence moved freed accepted whilePending timeOut completed failed reclaimed changeRow isAt isFree saturate heldCount heldBytes putDevice putEndpoints putPort codeTested testCode testLength testCompletion packetsChecked marked acquiredBy acquireOf initializedBy initializeOf placed setDeviceOf setPortOf setEndpointsOf effect roomIn writeOf beginBy beginOf targetBy targetOf reportedBy changeOf failedAs judgedTest judgedBy judged storedIn settled finishAt finishBy finishFound finishIn finishOf pollRow pollBy pollOf acceptedBy discardedBy submitReplyBy submitReplyIn submitReplyOf heldCountOf heldBytesOf submittedBy preparedBy roomBy packetsBy readyOf submitBy submitOf bus.numberChecked bus.setPortBy bus.setPort bus.readingChecked bus.validatedRow bus.validatedBy bus.validated bus.observedBy bus.observedRow bus.observePortBy bus.observePort bus.freshObserved bus.freshWord bus.freshReading bus.freshPortBy bus.freshPort lists.setEndpoints prepare.dataChecked prepare.otherChecked prepare.specChecked prepare.preparedIf prepare.prepared target.knownBy target.knownDevice target.preparedDevice target.freshDevice target.checkDeviceBy target.checkDevice target.speedChecked target.endpointBy target.checkEndpoint target.checkTargetBy target.checkTarget layout.deviceRecord journalStep closeOf recoveryBegin.beginOf recoveryBegin.beginBy recoveryBegin.beginRow recoveryBegin.begunAs listed isAffected joined affectedOf inScope broughtOf broughtAt returnedOf listsAgree storedAt rowCompletedBy testedBy completeOne abortedBy abortOne abortConfirmed restoredBy resetBy sessionAfter refusedAfter abortsAfter applyAll concludedBy scopedOf doneOf replyBy replySized replyIn recoveryReplyOf part requestBefore storeOf rowsOf busOf raised stallOf freshBy closedBy isUncertain
+unfolding stepOf placedOf movedOf begunOf repliedOf readOf openOf openFits rowsFit areaFits cleared _if_else_ foundIn splice putIn emptied emptyRow isHeld putRow putWords rowCount rowOf recordOf applyBy applyAt applyOf pendingRow spendSequence moved freed accepted whilePending timeOut completed failed reclaimed changeRow isAt isFree saturate heldCount heldBytes putDevice putEndpoints putPort codeTested testCode testLength testCompletion packetsChecked marked acquiredBy acquireOf initializedBy initializeOf placed setDeviceOf setPortOf setEndpointsOf effect roomIn writeOf beginBy beginOf targetBy targetOf reportedBy changeOf failedAs judgedTest judgedBy judged storedIn settled finishAt finishBy finishFound finishIn finishOf pollRow pollBy pollOf acceptedBy discardedBy submitReplyBy submitReplyIn submitReplyOf heldCountOf heldBytesOf submittedBy preparedBy roomBy packetsBy guarded readyOf submitBy submitOf bus.numberChecked bus.setPortBy bus.setPort bus.readingChecked bus.validatedRow bus.validatedBy bus.validated bus.observedBy bus.observedRow bus.observePortBy bus.observePort bus.freshObserved bus.freshWord bus.freshReading bus.freshPortBy bus.freshPort lists.setEndpoints prepare.dataChecked prepare.otherChecked prepare.specChecked prepare.preparedIf prepare.prepared target.knownBy target.knownDevice target.preparedDevice target.freshDevice target.checkDeviceBy target.checkDevice target.speedChecked target.endpointBy target.checkEndpoint target.checkTargetBy target.checkTarget layout.deviceRecord journalStep closeOf recoveryBegin.beginOf recoveryBegin.beginBy recoveryBegin.beginRow recoveryBegin.begunAs listed isAffected joined affectedOf inScope broughtOf broughtAt returnedOf listsAgree storedAt rowCompletedBy testedBy completeOne abortedBy abortOne abortConfirmed restoredBy resetBy sessionAfter refusedAfter abortsAfter applyAll concludedBy scopedOf doneOf replyBy replySized replyIn recoveryReplyOf part requestBefore storeOf rowsOf busOf raised stallOf freshBy closedBy isUncertain
 shown =
     let of-recovery = history-claim opening closed busWords (replicate 52 0) (replicate 16 0) recovery refl
     (refl, (refl, (refl, (refl, (refl, (refl, (refl, (refl, (refl, (refl, (refl, (refl, (refl, (refl, (refl, (refl, (refl, tt)))))))))))))))))

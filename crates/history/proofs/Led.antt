@@ -6,15 +6,12 @@ use mathlib.Core.Bool.{Bool, true, false, cond, _&&_}
 use mathlib.Core.List.{List}
 use native.Mathlib.Omega.{arith}
 use lib.Dec.{ltb}
-use lib.ListN.{length, getD, set}
-use borrow.Author.Tests.{lt-ltb, ltb-true, ltb-false}
-use Rattle.chain.specs.Lists.{sumBy, only, count, find, anyIn}
-use Rattle.chain.proofs.Chain.{caseB}
+use lib.ListN.{length, set}
+use Rattle.chain.specs.Lists.{sumBy, only, count, find}
 use Rattle.chain.proofs.Lists.{sum-eq, sum-set, sum-one, count-pos, find-hit, find-some}
 use Rattle.models.specs.Requests.{deviceMayAccess, sameRequest}
 use Rattle.models.specs.declared.RequestId.{RequestId}
-use Rattle.rows.specs.Codec.{rowOf}
-use Rattle.rows.specs.Table.{emptyRow, isHeld}
+use Rattle.rows.specs.Table.{emptyRow, isHeld, rowIn}
 use Rattle.rows.specs.declared.Row.{Row}
 use Rattle.ledger.specs.Search.{isAt}
 use Rattle.history.specs.Journal.{Entry, isOpen, isEntry, entryOf, atEntry, noEntry, View, entryView}
@@ -34,10 +31,6 @@ each v = 1
 abbrev pub lengthOf : View → ℕ
 lengthOf v = v .requested
 
--- longer than any request may be
-abbrev pub long : View → ℕ
-long v = cond (ltb 65536 (v .requested)) 1 0
-
 -- the weight w at the id x alone
 abbrev pub isView : RequestId → View → Bool
 isView x v = sameRequest (v .id) x
@@ -53,8 +46,6 @@ pub record Led (rows : List Row) (entries : List Entry) : Type 0 where
   pub known : (x : RequestId) → count (isAt x) rows ≤ count (isEntry x) entries
   pub once : (x : RequestId) → count (isEntry x) entries ≤ 1
   pub single : count twice entries ≡ 0
-  pub few : count isHeld rows ≤ 128
-  pub short : sumBy (rowW long) rows ≡ 0
 
 -- ---- small facts
 
@@ -80,58 +71,24 @@ open-at false false n = refl
 pub entry-at : (x : RequestId) (w : View → ℕ) (e : Entry) → entryW (at x w) e ≡ only (isEntry x) (entryW w) e
 entry-at x w e = open-at (isOpen e) (isEntry x e) (w (entryView e))
 
-pub any-count : {A : Type 0} (p : A → Bool) (l : List A) (d : A) → anyIn p l ≡ ltb 0 (count p l)
-any-count p l d =
-    caseB (ltb 0 (count p l))
-    (λ e. let h = ltb-true 0 (count p l) e in lt-ltb (find p l) (length l) (find-some p l h) ∙ sym e)
-    (λ e. let h = ltb-false 0 (count p l) e in
-    caseB (anyIn p l)
-    (λ y. let g = ltb-true (find p l) (length l) y in absurd (omega (arith, count-pos p l (find p l) d g (find-hit p l d g))))
-    (λ y. y ∙ sym e))
-
--- what is not held weighs nothing, and neither does what has a release
+-- what is not held weighs nothing
 pub row-none : (w : View → ℕ) (r : Row) → isHeld r ≡ false → rowW w r ≡ 0
 row-none w r e = rw e
 
-pub and-off : (u d : Bool) → d ≡ false → (u && d) ≡ false
-and-off true d e = e
-and-off false d e = refl
-
-pub and-less : (a b : Bool) → cond {A = ℕ} (a && b) 1 0 ≤ cond {A = ℕ} a 1 0
-and-less true true = omega arith
-and-less true false = omega arith
-and-less false b = omega arith
-
-pub unheld-row : (r : Row) → deviceMayAccess (r .state) ≡ false → isHeld r ≡ false
-unfolding isHeld
-unheld-row r e = and-off (r .used) (deviceMayAccess (r .state)) e
-
-pub free-held : (r : Row) → r .used ≡ false → isHeld r ≡ false
-unfolding isHeld
-free-held r e = rw e
-
-pub free-at : (x : RequestId) (r : Row) → r .used ≡ false → isAt x r ≡ false
-unfolding isAt
-free-at x r e = rw e
-
-pub empty-free : emptyRow .used ≡ false
-unfolding emptyRow rowOf
-empty-free = refl
-
 -- ---- the row of an id, where it is in the store, and its entry
 module _ (rows : List Row) (entries : List Entry) (k : Led rows entries) (x : RequestId) (i : ℕ) (lt : i < length rows)
-    (hit : isAt x (getD rows i emptyRow) ≡ true) where
+    (hit : isAt x (rowIn rows i) ≡ true) where
   pub lone : count (isAt x) rows ≤ 1
   lone = omega (arith, k .known x, k .once x)
 
-  rows-at : (w : View → ℕ) → sumBy (rowW (at x w)) rows ≡ rowW w (getD rows i emptyRow)
+  rows-at : (w : View → ℕ) → sumBy (rowW (at x w)) rows ≡ rowW w (rowIn rows i)
   rows-at w = sum-eq (rowW (at x w)) (only (isAt x) (rowW w)) rows (row-at x w) ∙ sum-one (isAt x) (rowW w) rows i emptyRow lt hit lone
 
   pub known-in : find (isEntry x) entries < length entries
   known-in = find-some (isEntry x) entries (omega (arith, k .known x, count-pos (isAt x) rows i emptyRow lt hit))
 
   -- what the entry of a row says is what the row says
-  pub entry-is : (w : View → ℕ) → entryW w (entryOf x entries) ≡ rowW w (getD rows i emptyRow)
+  pub entry-is : (w : View → ℕ) → entryW w (entryOf x entries) ≡ rowW w (rowIn rows i)
   entry-is w =
       sym (sum-one (isEntry x) (entryW w) entries (find (isEntry x) entries) noEntry known-in (find-hit (isEntry x) entries noEntry known-in) (k .once x))
       ∙ sum-eq (only (isEntry x) (entryW w)) (entryW (at x w)) entries (λ e. sym (entry-at x w e))
@@ -143,12 +100,10 @@ pub record Changed (r r′ : Row) (e e′ : Entry) : Type 0 where
   pub row-id : (x : RequestId) → only (isAt x) (λ y. 1) r′ ≤ only (isAt x) (λ y. 1) r
   pub entry-id : (x : RequestId) → isEntry x e′ ≡ isEntry x e
   pub single : twice e′ ≡ false
-  pub few : rowW each r′ ≤ rowW each r
-  pub short : rowW long r′ ≤ rowW long r
 
 module _ (rows : List Row) (entries : List Entry) (k : Led rows entries) (x : RequestId) (i : ℕ) (lt : i < length rows)
-    (hit : isAt x (getD rows i emptyRow) ≡ true) (r′ : Row) (f : Entry → Entry)
-    (c : Changed (getD rows i emptyRow) r′ (entryOf x entries) (f (entryOf x entries))) where
+    (hit : isAt x (rowIn rows i) ≡ true) (r′ : Row) (f : Entry → Entry)
+    (c : Changed (rowIn rows i) r′ (entryOf x entries) (f (entryOf x entries))) where
   abbrev place : ℕ
   place = find (isEntry x) entries
 
@@ -167,8 +122,6 @@ module _ (rows : List Row) (entries : List Entry) (k : Led rows entries) (x : Re
     known = λ y. omega (arith, sum-set (only (isAt y) (λ z. 1)) rows i r′ emptyRow lt, c .row-id y, k .known y, ids-kept y);
     once = λ y. omega (arith, k .once y, ids-kept y);
     single = omega (arith, sum-entry (only twice (λ e. 1)), none-twice, k .single);
-    few = omega (arith, sum-set (rowW each) rows i r′ emptyRow lt, c .few, k .few);
-    short = omega (arith, sum-set (rowW long) rows i r′ emptyRow lt, c .short, k .short);
   }
 
 -- ---- a row changes, and not its weight: no entry changes
@@ -177,13 +130,11 @@ pub record Alike (r r′ : Row) : Type 0 where
   pub row-id : (x : RequestId) → only (isAt x) (λ y. 1) r′ ≤ only (isAt x) (λ y. 1) r
 
 module _ (rows : List Row) (entries : List Entry) (k : Led rows entries) (i : ℕ) (lt : i < length rows) (r′ : Row)
-    (c : Alike (getD rows i emptyRow) r′) where
+    (c : Alike (rowIn rows i) r′) where
   pub led-set : Led (set rows i r′) entries
   led-set = record {
     same = λ w. omega (arith, sum-set (rowW w) rows i r′ emptyRow lt, c .weight w, k .same w);
     known = λ y. omega (arith, sum-set (only (isAt y) (λ z. 1)) rows i r′ emptyRow lt, c .row-id y, k .known y);
     once = k .once;
     single = k .single;
-    few = omega (arith, sum-set (rowW each) rows i r′ emptyRow lt, c .weight each, k .few);
-    short = omega (arith, sum-set (rowW long) rows i r′ emptyRow lt, c .weight long, k .short);
   }

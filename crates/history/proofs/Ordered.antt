@@ -4,17 +4,17 @@ use mathlib.Core.Path.{_≡_, refl, sym, ap, _∙_}
 use mathlib.Core.Bool.{Bool, true, false, cond}
 use mathlib.Core.List.{List, [], _∷_}
 use native.Mathlib.Omega.{arith}
-use lib.Dec.{eqb}
 use borrow.Author.Tests.{eq-eqb, eqb-true}
+use lib.Dec.{eqb}
 use Rattle.chain.specs.Lists.{sumBy, only, count}
 use Rattle.chain.proofs.Chain.{caseB}
 use Rattle.chain.proofs.Lists.{sum-le}
 use Rattle.models.proofs.Order.{before-trans, before-asym, before-self, same-place}
 use Rattle.models.specs.Requests.{requestBefore, sameRequest}
 use Rattle.models.specs.declared.RequestId.{RequestId}
+use Rattle.runs.proofs.Ids.{same-self}
 use Rattle.history.specs.Journal.{insertView, View}
 use Rattle.history.proofs.Led.{isView}
-use Rattle.history.proofs.Changes.{same-self}
 
 -- ---- lists by ascending id
 abbrev earlier : View → View → Bool

@@ -1,13 +1,10 @@
 -- A refusal by 3 leaves whatever the call was handed as it was. Assumes nothing.
 use Prim.Native.Nat.{ℕ, _*_}
-use mathlib.Core.Bool.{Bool, false, _&&_, false≢true, true}
-use mathlib.Core.List.{List, [], _∷_}
+use mathlib.Core.Bool.{Bool, false, _&&_, false≢true}
+use mathlib.Core.List.{List, []}
 use mathlib.Core.Path.{_≡_, refl, sym, ap, _∙_}
 use lib.Dec.{eqb}
-use lib.ListN.{length, getD, take, drop}
-use Rattle.chain.specs.Lists.{foundIn}
-use Rattle.chain.specs.declared.Found.{Found}
-use Rattle.chain.specs.declared.Found.the-variants as found
+use lib.ListN.{length, take, drop}
 use Rattle.chain.proofs.Chain.{if-all}
 use Rattle.words.specs.declared.OptionU32.{OptionU32}
 use Rattle.words.specs.declared.OptionU32.the-variants as u32
@@ -36,12 +33,11 @@ use Rattle.models.specs.declared.RequestState.the-variants.{Pending, Completed,
 use Rattle.models.specs.declared.Verdict.{Verdict}
 use Rattle.models.specs.declared.Verdict.the-variants as verdict
 use Rattle.rows.specs.Store.{Store}
-use Rattle.rows.specs.Table.{emptyRow}
+use Rattle.rows.specs.Table.{rowIn}
 use Rattle.rows.specs.declared.Row.{Row}
-use Rattle.ledger.specs.Apply.{applyBy, applyAt, applyOf}
+use Rattle.ledger.specs.Apply.{applyBy}
 use Rattle.rules.specs.Rules.{spendSequence, moved, freed, accepted, whilePending, logicalCancel, timeOut, completed, failed, abortConfirmed, reclaimed, changeRow, flagged, withState}
-use Rattle.ledger.specs.Search.{isAt}
-use Rattle.rules.specs.declared.Change.{Change}
+use Rattle.rules.specs.declared.Change as rules
 use Rattle.rules.specs.declared.Change.the-variants as change
 use Rattle.rules.specs.declared.Spent.{Spent}
 use Rattle.rules.specs.declared.Step.{Step}
@@ -55,64 +51,60 @@ use Rattle.bus.specs.declared.ports.PortChecked.the-variants as checked
 use Rattle.bus.specs.declared.ports.Observed.{Observed}
 use Rattle.bus.specs.declared.ports.Observed.the-variants as observed
 use Rattle.checks.specs.Completion.{testCompletion}
-use Rattle.checks.specs.Packets.{packetsChecked}
-use Rattle.checks.specs.Plan.{planned}
-use Rattle.checks.specs.Prepare.{prepared}
+use Rattle.checks.specs.Plan.{planOf}
+use Rattle.checks.specs.Prepare.{metadataOf}
 use Rattle.targets.specs.Target as target
 use Rattle.checks.specs.declared.completion.CompletionTest.{CompletionTest}
 use Rattle.checks.specs.declared.completion.CompletionTest.the-variants as test
-use Rattle.checks.specs.declared.plan.Planned.{Planned}
-use Rattle.checks.specs.declared.plan.Planned.the-variants as plan
-use Rattle.checks.specs.declared.prepare.Prepared.{Prepared}
-use Rattle.checks.specs.declared.prepare.Prepared.the-variants as prepare
 use Rattle.targets.specs.declared.target.DeviceChecked.{DeviceChecked}
 use Rattle.targets.specs.declared.target.DeviceChecked.the-variants as deviceIs
 use Rattle.session.specs.Session.{isInitialized, withFlight}
 use Rattle.session.specs.Lifecycle.{OpenedTo, CalledTo, openOf, acquiredBy, acquireOf, initializedBy, initializeOf, closedBy, freshBy, closeOf}
 use Rattle.session.specs.Place.{placed, setDeviceOf, setPortOf, setEndpointsOf, setReconcileOf}
+use Rattle.session.specs.Start.{guarded}
 use Rattle.session.specs.declared.Called.{Called}
-use Rattle.session.specs.declared.InFlight.{InFlight}
 use Rattle.session.specs.declared.InFlight.the-variants as flight
 use Rattle.session.specs.declared.RecoveryKind.{RecoveryKind}
-use Rattle.session.specs.declared.RecoveryKind.the-variants as kind
 use Rattle.session.specs.declared.Session.{Session}
 use Rattle.session.specs.declared.lifecycle.AcquireReply.{AcquireReply}
 use Rattle.session.specs.declared.lifecycle.AcquireReply.the-variants as acquire
 use Rattle.session.specs.declared.lifecycle.Opening.{Opening}
-use Rattle.reports.specs.Answers.{ReportedTo}
-use Rattle.submissions.specs.Begin as begin
+use Rattle.reports.specs.Answers.{ReportedTo, reportedTo}
 use Rattle.reports.specs.Change.{reportedBy, changeOf}
-use Rattle.polls.specs.Finish.{FinishTo, judged, settled, finishAt, finishBy, finishFound, finishIn, finishOf}
-use Rattle.polls.specs.Poll.{pollRow, pollBy, pollOf}
-use Rattle.submissions.specs.Reply.{acceptedBy, discardedBy, submitReplyBy, submitReplyIn, submitReplyOf}
-use Rattle.submissions.specs.Submit.{SubmitTo, submittedBy, preparedBy, roomBy, packetsBy, readyOf, submitBy, submitOf, PlanTo, planStarted, plannedBy, planRoomBy, planBy, submitPlanOf}
+use Rattle.polls.specs.Finish.{FinishTo, judged, settled, finishAt, finishOf}
+use Rattle.polls.specs.Poll.{pollOf}
 use Rattle.polls.specs.declared.Polled.{Polled}
 use Rattle.polls.specs.declared.PollReply.{PollReply}
 use Rattle.polls.specs.declared.PollReply.the-variants as pollReply
+use Rattle.submissions.specs.Begin as begin
+use Rattle.submissions.specs.Reply.{acceptedBy, discardedBy, submitReplyBy, submitReplyOf}
+use Rattle.submissions.specs.Submit.{SubmitTo, submittedBy, submitOf, PlanTo, planStarted, submitPlanOf}
 use Rattle.submissions.specs.declared.SubmitReply.{SubmitReply}
 use Rattle.submissions.specs.declared.SubmitReply.the-variants as submitReply
 use Rattle.submissions.specs.declared.begin.Start.{Start}
 use Rattle.submissions.specs.declared.begin.Start.the-variants as start
 use Rattle.scope.specs.Affected.{affectedOf, tokensOf}
-use Rattle.recovery.specs.Begin as recoveryBegin
 use Rattle.scope.specs.Returned.{Returned, returnedOf}
-use Rattle.recovery.specs.Entries.{WalkTo, rowCompletedBy, testedBy, completeOne, onwardBy, completeAll, AbortTo, abortedBy, abortOne, furtherBy, abortAll}
-use Rattle.recovery.specs.Reports.{idLists}
-use Rattle.recovery.specs.Reply.{RecoveredTo, reportOf, abortsAfter, applyAll, concludedBy, scopedOf, doneOf, replyBy, replySized, replyIn, recoveryReplyOf}
 use Rattle.scope.specs.Scope.{meant}
+use Rattle.recovery.specs.Begin as recoveryBegin
+use Rattle.recovery.specs.Entries.{WalkTo, rowCompletedBy, testedBy, completeOne, abortedBy, abortOne}
+use Rattle.recovery.specs.Reports.{idLists}
+use Rattle.recovery.specs.Reply.{RecoveredTo, reportOf, applyAll, concludedBy, scopedOf, recoveryReplyOf}
 use Rattle.recovery.specs.declared.AbortReport.{AbortReport}
 use Rattle.recovery.specs.declared.Begun.{Begun}
 use Rattle.recovery.specs.declared.Ids.{Ids}
 use Rattle.recovery.specs.declared.Outcome.{Outcome}
 use Rattle.recovery.specs.declared.Recovery.{Recovery}
 use Rattle.recovery.specs.declared.RecoveryReply.{RecoveryReply}
-use Rattle.recovery.specs.declared.RecoveryReply.the-variants as reply
 use Rattle.calls.specs.Answers.{ofSubmit, ofPlan, ofRecovery}
-use Rattle.calls.specs.Calls.{Call, Open, SetDevice, SetPort, SetEndpoints, SetReconcile, Acquire, Initialize, Close, Submit, SubmitPlan, ReplySubmit, Poll, ReplyPoll, AbortRequest, ResetEndpoint, ReplyRecovery, Cancel, Timeout, Reclaim, Status, Reports, CountReports, CompletedBytes, HeldCount, HeldBytes}
-use Rattle.calls.specs.Step.{World, After, stepOf, opens, places, moves, closes, submits, plans, reports, polls, finishes, begins, recovers, rowsFitIn, areaFitsIn, storeFitsIn}
+use Rattle.calls.specs.Calls.{Device, Port, Endpoints, Reconcile, Call, Open, Place, Move, Acquire, Initialize, Close, Begin, Submit, SubmitPlan, Poll, Recover, Reply, ToSubmit, ToPoll, ToRecovery, Change, Read}
+use Rattle.calls.specs.Step.{World, After, stepOf, opens, places, moves, closes, submits, plans, reports, polls, finishes, begins, recovers, rowsFitIn, areaFitsIn, storeFitsIn, placedOf, movedOf, begunOf, repliedOf, changeBy}
 use Rattle.calls.specs.declared.Answer.{Answer}
 use Rattle.calls.specs.declared.Answer.the-variants as answer
-use Rattle.history.specs.Run.{next}
+use Rattle.runs.specs.Run.{next}
+use Rattle.runs.proofs.Ways.{apply-all, change-all, poll-all, begin-all, reply-all, finish-all, recovery-all}
+use Rattle.runs.proofs.Stages.{submit-all, plan-all}
+use Rattle.runs.proofs.Entries.{Onward, entries-all}
 use Rattle.history.specs.Journal.{refusalNumber}
 
 no : (a : Answer) → eqb (refusalNumber a) 3 ≡ false → a ≡ answer.Refused (refusalOf 3) → ⊥
@@ -144,7 +136,7 @@ OtherStep (step.Refused r) = eqb (r .number) 3 ≡ false
 OtherStep (step.To q x) = Unit {0}
 
 -- the ledger's 41, 42, 43
-other-step : (r : Row) (c : Change) → OtherStep (changeRow r c)
+other-step : (r : Row) (c : rules.Change) → OtherStep (changeRow r c)
 unfolding changeRow accepted moved freed logicalCancel whilePending timeOut completed failed abortConfirmed reclaimed
 other-step r (change.Accept token) = tt
 other-step r change.Discard = tt
@@ -299,52 +291,39 @@ unfolding testedBy
 other-test test.MissingLength code i at room bytes store area = refl
 other-test test.Invalid code i at room bytes store area = refl
 other-test (test.Valid a n) code i at room bytes store area =
-    other-complete (changeRow (getD (store .rows) i emptyRow) (change.Complete a n)) (other-step (getD (store .rows) i emptyRow) (change.Complete a n)) i at room bytes store area
+    other-complete (changeRow (rowIn (store .rows) i) (change.Complete a n)) (other-step (rowIn (store .rows) i) (change.Complete a n)) i at room bytes store area
 
 other-one : (i at room : ℕ) (c : BackendCompletion) (bytes : List ℕ) (store : Store) (area : List ℕ) → OtherVerdict (completeOne i at room c bytes store area .verdict)
 unfolding completeOne
 other-one i at room c bytes store area =
-    other-test (testCompletion c (length bytes) (getD (store .rows) i emptyRow .metadata .«requested_length»)) (c .«completion_code») i at room bytes store area
-
-other-on : (v : Verdict) (w : WalkTo) (f : Store → List ℕ → WalkTo) → OtherVerdict (w .verdict) → ((s : Store) (a : List ℕ) → OtherVerdict (f s a .verdict)) → OtherVerdict (onwardBy v w f .verdict)
-other-on (verdict.Refused r) w f h k = h
-other-on verdict.Pass w f h k = k (w .store) (w .area)
-
-other-completions : (place : ℕ → ℕ) (room : ℕ) (es : List Returned) (bytes : List ℕ) (store : Store) (area : List ℕ) → OtherVerdict (completeAll place room es bytes store area .verdict)
-other-completions place room [] bytes store area = tt
-other-completions place room (e ∷ es) bytes store area =
-    other-on (completeOne (place (e .token)) (place (e .token) * room) room (e .brought .completion) (take (e .brought .given) bytes) store area .verdict)
-    (completeOne (place (e .token)) (place (e .token) * room) room (e .brought .completion) (take (e .brought .given) bytes) store area)
-    (λ (s : Store) (a : List ℕ). completeAll place room es (drop (e .brought .given) bytes) s a)
-    (other-one (place (e .token)) (place (e .token) * room) room (e .brought .completion) (take (e .brought .given) bytes) store area)
-    (λ s a. other-completions place room es (drop (e .brought .given) bytes) s a)
+    other-test (testCompletion c (length bytes) (rowIn (store .rows) i .metadata .«requested_length»)) (c .«completion_code») i at room bytes store area
 
 other-abort : (m : Step) → OtherStep m → (i : ℕ) (store : Store) → OtherVerdict (abortedBy m i store .verdict)
 unfolding abortedBy
 other-abort (step.Refused r) h i store = h
 other-abort (step.To q x) h i store = tt
 
-other-further : (v : Verdict) (w : AbortTo) (f : Store → AbortTo) → OtherVerdict (w .verdict) → ((s : Store) → OtherVerdict (f s .verdict)) → OtherVerdict (furtherBy v w f .verdict)
-other-further (verdict.Refused r) w f h k = h
-other-further verdict.Pass w f h k = k (w .store)
+abbrev All : List Returned → List ℕ → List ℕ → Store → List ℕ → Type 0
+All es ts bytes store area = Unit {0}
 
-other-aborts : (place : ℕ → ℕ) (ts : List ℕ) (store : Store) → OtherVerdict (abortAll place ts store .verdict)
-unfolding abortOne
-other-aborts place [] store = tt
-other-aborts place (t ∷ ts) store =
-    other-further (abortOne (place t) store .verdict) (abortOne (place t) store) (λ (s : Store). abortAll place ts s)
-    (other-abort (changeRow (getD (store .rows) (place t) emptyRow) change.ConfirmAbort) (other-step (getD (store .rows) (place t) emptyRow) change.ConfirmAbort) (place t) store)
-    (λ s. other-aborts place ts s)
+abbrev Other : Verdict → Store → List ℕ → Type 0
+Other v store area = OtherVerdict v
 
-other-after : (v : Verdict) (w : WalkTo) (place : ℕ → ℕ) (ts : List ℕ) → OtherVerdict (w .verdict) → OtherVerdict (abortsAfter v w place ts .verdict)
-unfolding abortsAfter
-other-after (verdict.Refused r) w place ts h = h
-other-after verdict.Pass w place ts h = other-aborts place ts (w .store)
+other-on : (place : ℕ → ℕ) (room : ℕ) (v : Verdict) → OtherVerdict v → (es : List Returned) (ts bytes : List ℕ) (store : Store) (area : List ℕ)
+    → Onward place room All Other v es ts bytes store area
+other-on place room (verdict.Refused r) h es ts bytes store area = h
+other-on place room verdict.Pass h es ts bytes store area = tt
 
 other-all : (place : ℕ → ℕ) (room : ℕ) (es : List Returned) (aborted bytes : List ℕ) (store : Store) (area : List ℕ) → OtherVerdict (applyAll place room es aborted bytes store area .verdict)
-unfolding applyAll
+unfolding abortOne
 other-all place room es aborted bytes store area =
-    other-after (completeAll place room es bytes store area .verdict) (completeAll place room es bytes store area) place aborted (other-completions place room es bytes store area)
+    entries-all place room All Other (λ bytes s x h. tt)
+    (λ e es ts bytes s x h.
+    let one : WalkTo = completeOne (place (e .token)) (place (e .token) * room) room (e .brought .completion) (take (e .brought .given) bytes) s x in
+    other-on place room (one .verdict) (other-one (place (e .token)) (place (e .token) * room) room (e .brought .completion) (take (e .brought .given) bytes) s x) es ts
+    (drop (e .brought .given) bytes) (one .store) (one .area))
+    (λ t ts bytes s x h. other-on place room (abortOne (place t) s .verdict) (other-abort (changeRow (rowIn (s .rows) (place t)) change.ConfirmAbort) (other-step (rowIn (s .rows) (place t)) change.ConfirmAbort) (place t) s) [] ts bytes (abortOne (place t) s .store) x)
+    es aborted bytes store area tt
 
 -- ---- each call
 module _ (w : World) where
@@ -362,7 +341,7 @@ module _ (w : World) where
   passed e = absurd (no answer.Pass refl e)
 
   placed-stays : (fits : Bool) (done : bus.VerdictTo) → Places done → Places (placed (w .session) fits (w .bus) done)
-  unfolding placed
+  unfolding placed guarded
   placed-stays fits done k = if-all Places _ _ _ (λ e. refl) (if-all Places _ _ _ (λ e. refl) k)
 
   device-stays : (fits : Bool) (d : DeviceSnapshot) → Places (setDeviceOf (w .session) fits d (w .bus))
@@ -413,7 +392,7 @@ module _ (w : World) where
   Closes c = Stays (closes c w)
 
   close-stays : (fits : Bool) (n : OptionU64) (x : OptionError) → Closes (closeOf (w .session) fits n x (w .store))
-  unfolding closeOf freshBy closedBy
+  unfolding closeOf guarded freshBy closedBy
   close-stays fits n x = if-all Closes _ _ _ (λ e. refl) (if-all Closes _ _ _ (λ e. refl) (if-all Closes _ _ _ passed (go n x)))
     where
       go : (n : OptionU64) (x : OptionError) → Closes (freshBy n (w .session) x (w .store))
@@ -427,122 +406,83 @@ module _ (w : World) where
 
   submit-stays : (fits : Bool) (q : RequestSpec) (bytes : List ℕ) (given : Bool) (packets : List ℕ) (one two : PortReading)
       → Submits (submitOf (w .session) fits q bytes given packets one two (w .bus) (w .store) (w .area))
-  unfolding submitOf submitBy packetsBy roomBy preparedBy submittedBy
-  submit-stays fits q bytes given packets one two = by-ready (readyOf (w .session) fits)
+  unfolding submittedBy
+  submit-stays fits q bytes given packets one two =
+      submit-all (w .session) q bytes given one two (w .bus) (w .store) (w .area) Submits (λ x e. refl)
+      (λ i room size.
+      let o : begin.TargetTo = begin.targetOf (w .session) i (i * w .session .«row_bytes») (metadataOf q) bytes one two (w .bus) (w .store) (w .area) in
+      by-start (o .result .answer) (other-start (w .session) i (i * w .session .«row_bytes») (metadataOf q) bytes one two (w .bus) (w .store) (w .area)) (o .result .session) (metadataOf q) _)
+      fits packets
     where
       by-start : (o : Start) → OtherStart o → (s : Session) (m : RequestMetadata) (v : World)
           → ofSubmit (submittedBy o s m given .answer) ≡ answer.Refused (refusalOf 3) → v ≡ w
       by-start (start.Refused r) h s m v e = absurd (no (answer.Refused r) h e)
       by-start (start.At id i) h s m v e = absurd (no _ refl e)
 
-      by-prepared : (p : Prepared) (i : ℕ) → Submits (preparedBy p (w .session) i bytes given one two (w .bus) (w .store) (w .area))
-      by-prepared (prepare.Refused r) i = λ e. refl
-      by-prepared (prepare.Ready m) i =
-          by-start (begin.targetOf (w .session) i (i * w .session .«row_bytes») m bytes one two (w .bus) (w .store) (w .area) .result .answer)
-          (other-start (w .session) i (i * w .session .«row_bytes») m bytes one two (w .bus) (w .store) (w .area))
-          (begin.targetOf (w .session) i (i * w .session .«row_bytes») m bytes one two (w .bus) (w .store) (w .area) .result .session) m _
-
-      by-room : (f : Found) → Submits (roomBy f (w .session) q bytes given one two (w .bus) (w .store) (w .area))
-      by-room found.Nothing = λ e. refl
-      by-room (found.At i) = by-prepared (prepared q (length bytes) (w .session .«row_bytes»)) i
-
-      by-packets : (v : Verdict) → Submits (packetsBy v (w .session) q bytes given one two (w .bus) (w .store) (w .area))
-      by-packets (verdict.Refused r) = λ e. refl
-      by-packets verdict.Pass = by-room (begin.roomIn (w .store .rows))
-
-      by-ready : (v : Verdict) → Submits (submitBy v (w .session) q bytes given packets one two (w .bus) (w .store) (w .area))
-      by-ready (verdict.Refused r) = λ e. refl
-      by-ready verdict.Pass = by-packets (packetsChecked given packets (q .«transfer_type») (q .length))
-
   abbrev Plans : PlanTo → Type 0
   Plans o = Stays (plans o)
 
   plan-stays : (fits : Bool) (q : ControlPlan) (bytes : List ℕ) (one : PortReading) → Plans (submitPlanOf (w .session) fits q bytes one (w .bus) (w .store) (w .area))
-  unfolding submitPlanOf planBy planRoomBy plannedBy planStarted
-  plan-stays fits q bytes one = by-ready (readyOf (w .session) fits)
+  unfolding planStarted
+  plan-stays fits q bytes one =
+      plan-all (w .session) q bytes one (w .bus) (w .store) (w .area) Plans (λ x e. refl)
+      (λ i room size.
+      let o : begin.TargetTo = begin.targetOf (w .session) i (i * w .session .«row_bytes») (planOf q .metadata) bytes one one (w .bus) (w .store) (w .area) in
+      by-start (o .result .answer) (other-start (w .session) i (i * w .session .«row_bytes») (planOf q .metadata) bytes one one (w .bus) (w .store) (w .area)) (o .result .session) _)
+      fits
     where
-      by-planned : (p : Planned) (i : ℕ) → Plans (plannedBy p (w .session) i bytes one (w .bus) (w .store) (w .area))
-      by-planned (plan.Refused r) i = λ e. refl
-      by-planned (plan.Ready p) i =
-          by-start (begin.targetOf (w .session) i (i * w .session .«row_bytes») (p .metadata) bytes one one (w .bus) (w .store) (w .area) .result .answer)
-          (other-start (w .session) i (i * w .session .«row_bytes») (p .metadata) bytes one one (w .bus) (w .store) (w .area)) _
-        where
-          by-start : (o : Start) → OtherStart o → (v : World)
-              → ofPlan (planStarted o (begin.targetOf (w .session) i (i * w .session .«row_bytes») (p .metadata) bytes one one (w .bus) (w .store) (w .area) .result .session) p .answer) ≡ answer.Refused (refusalOf 3) → v ≡ w
-          by-start (start.Refused r) h v e = absurd (no (answer.Refused r) h e)
-          by-start (start.At id j) h v e = absurd (no _ refl e)
-
-      by-room : (f : Found) → Plans (planRoomBy f (w .session) q bytes one (w .bus) (w .store) (w .area))
-      by-room found.Nothing = λ e. refl
-      by-room (found.At i) = by-planned (planned q (length bytes) (w .session .«row_bytes»)) i
-
-      by-ready : (v : Verdict) → Plans (planBy v (w .session) q bytes one (w .bus) (w .store) (w .area))
-      by-ready (verdict.Refused r) = λ e. refl
-      by-ready verdict.Pass = by-room (begin.roomIn (w .store .rows))
+      by-start : (o : Start) → OtherStart o → (s : Session) (v : World) → ofPlan (planStarted o s (planOf q) .answer) ≡ answer.Refused (refusalOf 3) → v ≡ w
+      by-start (start.Refused r) h s v e = absurd (no (answer.Refused r) h e)
+      by-start (start.At id i) h s v e = absurd (no _ refl e)
 
   -- ---- the reply to a submission; cancel, timeout and reclaim
   abbrev Tells : ReportedTo → Type 0
   Tells o = Stays (reports o w)
 
   reply-stays : (fits : Bool) (x : SubmitReply) → Tells (submitReplyOf (w .session) fits x (w .store))
-  unfolding submitReplyOf submitReplyIn submitReplyBy acceptedBy discardedBy applyOf applyAt applyBy
-  reply-stays fits x = go (w .session .«in_flight»)
+  unfolding submitReplyBy acceptedBy discardedBy applyBy
+  reply-stays fits x = reply-all (w .session) x (w .store) Tells (λ e. refl) (λ e. refl) (λ id own. by-reply x id) fits
     where
-      by-token : (token : ℕ) (m : Step) (i : ℕ)
-          → Tells (record { result = acceptedBy (applyBy m i (w .store) .answer) (w .session); store = applyBy m i (w .store) .store })
-      by-token token (step.Refused r) i = λ e. refl
-      by-token token (step.To q y) i = λ e. absurd (no _ refl e)
+      by-token : (m : Step) (i : ℕ) → Tells (reportedTo (acceptedBy (applyBy m i (w .store) .answer) (w .session)) (applyBy m i (w .store) .store))
+      by-token (step.Refused r) i = λ e. refl
+      by-token (step.To q y) i = λ e. absurd (no _ refl e)
 
-      by-error : (y : OperationError) (m : Step) (i : ℕ)
-          → Tells (record { result = discardedBy (applyBy m i (w .store) .answer) y (w .session); store = applyBy m i (w .store) .store })
+      by-error : (y : OperationError) (m : Step) (i : ℕ) → Tells (reportedTo (discardedBy (applyBy m i (w .store) .answer) y (w .session)) (applyBy m i (w .store) .store))
       by-error y (step.Refused r) i = λ e. refl
       by-error y (step.To q z) i = λ e. absurd (no _ refl e)
 
-      by-found : (x : SubmitReply) (f : Found) → (id : RequestId) → foundIn (isAt id) (w .store .rows) ≡ f → Tells (submitReplyBy x id (w .session) (w .store))
-      by-found (submitReply.Token token) found.Nothing id e = rw e (λ y. refl)
-      by-found (submitReply.Token token) (found.At i) id e = rw e (by-token token (changeRow (getD (w .store .rows) i emptyRow) (change.Accept token)) i)
-      by-found (submitReply.Error y) found.Nothing id e = rw e (λ z. refl)
-      by-found (submitReply.Error y) (found.At i) id e = rw e (by-error y (changeRow (getD (w .store .rows) i emptyRow) change.Discard) i)
+      by-reply : (x : SubmitReply) (id : RequestId) → Tells (submitReplyBy x id (w .session) (w .store))
+      by-reply (submitReply.Token token) id =
+          apply-all id (change.Accept token) (w .store) (λ a. Tells (reportedTo (acceptedBy (a .answer) (w .session)) (a .store))) (λ e. refl) (λ i lt hit. by-token (changeRow (rowIn (w .store .rows) i) (change.Accept token)) i)
+      by-reply (submitReply.Error y) id =
+          apply-all id change.Discard (w .store) (λ a. Tells (reportedTo (discardedBy (a .answer) y (w .session)) (a .store))) (λ e. refl) (λ i lt hit. by-error y (changeRow (rowIn (w .store .rows) i) change.Discard) i)
 
-      go : (f : InFlight) → Tells (submitReplyIn f fits x (w .session) (w .store))
-      go flight.Nothing = λ e. refl
-      go (flight.Poll id) = λ e. refl
-      go (flight.Recovery a b c d) = λ e. refl
-      go (flight.Submission id) = if-all Tells _ _ _ (λ e. refl) (by-found x (foundIn (isAt id) (w .store .rows)) id refl)
-
-  change-stays : (fits : Bool) (id : RequestId) (c : Change) → Tells (changeOf (w .session) fits id c (w .store))
-  unfolding changeOf reportedBy applyOf applyAt applyBy
-  change-stays fits id c = if-all Tells _ _ _ (λ e. refl) (if-all Tells _ _ _ (λ e. refl) (by-found (foundIn (isAt id) (w .store .rows))))
+  change-stays : (fits : Bool) (id : RequestId) (c : rules.Change) → Tells (changeOf (w .session) fits id c (w .store))
+  unfolding reportedBy applyBy
+  change-stays fits id c = change-all (w .session) id c (w .store) Tells (λ x e. refl) (λ idle i lt hit. by-step (changeRow (rowIn (w .store .rows) i) c) i) fits
     where
-      by-step : (m : Step) (i : ℕ) → Tells (record { result = reportedBy (applyBy m i (w .store) .answer) (w .session); store = applyBy m i (w .store) .store })
+      by-step : (m : Step) (i : ℕ) → Tells (reportedTo (reportedBy (applyBy m i (w .store) .answer) (w .session)) (applyBy m i (w .store) .store))
       by-step (step.Refused r) i = λ e. refl
       by-step (step.To q y) i = λ e. absurd (no _ refl e)
-
-      by-found : (f : Found) → Tells (record { result = reportedBy (applyAt f c (w .store) .answer) (w .session); store = applyAt f c (w .store) .store })
-      by-found found.Nothing = λ e. refl
-      by-found (found.At i) = by-step (changeRow (getD (w .store .rows) i emptyRow) c) i
 
   -- ---- polls
   abbrev Polls : Polled → Type 0
   Polls o = Stays (polls o w)
 
   poll-stays : (fits : Bool) (id : RequestId) → Polls (pollOf (w .session) fits id (w .store .rows))
-  unfolding pollOf pollBy pollRow
-  poll-stays fits id = if-all Polls _ _ _ (λ e. refl) (if-all Polls _ _ _ (λ e. refl) (go (foundIn (isAt id) (w .store .rows))))
-    where
-      go : (f : Found) → Polls (pollBy f (w .session) id (w .store .rows))
-      go found.Nothing = λ e. refl
-      go (found.At i) = if-all Polls _ _ _ (λ e. absurd (no _ refl e)) (if-all Polls _ _ _ (λ e. refl) (λ e. absurd (no _ refl e)))
+  poll-stays fits id =
+      poll-all (w .session) id (w .store .rows) Polls (λ x e. refl) (λ i e. absurd (no _ refl e)) (λ i lt hit p r e. absurd (no _ refl e)) fits
 
   abbrev Finishes : FinishTo → Type 0
   Finishes o = Stays (finishes o w)
 
   finish-stays : (fits : Bool) (x : PollReply) (bytes : List ℕ) → Finishes (finishOf (w .session) fits x bytes (w .store) (w .area))
-  unfolding finishOf finishIn finishFound finishBy finishAt settled
-  finish-stays fits x bytes = go (w .session .«in_flight»)
+  unfolding finishAt settled
+  finish-stays fits x bytes =
+      finish-all (w .session) x bytes (w .store) (w .area) Finishes (λ e. refl) (λ e. refl) (λ id own i lt hit. by-reply x i) fits
     where
       by-step : (m : Step) → OtherStep m → (i : ℕ) (c : BackendCompletion)
-          → Finishes (settled m (judged quiet (getD (w .store .rows) i emptyRow) c (length bytes)) quiet i (i * w .session .«row_bytes») (w .session .«row_bytes») bytes (w .store) (w .area))
+          → Finishes (settled m (judged quiet (rowIn (w .store .rows) i) c (length bytes)) quiet i (i * w .session .«row_bytes») (w .session .«row_bytes») bytes (w .store) (w .area))
       by-step (step.Refused r) h i c = λ e. absurd (no (answer.Refused r) h e)
       by-step (step.To q y) h i c = λ e. absurd (no _ refl e)
 
@@ -550,30 +490,17 @@ module _ (w : World) where
       by-reply pollReply.Nothing i = λ e. absurd (no _ refl e)
       by-reply (pollReply.Error y) i = λ e. absurd (no _ refl e)
       by-reply (pollReply.Completion c) i =
-          by-step (changeRow (getD (w .store .rows) i emptyRow) (judged quiet (getD (w .store .rows) i emptyRow) c (length bytes) .change))
-          (other-step (getD (w .store .rows) i emptyRow) (judged quiet (getD (w .store .rows) i emptyRow) c (length bytes) .change)) i c
-
-      by-found : (f : Found) → Finishes (finishBy f (w .session) x bytes (w .store) (w .area))
-      by-found found.Nothing = λ e. refl
-      by-found (found.At i) = by-reply x i
-
-      go : (f : InFlight) → Finishes (finishIn f (w .session) fits x bytes (w .store) (w .area))
-      go flight.Nothing = λ e. refl
-      go (flight.Submission id) = λ e. refl
-      go (flight.Recovery a b c d) = λ e. refl
-      go (flight.Poll id) = if-all Finishes _ _ _ (λ e. refl) (by-found (foundIn (isAt id) (w .store .rows)))
+          by-step (changeRow (rowIn (w .store .rows) i) (judged quiet (rowIn (w .store .rows) i) c (length bytes) .change))
+          (other-step (rowIn (w .store .rows) i) (judged quiet (rowIn (w .store .rows) i) c (length bytes) .change)) i c
 
   -- ---- recoveries
   abbrev Begins : Begun → Type 0
   Begins o = Stays (begins o w)
 
   begin-stays : (fits : Bool) (id : RequestId) (q : RecoveryKind) → Begins (recoveryBegin.beginOf (w .session) fits id q (w .store .rows))
-  unfolding recoveryBegin.beginOf recoveryBegin.beginBy recoveryBegin.beginRow recoveryBegin.begunAs
-  begin-stays fits id q = if-all Begins _ _ _ (λ e. refl) (if-all Begins _ _ _ (λ e. refl) (go (foundIn (isAt id) (w .store .rows))))
-    where
-      go : (f : Found) → Begins (recoveryBegin.beginBy f (w .session) id q (w .store .rows))
-      go found.Nothing = λ e. refl
-      go (found.At i) = if-all Begins _ _ _ (λ e. refl) (if-all Begins _ _ _ (λ e. refl) (λ e. absurd (no _ refl e)))
+  unfolding recoveryBegin.begunAs
+  begin-stays fits id q =
+      begin-all (w .session) id q (w .store .rows) Begins (λ n z e. refl) (λ i lt hit m e. refl) (λ i lt hit a m e. absurd (no _ refl e)) fits
 
   abbrev Recovers : RecoveredTo → Type 0
   Recovers o = Stays (recovers o w)
@@ -584,53 +511,34 @@ module _ (w : World) where
   concluded (verdict.Refused x) h y o report ids rows left e = absurd (no (answer.Refused x) h e)
   concluded verdict.Pass h y o report ids rows left e = absurd (no _ refl e)
 
-  by-reply : (tokens words aborted bytes : List ℕ) (y : Recovery) (r : RecoveryReply) → Recovers (replyBy r quiet y tokens words aborted bytes (w .store) (w .area))
-  unfolding replyBy doneOf scopedOf
-  by-reply tokens words aborted bytes y (reply.Error x) = λ e. absurd (no _ refl e)
-  by-reply tokens words aborted bytes y (reply.Done o) =
-      if-all Recovers _ _ _ (λ e. absurd (no _ refl e))
-      (let place : ℕ → ℕ = meant (affectedOf (y .device) (y .endpoint) (w .store .rows)) (tokensOf (w .store .rows) (affectedOf (y .device) (y .endpoint) (w .store .rows))) in
+  recovery-stays : (fits : Bool) (r : RecoveryReply) (tokens words aborted bytes : List ℕ)
+      → Recovers (recoveryReplyOf (w .session) fits r tokens words aborted bytes (w .store) (w .area))
+  unfolding scopedOf
+  recovery-stays fits r tokens words aborted bytes =
+      recovery-all (w .session) tokens words aborted bytes (w .store) (w .area) Recovers (λ e. refl) (λ e. refl) (λ e. refl) (λ x e. absurd (no _ refl e)) (λ e. absurd (no _ refl e))
+      (λ y own o n.
+      let place : ℕ → ℕ = meant (affectedOf (y .device) (y .endpoint) (w .store .rows)) (tokensOf (w .store .rows) (affectedOf (y .device) (y .endpoint) (w .store .rows))) in
       let left : WalkTo = applyAll place (quiet .«row_bytes») (returnedOf tokens words) aborted bytes (w .store) (w .area) in
       concluded (left .verdict) (other-all place (quiet .«row_bytes») (returnedOf tokens words) aborted bytes (w .store) (w .area)) y o
       (reportOf y o (length tokens) (length aborted)) (idLists (w .store .rows) place tokens aborted) (left .store .rows) _)
-
-  recovery-stays : (fits : Bool) (r : RecoveryReply) (tokens words aborted bytes : List ℕ)
-      → Recovers (recoveryReplyOf (w .session) fits r tokens words aborted bytes (w .store) (w .area))
-  unfolding recoveryReplyOf replyIn replySized
-  recovery-stays fits r tokens words aborted bytes = go (w .session .«in_flight»)
-    where
-      go : (f : InFlight) → Recovers (replyIn f (w .session) fits r tokens words aborted bytes (w .store) (w .area))
-      go flight.Nothing = λ e. refl
-      go (flight.Submission id) = λ e. refl
-      go (flight.Poll id) = λ e. refl
-      go (flight.Recovery a b c d) =
-          if-all Recovers _ _ _ (λ e. refl)
-          (if-all Recovers _ _ _ (λ e. refl) (by-reply tokens words aborted bytes (record { target = a; device = b; endpoint = c; kind = d }) r))
+      fits r
 
 pub refused-untouched : (c : Call) (w : World) → stepOf c w .result .answer ≡ answer.Refused (refusalOf 3) → next (stepOf c w) ≡ w
-unfolding stepOf
+unfolding stepOf placedOf movedOf begunOf repliedOf
 refused-untouched (Open o) w = open-stays w _ o
-refused-untouched (SetDevice d) w = device-stays w _ d
-refused-untouched (SetPort number row) w = port-stays w _ number row
-refused-untouched (SetEndpoints slot list) w = endpoints-stay w _ slot list
-refused-untouched (SetReconcile slot mark) w = mark-stays w _ slot mark
-refused-untouched (Acquire reply) w = acquire-stays w reply
-refused-untouched (Initialize reply) w = initialize-stays w reply
-refused-untouched (Close fresh reply) w = close-stays w (rowsFitIn w) fresh reply
-refused-untouched (Submit q bytes given packets one two) w = submit-stays w (storeFitsIn w) q bytes given packets one two
-refused-untouched (SubmitPlan q bytes one) w = plan-stays w (storeFitsIn w) q bytes one
-refused-untouched (ReplySubmit reply) w = reply-stays w (rowsFitIn w) reply
-refused-untouched (Poll id) w = poll-stays w (rowsFitIn w) id
-refused-untouched (ReplyPoll reply bytes) w = finish-stays w (rowsFitIn w && areaFitsIn w) reply bytes
-refused-untouched (AbortRequest id) w = begin-stays w (rowsFitIn w) id kind.Abort
-refused-untouched (ResetEndpoint id preserve) w = begin-stays w (rowsFitIn w) id (kind.Reset preserve)
-refused-untouched (ReplyRecovery reply tokens words aborted bytes) w = recovery-stays w (rowsFitIn w && areaFitsIn w) reply tokens words aborted bytes
-refused-untouched (Cancel id) w = change-stays w (rowsFitIn w) id change.LogicalCancel
-refused-untouched (Timeout id) w = change-stays w (rowsFitIn w) id change.Timeout
-refused-untouched (Reclaim id) w = change-stays w (rowsFitIn w) id change.Reclaim
-refused-untouched (Status id) w = λ e. refl
-refused-untouched (Reports from) w = λ e. refl
-refused-untouched CountReports w = λ e. refl
-refused-untouched (CompletedBytes id) w = λ e. refl
-refused-untouched HeldCount w = λ e. refl
-refused-untouched HeldBytes w = λ e. refl
+refused-untouched (Place (Device d)) w = device-stays w _ d
+refused-untouched (Place (Port number row)) w = port-stays w _ number row
+refused-untouched (Place (Endpoints slot list)) w = endpoints-stay w _ slot list
+refused-untouched (Place (Reconcile slot mark)) w = mark-stays w _ slot mark
+refused-untouched (Move (Acquire reply)) w = acquire-stays w reply
+refused-untouched (Move (Initialize reply)) w = initialize-stays w reply
+refused-untouched (Move (Close fresh reply)) w = close-stays w (rowsFitIn w) fresh reply
+refused-untouched (Begin (Submit q bytes given packets one two)) w = submit-stays w (storeFitsIn w) q bytes given packets one two
+refused-untouched (Begin (SubmitPlan q bytes one)) w = plan-stays w (storeFitsIn w) q bytes one
+refused-untouched (Begin (Poll id)) w = poll-stays w (rowsFitIn w) id
+refused-untouched (Begin (Recover id kind)) w = begin-stays w (rowsFitIn w) id kind
+refused-untouched (Reply (ToSubmit reply)) w = reply-stays w (rowsFitIn w) reply
+refused-untouched (Reply (ToPoll reply bytes)) w = finish-stays w (rowsFitIn w && areaFitsIn w) reply bytes
+refused-untouched (Reply (ToRecovery reply tokens words aborted bytes)) w = recovery-stays w (rowsFitIn w && areaFitsIn w) reply tokens words aborted bytes
+refused-untouched (Change id c) w = change-stays w (rowsFitIn w) id (changeBy c)
+refused-untouched (Read r) w = λ e. refl

@@ -1,14 +1,10 @@
 -- Polls and the backend's replies keep the invariant. Assumes nothing.
 use Prim.Native.Nat.{ℕ, _*_, _<_}
 use mathlib.Core.Path.{_≡_, refl, sym, ap, _∙_, subst}
-use mathlib.Core.Bool.{Bool, true, false, not, cond, false≢true}
+use mathlib.Core.Bool.{Bool, true, false, cond, false≢true}
 use mathlib.Core.List.{List}
-use lib.ListN.{length, getD, set}
-use borrow.Author.Tests.{not-false}
-use Rattle.chain.specs.Lists.{count, foundIn}
-use Rattle.chain.specs.declared.Found.{Found}
-use Rattle.chain.specs.declared.Found.the-variants as found
-use Rattle.chain.proofs.Chain.{if-all, if-by}
+use lib.ListN.{length, set}
+use Rattle.chain.proofs.Chain.{if-all}
 use Rattle.words.specs.declared.OptionU32.{OptionU32}
 use Rattle.models.specs.Refusals.{invalidCompletion}
 use Rattle.models.specs.Requests.{isPending}
@@ -20,14 +16,13 @@ use Rattle.models.specs.declared.RequestId.{RequestId}
 use Rattle.models.specs.declared.RequestState.{RequestState}
 use Rattle.models.specs.declared.RequestState.the-variants.{Pending, Completed, Failed, Aborted}
 use Rattle.rows.specs.Store.{Store, putIn}
-use Rattle.rows.specs.Table.{emptyRow, isHeld}
+use Rattle.rows.specs.Table.{emptyRow, isHeld, rowIn}
 use Rattle.rows.specs.declared.Row.{Row}
-use Rattle.ledger.specs.Apply.{applyBy, applyAt, applyOf}
+use Rattle.ledger.specs.Apply.{applyBy}
 use Rattle.rules.specs.Rules.{moved, freed, withState, accepted, whilePending, completed, failed, changeRow}
 use Rattle.ledger.specs.Search.{isAt}
 use Rattle.rules.specs.declared.Change.the-variants as change
 use Rattle.rules.specs.declared.Step.{Step}
-use Rattle.ledger.proofs.Placing.{found-row}
 use Rattle.checks.specs.Completion.{testCompletion}
 use Rattle.checks.specs.declared.completion.CompletionTest.{CompletionTest}
 use Rattle.checks.specs.declared.completion.CompletionTest.the-variants as test
@@ -36,99 +31,25 @@ use Rattle.session.specs.declared.InFlight.{InFlight}
 use Rattle.session.specs.declared.InFlight.the-variants as flight
 use Rattle.session.specs.declared.Session.{Session}
 use Rattle.reports.specs.Answers.{effect, ReportedTo, reportedTo}
-use Rattle.submissions.specs.Reply.{acceptedBy, discardedBy, submitReplyBy, submitReplyIn, submitReplyOf}
-use Rattle.polls.specs.Poll.{pollRow, pollBy, pollOf}
-use Rattle.polls.specs.Finish.{failedAs, invalidAs, judgedTest, judgedBy, judged, FinishTo, settled, finishAt, finishBy, finishFound, finishIn, finishOf}
+use Rattle.polls.specs.Poll.{pollOf}
+use Rattle.polls.specs.Finish.{failedAs, invalidAs, judgedTest, judgedBy, judged, FinishTo, settled, finishAt, finishOf}
 use Rattle.polls.specs.declared.Polled.{Polled}
 use Rattle.polls.specs.declared.PollReply.{PollReply}
 use Rattle.polls.specs.declared.PollReply.the-variants as poll
+use Rattle.polls.specs.declared.finish.Judgement.{Judgement}
+use Rattle.submissions.specs.Reply.{acceptedBy, discardedBy, submitReplyBy, submitReplyOf}
 use Rattle.submissions.specs.declared.SubmitReply.{SubmitReply}
 use Rattle.submissions.specs.declared.SubmitReply.the-variants as submit
-use Rattle.polls.specs.declared.finish.Judgement.{Judgement}
 use Rattle.calls.specs.Answers.{ofReport, ofPoll}
+use Rattle.calls.specs.Step.{World}
+use Rattle.runs.specs.Sound.{Sound}
+use Rattle.runs.proofs.Ids.{pending-held}
+use Rattle.runs.proofs.Ways.{apply-all, reply-all, poll-all, finish-all}
+use Rattle.runs.proofs.Facts.{submission-pending, poll-pending}
 use Rattle.history.specs.Journal.{Entry, Journal, entryOf, atEntry, release, markFailed, acceptedAs, testedAs, settledBy, isAsked, endsBy, atWaiting, endedWith, idle, polledBy, pollWaits, View}
-use Rattle.history.proofs.Led.{rowW, entryW, lengthOf, Changed, lone, entry-is}
-use Rattle.history.proofs.Changes.{pending-held, view-is, discard-change, token-change, settle-change, fail-change}
-use Rattle.history.proofs.Inv.{Inv, Live, stray, marks, stalls, effects, ends-idle, ends-at, poll-opens, live-pending, pending-live}
-
--- the row of an operation that waits is held
-waiting-held : (id : RequestId) (rows : List Row) (i : ℕ) → i < length rows → isAt id (getD rows i emptyRow) ≡ true → count (stray id) rows ≡ 0
-    → isHeld (getD rows i emptyRow) ≡ true
-waiting-held id rows i lt hit live = pending-held id (getD rows i emptyRow) hit (live-pending id rows i lt hit live)
-
-module _ (s : Session) (j : Journal) (seen : List ℕ) (store : Store) (k : Inv s (store .rows) j seen) where
-  -- ---- the reply to a submission
-  abbrev Reply-kept : SubmitReply → ReportedTo → Type 0
-  Reply-kept x o = Inv (o .result .session) (o .store .rows) (cond (endsBy (ofReport (o .result .answer))) (endedWith (acceptedAs x) j) j) seen
-
-  module _ (id : RequestId) (own : s .«in_flight» ≡ flight.Submission id) (i : ℕ) (lt : i < length (store .rows))
-      (hit : isAt id (getD (store .rows) i emptyRow) ≡ true) where
-    abbrev replied : Row
-    replied = getD (store .rows) i emptyRow
-
-    abbrev its : Entry
-    its = entryOf id (j .entries)
-
-    replied-held : isHeld replied ≡ true
-    replied-held = waiting-held id (store .rows) i lt hit (subst (λ (f : InFlight). Live f (store .rows)) own (k .live))
-
-    about : (g : Entry → Entry) → atWaiting (j .waiting) g (j .entries) ≡ atEntry id g (j .entries)
-    about g = ap (λ (f : InFlight). atWaiting f g (j .entries)) (k .agree ∙ own)
-
-    token-kept : (t : ℕ) → Reply-kept (submit.Token t)
-        (reportedTo (acceptedBy (applyAt (found.At i) (change.Accept t) store .answer) s) (applyAt (found.At i) (change.Accept t) store .store))
-    unfolding applyAt applyBy changeRow accepted moved acceptedBy putIn
-    token-kept t = ends-at s (store .rows) j seen k id i lt hit (acceptedAs (submit.Token t))
-        (about (acceptedAs (submit.Token t))) _ (token-change replied its replied-held (entry-is (store .rows) (j .entries) (k .led) id i lt hit) t)
-
-    error-kept : (e : OperationError) → Reply-kept (submit.Error e)
-        (reportedTo (discardedBy (applyAt (found.At i) change.Discard store .answer) e s) (applyAt (found.At i) change.Discard store .store))
-    unfolding applyAt applyBy changeRow freed discardedBy putIn
-    error-kept e = ends-at (effect e s) (store .rows) j seen (effects s (store .rows) j seen k e) id i lt hit (acceptedAs (submit.Error e))
-        (about (acceptedAs (submit.Error e))) emptyRow (discard-change replied its replied-held (entry-is (store .rows) (j .entries) (k .led) id i lt hit))
-
-  reply-by : (x : SubmitReply) (id : RequestId) → s .«in_flight» ≡ flight.Submission id → Reply-kept x (submitReplyBy x id s store)
-  unfolding submitReplyBy applyOf applyAt acceptedBy discardedBy
-  reply-by (submit.Token t) id own = go (foundIn (isAt id) (store .rows)) refl
-    where
-      go : (f : Found) → foundIn (isAt id) (store .rows) ≡ f → Reply-kept (submit.Token t)
-          (reportedTo (acceptedBy (applyAt f (change.Accept t) store .answer) s) (applyAt f (change.Accept t) store .store))
-      go found.Nothing e = k
-      go (found.At i) e = let p = found-row id (store .rows) (found.At i) i (sym e) refl in token-kept id own i (p .0) (p .1) t
-  reply-by (submit.Error x) id own = go (foundIn (isAt id) (store .rows)) refl
-    where
-      go : (f : Found) → foundIn (isAt id) (store .rows) ≡ f → Reply-kept (submit.Error x)
-          (reportedTo (discardedBy (applyAt f change.Discard store .answer) x s) (applyAt f change.Discard store .store))
-      go found.Nothing e = k
-      go (found.At i) e = let p = found-row id (store .rows) (found.At i) i (sym e) refl in error-kept id own i (p .0) (p .1) x
-
-  pub reply-kept : (fits : Bool) (x : SubmitReply) → Reply-kept x (submitReplyOf s fits x store)
-  unfolding submitReplyOf submitReplyIn
-  reply-kept fits x = go (s .«in_flight») refl
-    where
-      go : (f : InFlight) → s .«in_flight» ≡ f → Reply-kept x (submitReplyIn f fits x s store)
-      go flight.Nothing e = k
-      go (flight.Poll id) e = k
-      go (flight.Recovery target device endpoint kind) e = k
-      go (flight.Submission id) e = if-all (Reply-kept x) _ (not fits) _ k (reply-by x id e)
-
-  -- ---- a poll
-  abbrev Poll-kept : RequestId → Polled → Type 0
-  Poll-kept id o = Inv (o .session) (store .rows) (cond (isAsked (ofPoll (o .answer))) (pollWaits id j) j) seen
-
-  pub poll-kept : (fits : Bool) (id : RequestId) → Poll-kept id (pollOf s fits id (store .rows))
-  unfolding pollOf pollBy pollRow
-  poll-kept fits id =
-      if-all (Poll-kept id) _ _ _ k (if-all (Poll-kept id) _ _ _ k (go (foundIn (isAt id) (store .rows)) refl))
-    where
-      go : (f : Found) → foundIn (isAt id) (store .rows) ≡ f → Poll-kept id (pollBy f s id (store .rows))
-      go found.Nothing e = k
-      go (found.At i) e =
-          let p = found-row id (store .rows) (found.At i) i (sym e) refl in
-          if-by (Poll-kept id) _ (not (isPending (getD (store .rows) i emptyRow .state))) _ (λ y. k)
-          (λ y. if-all (Poll-kept id) _ _ _ k
-          (poll-opens s (store .rows) j seen k id
-          (pending-live id (store .rows) i (p .0) (p .1) (lone (store .rows) (j .entries) (k .led) id i (p .0) (p .1)) (not-false _ y))))
+use Rattle.history.proofs.Led.{rowW, entryW, lengthOf, Changed, entry-is}
+use Rattle.history.proofs.Changes.{view-is, discard-change, token-change, settle-change, fail-change}
+use Rattle.history.proofs.Inv.{Inv, marks, effects, waits-for, ends-at}
 
 -- ---- what a completion makes of a Pending row
 complete-to : (r : Row) (actual code : ℕ) → isPending (r .state) ≡ true → (c : Bool) × (changeRow r (change.Complete actual code) ≡ moved (withState r (Completed actual code c)))
@@ -152,15 +73,69 @@ fail-to r x code quiescent = go (r .state)
     go (Failed a b c) e = absurd (false≢true e)
     go Aborted e = absurd (false≢true e)
 
--- ---- the reply to a poll
-module _ (s : Session) (j : Journal) (seen : List ℕ) (store : Store) (k : Inv s (store .rows) j seen) where
+module _ (w : World) (sound : Sound w) (j : Journal) (seen : List ℕ) (k : Inv (w .session) (w .store .rows) j seen) where
+  abbrev s : Session
+  s = w .session
+
+  abbrev store : Store
+  store = w .store
+
+  -- ---- the reply to a submission
+  abbrev Reply-kept : SubmitReply → ReportedTo → Type 0
+  Reply-kept x o = Inv (o .result .session) (o .store .rows) (cond (endsBy (ofReport (o .result .answer))) (endedWith (acceptedAs x) j) j) seen
+
+  module _ (id : RequestId) (own : s .«in_flight» ≡ flight.Submission id) (i : ℕ) (lt : i < length (store .rows)) (hit : isAt id (rowIn (store .rows) i) ≡ true) where
+    abbrev replied : Row
+    replied = rowIn (store .rows) i
+
+    abbrev its : Entry
+    its = entryOf id (j .entries)
+
+    replied-held : isHeld replied ≡ true
+    replied-held = pending-held id replied hit (submission-pending w sound id i lt hit own)
+
+    about : (g : Entry → Entry) → atWaiting (j .waiting) g (j .entries) ≡ atEntry id g (j .entries)
+    about g = ap (λ (f : InFlight). atWaiting f g (j .entries)) (k .agree ∙ own)
+
+    token-kept : (t : ℕ) → Reply-kept (submit.Token t)
+        (reportedTo (acceptedBy (applyBy (changeRow replied (change.Accept t)) i store .answer) s) (applyBy (changeRow replied (change.Accept t)) i store .store))
+    unfolding applyBy changeRow accepted moved acceptedBy putIn
+    token-kept t = ends-at s (store .rows) j seen k id i lt hit (acceptedAs (submit.Token t))
+        (about (acceptedAs (submit.Token t))) _ (token-change replied its replied-held (entry-is (store .rows) (j .entries) (k .led) id i lt hit) t)
+
+    error-kept : (e : OperationError) → Reply-kept (submit.Error e)
+        (reportedTo (discardedBy (applyBy (changeRow replied change.Discard) i store .answer) e s) (applyBy (changeRow replied change.Discard) i store .store))
+    unfolding applyBy changeRow freed discardedBy putIn
+    error-kept e = ends-at (effect e s) (store .rows) j seen (effects s (store .rows) j seen k e) id i lt hit (acceptedAs (submit.Error e))
+        (about (acceptedAs (submit.Error e))) emptyRow (discard-change replied its replied-held (entry-is (store .rows) (j .entries) (k .led) id i lt hit))
+
+  reply-by : (x : SubmitReply) (id : RequestId) → s .«in_flight» ≡ flight.Submission id → Reply-kept x (submitReplyBy x id s store)
+  unfolding submitReplyBy acceptedBy discardedBy
+  reply-by (submit.Token t) id own =
+      apply-all id (change.Accept t) store (λ a. Reply-kept (submit.Token t) (reportedTo (acceptedBy (a .answer) s) (a .store))) k
+      (λ i lt hit. token-kept id own i lt hit t)
+  reply-by (submit.Error x) id own =
+      apply-all id change.Discard store (λ a. Reply-kept (submit.Error x) (reportedTo (discardedBy (a .answer) x s) (a .store))) k
+      (λ i lt hit. error-kept id own i lt hit x)
+
+  pub reply-kept : (fits : Bool) (x : SubmitReply) → Reply-kept x (submitReplyOf s fits x store)
+  reply-kept fits x = reply-all s x store (Reply-kept x) k k (λ id own. reply-by x id own) fits
+
+  -- ---- a poll
+  abbrev Poll-kept : RequestId → Polled → Type 0
+  Poll-kept id o = Inv (o .session) (store .rows) (cond (isAsked (ofPoll (o .answer))) (pollWaits id j) j) seen
+
+  pub poll-kept : (fits : Bool) (id : RequestId) → Poll-kept id (pollOf s fits id (store .rows))
+  poll-kept fits id = poll-all s id (store .rows) (Poll-kept id) (λ x. k) (λ i. k) (λ i lt hit p r. waits-for s (store .rows) j seen k (flight.Poll id)) fits
+
+  -- ---- the reply to a poll
   abbrev Finish-kept : Journal → FinishTo → Type 0
   Finish-kept after o = Inv (o .result .session) (o .store .rows) (cond (endsBy (ofReport (o .result .answer))) after j) seen
 
   module _ (id : RequestId) (own : s .«in_flight» ≡ flight.Poll id) (i : ℕ) (lt : i < length (store .rows))
-      (hit : isAt id (getD (store .rows) i emptyRow) ≡ true) (at room : ℕ) (bytes area : List ℕ) where
+      (hit : isAt id (rowIn (store .rows) i) ≡ true) (at room : ℕ) (bytes area : List ℕ) where
     abbrev row : Row
-    row = getD (store .rows) i emptyRow
+    row = rowIn (store .rows) i
 
     abbrev entry : Entry
     entry = entryOf id (j .entries)
@@ -169,14 +144,11 @@ module _ (s : Session) (j : Journal) (seen : List ℕ) (store : Store) (k : Inv 
     abbrev quiet : Session
     quiet = withFlight s flight.Nothing
 
-    live : count (stray id) (store .rows) ≡ 0
-    live = subst (λ (f : InFlight). Live f (store .rows)) own (k .live)
-
     polled : isPending (row .state) ≡ true
-    polled = live-pending id (store .rows) i lt hit live
+    polled = poll-pending w sound id i lt hit own
 
     held : isHeld row ≡ true
-    held = waiting-held id (store .rows) i lt hit live
+    held = pending-held id row hit polled
 
     is : (w : View → ℕ) → entryW w entry ≡ rowW w row
     is = entry-is (store .rows) (j .entries) (k .led) id i lt hit
@@ -233,7 +205,7 @@ module _ (s : Session) (j : Journal) (seen : List ℕ) (store : Store) (k : Inv 
         (settles (settledBy (error.Some x) c given) _ _ (fail-to row x (c .«completion_code») (c .quiescent) polled)
         (fail-both x (c .«completion_code») (c .quiescent)) (λ rows′ j′ h. h))
         (settles (settledBy (error.Some x) c given) _ _ (fail-to row x (c .«completion_code») (c .quiescent) polled)
-        (fail-both x (c .«completion_code») (c .quiescent)) (λ rows′ j′ h. stalls _ rows′ j′ seen (marked-too rows′ j′ h) _))
+        (fail-both x (c .«completion_code») (c .quiescent)) marked-too)
     judged-kept error.None c given =
         tested-kept c (settledBy error.None c given) (testCompletion c given (row .metadata .«requested_length»))
         (ap (λ (n : ℕ). testedAs (testCompletion c given n) entry)
@@ -241,24 +213,11 @@ module _ (s : Session) (j : Journal) (seen : List ℕ) (store : Store) (k : Inv 
 
     finish-at : (x : PollReply) → Finish-kept (polledBy x (length bytes) j) (finishAt x quiet i at room bytes store area)
     unfolding finishAt judged
-    finish-at poll.Nothing = ends-idle s (store .rows) j seen k
-    finish-at (poll.Error e) = effects quiet (store .rows) (idle j) seen (ends-idle s (store .rows) j seen k) e
+    finish-at poll.Nothing = waits-for s (store .rows) j seen k flight.Nothing
+    finish-at (poll.Error e) = effects quiet (store .rows) (idle j) seen (waits-for s (store .rows) j seen k flight.Nothing) e
     finish-at (poll.Completion c) = judged-kept (c .error) c (length bytes)
 
   pub finish-kept : (fits : Bool) (x : PollReply) (bytes area : List ℕ) → Finish-kept (polledBy x (length bytes) j) (finishOf s fits x bytes store area)
-  unfolding finishOf finishIn finishFound finishBy
-  finish-kept fits x bytes area = go (s .«in_flight») refl
-    where
-      found-in : (id : RequestId) → s .«in_flight» ≡ flight.Poll id → (f : Found) → foundIn (isAt id) (store .rows) ≡ f
-          → Finish-kept (polledBy x (length bytes) j) (finishBy f s x bytes store area)
-      found-in id own found.Nothing e = k
-      found-in id own (found.At i) e =
-          let p = found-row id (store .rows) (found.At i) i (sym e) refl in
-          finish-at id own i (p .0) (p .1) (i * s .«row_bytes») (s .«row_bytes») bytes area x
-
-      go : (f : InFlight) → s .«in_flight» ≡ f → Finish-kept (polledBy x (length bytes) j) (finishIn f s fits x bytes store area)
-      go flight.Nothing e = k
-      go (flight.Submission id) e = k
-      go (flight.Recovery target device endpoint kind) e = k
-      go (flight.Poll id) e =
-          if-all (Finish-kept (polledBy x (length bytes) j)) _ (not fits) _ k (found-in id e (foundIn (isAt id) (store .rows)) refl)
+  finish-kept fits x bytes area =
+      finish-all s x bytes store area (Finish-kept (polledBy x (length bytes) j)) k k
+      (λ id own i lt hit. finish-at id own i lt hit (i * s .«row_bytes») (s .«row_bytes») bytes area x) fits

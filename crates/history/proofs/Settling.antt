@@ -4,10 +4,10 @@ use mathlib.Core.Path.{_≡_, refl, sym, ap, _∙_, subst}
 use mathlib.Core.Bool.{Bool, true, false, cond, not, _&&_, _||_, false≢true}
 use mathlib.Core.List.{List, [], _∷_, _++_, map}
 use native.Mathlib.Omega.{arith}
+use borrow.Author.Tests.{eq-eqb, ne-eqb, eqb-true, eqb-false, ltb-true}
 use lib.Dec.{eqb}
 use lib.ListN.{length, getD, set, take, drop, length-set, length-map, List·getD-map}
 use lib.Seq.{getD-set-same, getD-set-other, ext-getD}
-use borrow.Author.Tests.{eq-eqb, ne-eqb, eqb-true, eqb-false, ltb-true, not-false}
 use Rattle.chain.specs.Chain.{_if_else_}
 use Rattle.chain.specs.Lists.{sumBy, count}
 use Rattle.chain.proofs.Chain.{caseB, if-by, both}
@@ -23,6 +23,7 @@ use Rattle.models.specs.declared.RequestState.{RequestState}
 use Rattle.models.specs.declared.RequestState.the-variants.{Pending, Completed, Failed, Aborted}
 use Rattle.models.specs.declared.Verdict.{Verdict}
 use Rattle.models.specs.declared.Verdict.the-variants as verdict
+use Rattle.models.specs.declared.Refusal.{Refusal}
 use Rattle.rows.specs.Store.{Store, putIn}
 use Rattle.rows.specs.Table.{emptyRow, isHeld, rowIn, tokenIn}
 use Rattle.rows.specs.declared.Row.{Row}
@@ -31,35 +32,35 @@ use Rattle.rules.specs.declared.Step.{Step}
 use Rattle.checks.specs.Completion.{hasError, codeTested, testCode, testLength, testCompletion}
 use Rattle.checks.specs.declared.completion.CompletionTest.{CompletionTest}
 use Rattle.checks.specs.declared.completion.CompletionTest.the-variants as test
-use Rattle.scope.specs.Affected.{isAffected, affectedOf, tokensOf}
-use Rattle.scope.specs.Scope.{isIn, slotOf, meant, eachOnce, allIn, inScope}
-use Rattle.scope.specs.Returned.{Returned, returnedOf}
-use Rattle.recovery.specs.Entries.{WalkTo, rowCompletedBy, testedBy, completeOne, onwardBy, completeAll, AbortTo, abortedBy, abortOne, furtherBy, abortAll}
-use Rattle.recovery.specs.Reports.{idLists}
-use Rattle.recovery.specs.Reply.{RecoveredTo, isWhole, abortsAfter, applyAll, reportOf, concludedBy, scopedOf, doneOf, replyBy, replySized, replyIn, recoveryReplyOf}
-use Rattle.recovery.specs.declared.AbortReport.{AbortReport}
-use Rattle.recovery.specs.declared.Ids.{Ids}
-use Rattle.recovery.specs.declared.Outcome.{Outcome}
-use Rattle.recovery.specs.declared.Recovery.{Recovery}
-use Rattle.recovery.specs.declared.RecoveryReply.{RecoveryReply}
-use Rattle.recovery.specs.declared.RecoveryReply.the-variants as reply
 use Rattle.session.specs.Session.{withFlight}
 use Rattle.session.specs.declared.InFlight.{InFlight}
 use Rattle.session.specs.declared.InFlight.the-variants as flight
 use Rattle.session.specs.declared.RecoveryKind.{RecoveryKind}
 use Rattle.session.specs.declared.Session.{Session}
-use Rattle.models.specs.declared.Refusal.{Refusal}
+use Rattle.scope.specs.Affected.{isAffected, affectedOf, tokensOf}
+use Rattle.scope.specs.Scope.{isIn, slotOf, meant, eachOnce, allIn, inScope}
+use Rattle.scope.specs.Returned.{Returned, returnedOf}
+use Rattle.scope.proofs.Scoping.{in-cons, in-append}
+use Rattle.recovery.specs.Entries.{WalkTo, rowCompletedBy, testedBy, completeOne, abortedBy, abortOne}
+use Rattle.recovery.specs.Reports.{idLists}
+use Rattle.recovery.specs.Reply.{RecoveredTo, isWhole, applyAll, reportOf, concludedBy, scopedOf, recoveryReplyOf}
+use Rattle.recovery.specs.declared.AbortReport.{AbortReport}
+use Rattle.recovery.specs.declared.Ids.{Ids}
+use Rattle.recovery.specs.declared.Outcome.{Outcome}
+use Rattle.recovery.specs.declared.Recovery.{Recovery}
+use Rattle.recovery.specs.declared.RecoveryReply.{RecoveryReply}
 use Rattle.calls.specs.Answers.{ofRecovery}
 use Rattle.calls.specs.declared.Answer.the-variants as answer
-use Rattle.scope.proofs.Scoping.{in-cons, in-append}
+use Rattle.runs.proofs.Affected.{meant-affected, meant-below, returned-tokens}
+use Rattle.runs.proofs.Held.{or-false, or-right}
+use Rattle.runs.proofs.Ways.{recovery-all}
+use Rattle.runs.proofs.Entries.{Onward, entries-all}
+use Rattle.runs.proofs.Tokens.{tokensIn, Each, Distinct, each-last, scope-each, scope-distinct}
 use Rattle.history.specs.Journal.{View}
 use Rattle.history.specs.Claim.{rowView, lengthIn, codeIn, cancelledIn, completedAs, namedAs, recoveredAs, isSettled, Different, Recovered}
 use Rattle.history.proofs.Led.{rowW}
 use Rattle.history.proofs.Affects.{seen, scoped, affected-cond, affected-weighs}
-use Rattle.history.proofs.Changes.{or-false, or-right}
-use Rattle.history.proofs.Tokens.{tokensIn, Each, Distinct, each-last, distinct-last, scope-each, scope-distinct}
 use Rattle.history.proofs.Sparing.{Spares, scope-spares}
-use Rattle.history.proofs.Recovers.{returned-tokens, meant-below, meant-affected}
 
 -- ---- a completion that passes says its length and its code
 abbrev Says : ℕ → ℕ → CompletionTest → Type 0
@@ -177,118 +178,90 @@ module _ (place : ℕ → ℕ) where
         let q = elsewhere u (p .0) (a .0 .1) in
         rw q (far-aborts us (p .1) (a .1) r)
 
-  -- what the walk leaves
-  record Walked (rows rows′ : List Row) (us : List ℕ) (f : ℕ → Row → Row) : Type 0 where
-    pub each : (i : ℕ) → rowIn rows′ i ≡ f i (rowIn rows i)
-    pub named : Each (Named rows′) us
-    pub size : length rows′ ≡ length rows
-
-  abbrev WalkedBy : Verdict → List Row → List Row → List ℕ → (ℕ → Row → Row) → Type 0
-  WalkedBy (verdict.Refused r) rows rows′ us f = Unit {0}
-  WalkedBy verdict.Pass rows rows′ us f = Walked rows rows′ us f
-
-  completions-walk : (room : ℕ) (us : List ℕ) (es : List Returned) (bytes : List ℕ) (store : Store) (area : List ℕ) → Each (Named (store .rows)) (tokensIn es ++ us)
-      → Distinct (tokensIn es ++ us)
-      → WalkedBy (completeAll place room es bytes store area .verdict) (store .rows) (completeAll place room es bytes store area .store .rows) us (byCompletions es)
-  completions-walk room us [] bytes store area a d = record { each = λ i. refl; named = a; size = refl }
-  completions-walk room us (e ∷ es) bytes store area a d =
-      go (completeOne (place (e .token)) (place (e .token) * room) room (e .brought .completion) (take (e .brought .given) bytes) store area .verdict)
-      (completeOne (place (e .token)) (place (e .token) * room) room (e .brought .completion) (take (e .brought .given) bytes) store area)
-      (complete-set store (place (e .token)) (e .brought .completion) (place (e .token) * room) room (take (e .brought .given) bytes) area) refl
-      (λ s x b. completions-walk room us es (drop (e .brought .given) bytes) s x b (d .1))
-    where
-      go : (v : Verdict) (w : WalkTo) → SetBy v (set (store .rows) (place (e .token)) (completedAs e (rowIn (store .rows) (place (e .token))))) (w .store .rows) → w .verdict ≡ v
-          → ((s : Store) (x : List ℕ) → Each (Named (s .rows)) (tokensIn es ++ us)
-          → WalkedBy (completeAll place room es (drop (e .brought .given) bytes) s x .verdict) (s .rows) (completeAll place room es (drop (e .brought .given) bytes) s x .store .rows) us (byCompletions es))
-          → WalkedBy (onwardBy v w (λ (s : Store) (x : List ℕ). completeAll place room es (drop (e .brought .given) bytes) s x) .verdict) (store .rows)
-          (onwardBy v w (λ (s : Store) (x : List ℕ). completeAll place room es (drop (e .brought .given) bytes) s x) .store .rows) us (byCompletions (e ∷ es))
-      go (verdict.Refused r) w q ev rest = rw ev tt
-      go verdict.Pass w q ev rest =
-          let p : ℕ = place (e .token) in
-          let next : Row = completedAs e (rowIn (store .rows) p) in
-          let here : Each (Named (w .store .rows)) (tokensIn es ++ us) =
-          subst (λ (l : List Row). Each (Named l) (tokensIn es ++ us)) (sym q) (named-after (store .rows) p (next .state) (a .0 .0) (tokensIn es ++ us) (a .1)) in
-          after (completeAll place room es (drop (e .brought .given) bytes) (w .store) (w .area) .verdict)
-          (completeAll place room es (drop (e .brought .given) bytes) (w .store) (w .area) .store .rows) (w .store .rows) q here (rest (w .store) (w .area) here)
-        where
-          after : (v : Verdict) (rows′ rows₁ : List Row) → rows₁ ≡ set (store .rows) (place (e .token)) (completedAs e (rowIn (store .rows) (place (e .token)))) → Each (Named rows₁) (tokensIn es ++ us)
-              → WalkedBy v rows₁ rows′ us (byCompletions es) → WalkedBy v (store .rows) rows′ us (byCompletions (e ∷ es))
-          after (verdict.Refused r) rows′ rows₁ q here k = tt
-          after verdict.Pass rows′ rows₁ q here k =
-              let p : ℕ = place (e .token) in
-              let next : Row = completedAs e (rowIn (store .rows) p) in
-              let at-p : rowIn rows₁ p ≡ next = ap (λ (l : List Row). rowIn l p) q ∙ getD-set-same (store .rows) p next emptyRow (a .0 .0) in
-              let token-p : tokenIn rows₁ p ≡ e .token = ap (λ (r : Row). r .token) at-p ∙ a .0 .1 in
-              record {
-                named = k .named;
-                size = k .size ∙ ap (λ (l : List Row). length l) q ∙ length-set (store .rows) p next;
-                each = λ i.
-                    caseB (eqb p i)
-                    (λ y.
-                    let z = eqb-true p i y in
-                    rw y (k .each i ∙ ap (λ (n : ℕ). byCompletions es n (rowIn rows₁ n)) (sym z) ∙ far-completions rows₁ (e .token) token-p es us (d .0) here (rowIn rows₁ p) ∙ at-p
-                    ∙ ap (λ (n : ℕ). completedAs e (rowIn (store .rows) n)) z))
-                    (λ y.
-                    let other : rowIn rows₁ i ≡ rowIn (store .rows) i = ap (λ (l : List Row). rowIn l i) q ∙ getD-set-other (store .rows) p i next emptyRow (λ z. eqb-false p i y (sym z)) in
-                    rw y (k .each i ∙ ap (byCompletions es i) other));
-              }
-
-  aborts-walk : (ts : List ℕ) (store : Store) → Each (Named (store .rows)) ts → Distinct ts
-      → WalkedBy (abortAll place ts store .verdict) (store .rows) (abortAll place ts store .store .rows) [] (byAborts ts)
-  aborts-walk [] store a d = record { each = λ i. refl; named = tt; size = refl }
-  aborts-walk (t ∷ ts) store a d =
-      go (abortOne (place t) store .verdict) (abortOne (place t) store) (abort-set store (place t)) refl (λ s b. aborts-walk ts s b (d .1))
-    where
-      go : (v : Verdict) (w : AbortTo) → SetBy v (set (store .rows) (place t) (withState (rowIn (store .rows) (place t)) Aborted)) (w .store .rows) → w .verdict ≡ v
-          → ((s : Store) → Each (Named (s .rows)) ts → WalkedBy (abortAll place ts s .verdict) (s .rows) (abortAll place ts s .store .rows) [] (byAborts ts))
-          → WalkedBy (furtherBy v w (λ (s : Store). abortAll place ts s) .verdict) (store .rows) (furtherBy v w (λ (s : Store). abortAll place ts s) .store .rows) [] (byAborts (t ∷ ts))
-      go (verdict.Refused r) w q ev rest = rw ev tt
-      go verdict.Pass w q ev rest =
-          let here : Each (Named (w .store .rows)) ts =
-          subst (λ (l : List Row). Each (Named l) ts) (sym q) (named-after (store .rows) (place t) Aborted (a .0 .0) ts (a .1)) in
-          after (abortAll place ts (w .store) .verdict) (abortAll place ts (w .store) .store .rows) (w .store .rows) q here (rest (w .store) here)
-        where
-          after : (v : Verdict) (rows′ rows₁ : List Row) → rows₁ ≡ set (store .rows) (place t) (withState (rowIn (store .rows) (place t)) Aborted) → Each (Named rows₁) ts
-              → WalkedBy v rows₁ rows′ [] (byAborts ts) → WalkedBy v (store .rows) rows′ [] (byAborts (t ∷ ts))
-          after (verdict.Refused r) rows′ rows₁ q here k = tt
-          after verdict.Pass rows′ rows₁ q here k =
-              let p : ℕ = place t in
-              let next : Row = withState (rowIn (store .rows) p) Aborted in
-              let at-p : rowIn rows₁ p ≡ next = ap (λ (l : List Row). rowIn l p) q ∙ getD-set-same (store .rows) p next emptyRow (a .0 .0) in
-              let token-p : tokenIn rows₁ p ≡ t = ap (λ (r : Row). r .token) at-p ∙ a .0 .1 in
-              record {
-                named = tt;
-                size = k .size ∙ ap (λ (l : List Row). length l) q ∙ length-set (store .rows) p next;
-                each = λ i.
-                    caseB (eqb p i)
-                    (λ y.
-                    let z = eqb-true p i y in
-                    rw y (k .each i ∙ ap (λ (n : ℕ). byAborts ts n (rowIn rows₁ n)) (sym z) ∙ far-aborts rows₁ t token-p ts (d .0) here (rowIn rows₁ p) ∙ at-p
-                    ∙ ap (λ (n : ℕ). withState (rowIn (store .rows) n) Aborted) z))
-                    (λ y.
-                    let other : rowIn rows₁ i ≡ rowIn (store .rows) i = ap (λ (l : List Row). rowIn l i) q ∙ getD-set-other (store .rows) p i next emptyRow (λ z. eqb-false p i y (sym z)) in
-                    rw y (k .each i ∙ ap (byAborts ts i) other));
-              }
-
+  -- what the entries make of each row
   record Applied (rows rows′ : List Row) (es : List Returned) (aborted : List ℕ) : Type 0 where
     pub each : (i : ℕ) → rowIn rows′ i ≡ byAborts aborted i (byCompletions es i (rowIn rows i))
     pub size : length rows′ ≡ length rows
 
+  -- one row takes a state
+  module _ (old : List Row) (p : ℕ) (h : p < length old) (s : RequestState) (new : List Row) (q : new ≡ set old p (withState (rowIn old p) s)) where
+    at-p : rowIn new p ≡ withState (rowIn old p) s
+    at-p = ap (λ (l : List Row). rowIn l p) q ∙ getD-set-same old p (withState (rowIn old p) s) emptyRow h
+
+    other : (i : ℕ) → eqb p i ≡ false → rowIn new i ≡ rowIn old i
+    other i y = ap (λ (l : List Row). rowIn l i) q ∙ getD-set-other old p i (withState (rowIn old p) s) emptyRow (λ z. eqb-false p i y (sym z))
+
+    same-size : length new ≡ length old
+    same-size = ap (λ (l : List Row). length l) q ∙ length-set old p (withState (rowIn old p) s)
+
+    still-named : (ts : List ℕ) → Each (Named old) ts → Each (Named new) ts
+    still-named ts a = subst (λ (l : List Row). Each (Named l) ts) (sym q) (named-after old p s h ts a)
+
+  module _ (rows : List Row) (whole : List Returned) (aborted : List ℕ) where
+    -- the entries that are left make of the rows where the walk has come what all of them make of `rows`
+    record Left (es : List Returned) (ts : List ℕ) (now : List Row) : Type 0 where
+      pub each : (i : ℕ) → byAborts ts i (byCompletions es i (rowIn now i)) ≡ byAborts aborted i (byCompletions whole i (rowIn rows i))
+      pub size : length now ≡ length rows
+      pub named : Each (Named now) (tokensIn es ++ ts)
+      pub distinct : Distinct (tokensIn es ++ ts)
+
+    completed-left : (e : Returned) (es : List Returned) (ts : List ℕ) (old new : List Row) → Left (e ∷ es) ts old
+        → new ≡ set old (place (e .token)) (completedAs e (rowIn old (place (e .token)))) → Left es ts new
+    completed-left e es ts old new k q =
+        let p : ℕ = place (e .token) in
+        let s : RequestState = completedAs e (rowIn old p) .state in
+        let h : p < length old = k .named .0 .0 in
+        let here = still-named old p h s new q (tokensIn es ++ ts) (k .named .1) in
+        let token : tokenIn new p ≡ e .token = ap (λ (r : Row). r .token) (at-p old p h s new q) ∙ k .named .0 .1 in
+        let one : (i : ℕ) → byCompletions es i (rowIn new i) ≡ byCompletions (e ∷ es) i (rowIn old i) = λ i.
+        caseB (eqb p i)
+        (λ y.
+        let z = eqb-true p i y in
+        rw y (ap (λ (n : ℕ). byCompletions es n (rowIn new n)) (sym z) ∙ far-completions new (e .token) token es ts (k .distinct .0) here (rowIn new p)
+        ∙ at-p old p h s new q ∙ ap (λ (n : ℕ). completedAs e (rowIn old n)) z))
+        (λ y. rw y (ap (byCompletions es i) (other old p h s new q i y))) in
+        record { each = λ i. ap (byAborts ts i) (one i) ∙ k .each i; size = same-size old p h s new q ∙ k .size; named = here; distinct = k .distinct .1 }
+
+    aborted-left : (t : ℕ) (ts : List ℕ) (old new : List Row) → Left [] (t ∷ ts) old → new ≡ set old (place t) (withState (rowIn old (place t)) Aborted) → Left [] ts new
+    aborted-left t ts old new k q =
+        let p : ℕ = place t in
+        let h : p < length old = k .named .0 .0 in
+        let here = still-named old p h Aborted new q ts (k .named .1) in
+        let token : tokenIn new p ≡ t = ap (λ (r : Row). r .token) (at-p old p h Aborted new q) ∙ k .named .0 .1 in
+        let one : (i : ℕ) → byAborts ts i (rowIn new i) ≡ byAborts (t ∷ ts) i (rowIn old i) = λ i.
+        caseB (eqb p i)
+        (λ y.
+        let z = eqb-true p i y in
+        rw y (ap (λ (n : ℕ). byAborts ts n (rowIn new n)) (sym z) ∙ far-aborts new t token ts (k .distinct .0) here (rowIn new p)
+        ∙ at-p old p h Aborted new q ∙ ap (λ (n : ℕ). withState (rowIn old n) Aborted) z))
+        (λ y. rw y (ap (byAborts ts i) (other old p h Aborted new q i y))) in
+        record { each = λ i. one i ∙ k .each i; size = same-size old p h Aborted new q ∙ k .size; named = here; distinct = k .distinct .1 }
+
   applied-rows : (room : ℕ) (es : List Returned) (aborted bytes : List ℕ) (store : Store) (area : List ℕ) → Each (Named (store .rows)) (tokensIn es ++ aborted)
       → Distinct (tokensIn es ++ aborted) → applyAll place room es aborted bytes store area .verdict ≡ verdict.Pass
       → Applied (store .rows) (applyAll place room es aborted bytes store area .store .rows) es aborted
-  unfolding applyAll abortsAfter
   applied-rows room es aborted bytes store area a d =
-      go (completeAll place room es bytes store area .verdict) (completeAll place room es bytes store area) (completions-walk room aborted es bytes store area a d) refl
+      entries-all place room J P (λ bytes s x k e. record { each = k .each; size = k .size })
+      (λ e rest ts bytes s x k.
+      let p : ℕ = place (e .token) in
+      let one : WalkTo = completeOne p (p * room) room (e .brought .completion) (take (e .brought .given) bytes) s x in
+      on (one .verdict) rest ts (drop (e .brought .given) bytes) (set (s .rows) p (completedAs e (rowIn (s .rows) p))) (one .store) (one .area)
+      (complete-set s p (e .brought .completion) (p * room) room (take (e .brought .given) bytes) x) (completed-left (store .rows) es aborted e rest ts (s .rows) (one .store .rows) k))
+      (λ t ts bytes s x k.
+      on (abortOne (place t) s .verdict) [] ts bytes (set (s .rows) (place t) (withState (rowIn (s .rows) (place t)) Aborted)) (abortOne (place t) s .store) x
+      (abort-set s (place t)) (aborted-left (store .rows) es aborted t ts (s .rows) (abortOne (place t) s .store .rows) k))
+      es aborted bytes store area (record { each = λ i. refl; size = refl; named = a; distinct = d })
     where
-      go : (v : Verdict) (w : WalkTo) → WalkedBy v (store .rows) (w .store .rows) aborted (byCompletions es) → w .verdict ≡ v
-          → abortsAfter v w place aborted .verdict ≡ verdict.Pass → Applied (store .rows) (abortsAfter v w place aborted .store .rows) es aborted
-      go (verdict.Refused r) w k ev e = let n : verdict.Refused r ≡ verdict.Pass = sym ev ∙ e in let z : _≡_ {A = ℕ} 0 1 = cc in absurd (omega arith)
-      go verdict.Pass w k ev e =
-          let m : Walked (w .store .rows) (abortAll place aborted (w .store) .store .rows) [] (byAborts aborted) =
-          subst (λ (y : Verdict). WalkedBy y (w .store .rows) (abortAll place aborted (w .store) .store .rows) [] (byAborts aborted)) e
-          (aborts-walk aborted (w .store) (k .named) (distinct-last (tokensIn es) aborted d)) in
-          record { each = λ i. m .each i ∙ ap (byAborts aborted i) (k .each i); size = m .size ∙ k .size }
+      J : List Returned → List ℕ → List ℕ → Store → List ℕ → Type 0
+      J rest ts bytes s x = Left (store .rows) es aborted rest ts (s .rows)
+
+      P : Verdict → Store → List ℕ → Type 0
+      P v s x = v ≡ verdict.Pass → Applied (store .rows) (s .rows) es aborted
+
+      on : (v : Verdict) (rest : List Returned) (ts bytes : List ℕ) (l : List Row) (s : Store) (x : List ℕ) → SetBy v l (s .rows)
+          → (s .rows ≡ l → Left (store .rows) es aborted rest ts (s .rows)) → Onward place room J P v rest ts bytes s x
+      on (verdict.Refused r) rest ts bytes l s x q k = λ e. let z : _≡_ {A = ℕ} 0 1 = cc in absurd (omega arith)
+      on verdict.Pass rest ts bytes l s x q k = k q
 
   -- ---- by the row's own token
   module _ (rows : List Row) (i : ℕ) where
@@ -482,24 +455,12 @@ module _ (s : Session) (store : Store) (few : count isHeld (store .rows) ≤ 128
       (recovered-rows (y .device) (y .endpoint) rows few different tokens words aborted scope _ a
       (scope-spares (y .device) (y .endpoint) store true (quiet .«row_bytes») tokens words aborted bytes area scope)))
 
-  by-told : (y : Recovery) (r : RecoveryReply) → Told (replyBy r quiet y tokens words aborted bytes store area)
-  unfolding replyBy doneOf scopedOf
-  by-told y (reply.Error e) = refuses _ (store .rows)
-  by-told y (reply.Done o) = if-by Told _ _ _ (λ n. refuses _ (store .rows))
-      (λ n. concluded-told y o (not-false _ n) _ (applyAll (means y) (quiet .«row_bytes») (returnedOf tokens words) aborted bytes store area) refl refl
-      (idLists (store .rows) (means y) tokens aborted))
-
   pub recovered-told : (fits : Bool) (r : RecoveryReply) → Told (recoveryReplyOf s fits r tokens words aborted bytes store area)
-  unfolding recoveryReplyOf replyIn replySized
-  recovered-told fits r = go (s .«in_flight»)
-    where
-      go : (f : InFlight) → Told (replyIn f s fits r tokens words aborted bytes store area)
-      go flight.Nothing = refuses _ (store .rows)
-      go (flight.Submission id) = refuses _ (store .rows)
-      go (flight.Poll id) = refuses _ (store .rows)
-      go (flight.Recovery target device endpoint q) =
-          if-by Told _ _ _ (λ n. refuses _ (store .rows))
-          (λ n. if-by Told _ _ _ (λ m. refuses _ (store .rows)) (λ m. by-told (record { target = target; device = device; endpoint = endpoint; kind = q }) r))
+  unfolding scopedOf
+  recovered-told fits r =
+      recovery-all s tokens words aborted bytes store area Told (refuses _ (store .rows)) (refuses _ (store .rows)) (refuses _ (store .rows)) (λ e. refuses _ (store .rows)) (refuses _ (store .rows))
+      (λ y own o n. concluded-told y o n _ (applyAll (means y) (quiet .«row_bytes») (returnedOf tokens words) aborted bytes store area) refl refl (idLists (store .rows) (means y) tokens aborted))
+      fits r
 
 -- ---- the report is of the operation that waited
 module _ (s : Session) (store : Store) (tokens words aborted bytes area : List ℕ) (x : AbortReport) where
@@ -517,32 +478,20 @@ module _ (s : Session) (store : Store) (tokens words aborted bytes area : List �
       let q : reportOf y o n m ≡ x = cc in
       (ap (λ (z : AbortReport). z .target) q, ap (λ (z : AbortReport). z .device) q, ap (λ (z : AbortReport). z .endpoint) q)
 
-  abbrev SameTo : Recovery → RecoveredTo → Type 0
-  SameTo y o = ofRecovery (o .result .answer) ≡ answer.Recovered x → Same y
-
-  by-same : (y : Recovery) (r : RecoveryReply) → SameTo y (replyBy r idle y tokens words aborted bytes store area)
-  unfolding replyBy doneOf scopedOf
-  by-same y (reply.Error e) = no-report _ x (Same y)
-  by-same y (reply.Done o) = if-by (SameTo y) _ _ _ (λ n. no-report _ x (Same y))
-      (λ n. concluded-same y o _ (length tokens) (length aborted) _ _)
-
   abbrev Waited : InFlight → Type 0
   Waited f = (q : RecoveryKind) × (f ≡ flight.Recovery (x .target) (x .device) (x .endpoint) q)
 
   same-flight : (y : Recovery) (q : RecoveryKind) → Same y → Waited (flight.Recovery (y .target) (y .device) (y .endpoint) q)
   same-flight y q e = let a = e .0 in let b = e .1 in let c = e .2 in (q, rw (a, b, c))
 
-  pub waited-told : (fits : Bool) (r : RecoveryReply) → ofRecovery (recoveryReplyOf s fits r tokens words aborted bytes store area .result .answer) ≡ answer.Recovered x → Waited (s .«in_flight»)
-  unfolding recoveryReplyOf replyIn replySized
-  waited-told fits r = go (s .«in_flight»)
-    where
-      go : (f : InFlight) → ofRecovery (replyIn f s fits r tokens words aborted bytes store area .result .answer) ≡ answer.Recovered x → Waited f
-      go flight.Nothing = no-report _ x (Waited flight.Nothing)
-      go (flight.Submission id) = no-report _ x (Waited (flight.Submission id))
-      go (flight.Poll id) = no-report _ x (Waited (flight.Poll id))
-      go (flight.Recovery target device endpoint q) =
-          let y : Recovery = record { target = target; device = device; endpoint = endpoint; kind = q } in
-          if-by (λ (o : RecoveredTo). ofRecovery (o .result .answer) ≡ answer.Recovered x → Waited (flight.Recovery target device endpoint q)) _ _ _
-          (λ n. no-report _ x (Waited (flight.Recovery target device endpoint q)))
-          (λ n. if-by (λ (o : RecoveredTo). ofRecovery (o .result .answer) ≡ answer.Recovered x → Waited (flight.Recovery target device endpoint q)) _ _ _
-          (λ m. no-report _ x (Waited (flight.Recovery target device endpoint q))) (λ m e. same-flight y q (by-same y r e)))
+  abbrev WaitedTo : RecoveredTo → Type 0
+  WaitedTo o = ofRecovery (o .result .answer) ≡ answer.Recovered x → Waited (s .«in_flight»)
+
+  refuses-too : (f : Refusal) → answer.Refused f ≡ answer.Recovered x → Waited (s .«in_flight»)
+  refuses-too f = no-report f x (Waited (s .«in_flight»))
+
+  pub waited-told : (fits : Bool) (r : RecoveryReply) → WaitedTo (recoveryReplyOf s fits r tokens words aborted bytes store area)
+  unfolding scopedOf
+  waited-told fits r =
+      recovery-all s tokens words aborted bytes store area WaitedTo (refuses-too _) (refuses-too _) (refuses-too _) (λ e. refuses-too _) (refuses-too _)
+      (λ y own o n e. subst Waited (sym own) (same-flight y (y .kind) (concluded-same y o _ (length tokens) (length aborted) _ _ e))) fits r

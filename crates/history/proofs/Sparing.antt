@@ -1,16 +1,15 @@
 -- What a recovery's reply leaves of the rows that it does not affect, whatever it is answered. Assumes nothing.
 use Prim.Native.Nat.{ℕ, _*_}
-use mathlib.Core.Path.{_≡_, refl, sym, ap, _∙_}
+use mathlib.Core.Path.{_≡_, refl, sym, ap, _∙_, subst}
 use mathlib.Core.Bool.{Bool, true, false, true≢false}
 use mathlib.Core.List.{List, [], _∷_, _++_}
 use lib.ListN.{length, set, take, drop, length-set}
 use lib.Seq.{getD-set-other}
-use borrow.Author.Tests.{not-false}
-use Rattle.chain.proofs.Chain.{if-by}
 use Rattle.words.specs.declared.OptionU32.{OptionU32}
 use Rattle.models.specs.declared.DeviceId.{DeviceId}
 use Rattle.models.specs.declared.Verdict.{Verdict}
 use Rattle.models.specs.declared.Verdict.the-variants as verdict
+use Rattle.models.specs.Refusals.{refusalOf}
 use Rattle.rows.specs.Store.{Store, putIn}
 use Rattle.rows.specs.Table.{emptyRow, rowIn}
 use Rattle.rows.specs.declared.Row.{Row}
@@ -23,18 +22,18 @@ use Rattle.checks.specs.declared.completion.CompletionTest.the-variants as test
 use Rattle.session.specs.declared.InFlight.{InFlight}
 use Rattle.session.specs.declared.InFlight.the-variants as flight
 use Rattle.session.specs.declared.Session.{Session}
-use Rattle.session.specs.Session.{withFlight}
 use Rattle.scope.specs.Affected.{isAffected, affectedOf, tokensOf}
 use Rattle.scope.specs.Scope.{meant, inScope}
 use Rattle.scope.specs.Returned.{Returned, returnedOf}
-use Rattle.recovery.specs.Entries.{WalkTo, rowCompletedBy, testedBy, completeOne, onwardBy, completeAll, AbortTo, abortedBy, abortOne, furtherBy, abortAll}
-use Rattle.recovery.specs.Reply.{RecoveredTo, isWhole, abortsAfter, applyAll, scopedOf, doneOf, replyBy, replySized, replyIn, recoveryReplyOf}
+use Rattle.recovery.specs.Entries.{WalkTo, rowCompletedBy, testedBy, completeOne, abortedBy, abortOne}
+use Rattle.recovery.specs.Reply.{RecoveredTo, isWhole, applyAll, scopedOf, recoveryReplyOf, recoveredTo, recoveryRefused}
 use Rattle.recovery.specs.declared.Recovery.{Recovery}
 use Rattle.recovery.specs.declared.RecoveryReply.{RecoveryReply}
-use Rattle.recovery.specs.declared.RecoveryReply.the-variants as reply
+use Rattle.runs.proofs.Affected.{meant-affected, returned-tokens}
+use Rattle.runs.proofs.Ways.{recovery-all}
+use Rattle.runs.proofs.Entries.{Onward, entries-all}
+use Rattle.runs.proofs.Tokens.{tokensIn, Each, scope-each}
 use Rattle.history.specs.Claim.{Spared}
-use Rattle.history.proofs.Tokens.{tokensIn, Each, each-first, each-last, scope-each}
-use Rattle.history.proofs.Recovers.{returned-tokens, meant-affected}
 
 -- ---- a walk that changes marked rows only
 module _ (marks : ℕ → Bool) where
@@ -76,45 +75,27 @@ module _ (marks : ℕ → Bool) where
     abbrev pub Marked : ℕ → Type 0
     Marked t = marks (place t) ≡ true
 
-    completions-spare : (room : ℕ) (es : List Returned) (bytes : List ℕ) (store : Store) (area : List ℕ) → Each Marked (tokensIn es)
-        → Spares (store .rows) (completeAll place room es bytes store area .store .rows)
-    unfolding completeOne
-    completions-spare room [] bytes store area a = none (store .rows)
-    completions-spare room (e ∷ es) bytes store area a =
-        let p : ℕ = place (e .token) in
-        let given : List ℕ = take (e .brought .given) bytes in
-        let one : WalkTo = completeOne p (p * room) room (e .brought .completion) given store area in
-        go (one .verdict) one (tested-row p (a .0) store _ (e .brought .completion .«completion_code») (p * room) room given area)
-        (λ s x. completions-spare room es (drop (e .brought .given) bytes) s x (a .1))
-      where
-        go : (v : Verdict) (w : WalkTo) → Spares (store .rows) (w .store .rows)
-            → ((s : Store) (x : List ℕ) → Spares (s .rows) (completeAll place room es (drop (e .brought .given) bytes) s x .store .rows))
-            → Spares (store .rows) (onwardBy v w (λ (s : Store) (x : List ℕ). completeAll place room es (drop (e .brought .given) bytes) s x) .store .rows)
-        go (verdict.Refused r) w q rest = q
-        go verdict.Pass w q rest = further (store .rows) (w .store .rows) _ q (rest (w .store) (w .area))
-
-    aborts-spare : (ts : List ℕ) (store : Store) → Each Marked ts → Spares (store .rows) (abortAll place ts store .store .rows)
-    unfolding abortOne
-    aborts-spare [] store a = none (store .rows)
-    aborts-spare (t ∷ ts) store a =
-        go (abortOne (place t) store .verdict) (abortOne (place t) store) (aborted-row (place t) (a .0) store _) (λ s. aborts-spare ts s (a .1))
-      where
-        go : (v : Verdict) (w : AbortTo) → Spares (store .rows) (w .store .rows) → ((s : Store) → Spares (s .rows) (abortAll place ts s .store .rows))
-            → Spares (store .rows) (furtherBy v w (λ (s : Store). abortAll place ts s) .store .rows)
-        go (verdict.Refused r) w q rest = q
-        go verdict.Pass w q rest = further (store .rows) (w .store .rows) _ q (rest (w .store))
-
     apply-spares : (room : ℕ) (es : List Returned) (aborted bytes : List ℕ) (store : Store) (area : List ℕ) → Each Marked (tokensIn es ++ aborted)
         → Spares (store .rows) (applyAll place room es aborted bytes store area .store .rows)
-    unfolding applyAll abortsAfter
+    unfolding completeOne abortOne
     apply-spares room es aborted bytes store area a =
-        go (completeAll place room es bytes store area .verdict) (completeAll place room es bytes store area)
-        (completions-spare room es bytes store area (each-first Marked (tokensIn es) aborted a))
+        entries-all place room J P (λ bytes s x h. h .0)
+        (λ e es ts bytes s x h.
+        let one : WalkTo = completeOne (place (e .token)) (place (e .token) * room) room (e .brought .completion) (take (e .brought .given) bytes) s x in
+        on (one .verdict) es ts (drop (e .brought .given) bytes) s (one .store) (one .area) h (tested-row (place (e .token)) (h .1 .0) s _ (e .brought .completion .«completion_code») (place (e .token) * room) room (take (e .brought .given) bytes) x))
+        (λ t ts bytes s x h. on (abortOne (place t) s .verdict) [] ts bytes s (abortOne (place t) s .store) x h (aborted-row (place t) (h .1 .0) s _))
+        es aborted bytes store area (none (store .rows), a)
       where
-        go : (v : Verdict) (w : WalkTo) → Spares (store .rows) (w .store .rows) → Spares (store .rows) (abortsAfter v w place aborted .store .rows)
-        go (verdict.Refused r) w q = q
-        go verdict.Pass w q =
-            further (store .rows) (w .store .rows) _ q (aborts-spare aborted (w .store) (each-last Marked (tokensIn es) aborted a))
+        J : List Returned → List ℕ → List ℕ → Store → List ℕ → Type 0
+        J es ts bytes s x = Spares (store .rows) (s .rows) × Each Marked (tokensIn es ++ ts)
+
+        P : Verdict → Store → List ℕ → Type 0
+        P v s x = Spares (store .rows) (s .rows)
+
+        on : (v : Verdict) (es : List Returned) (ts bytes : List ℕ) (s s′ : Store) (x : List ℕ) {t : ℕ} → Spares (store .rows) (s .rows) × Each Marked (t ∷ (tokensIn es ++ ts))
+            → Spares (s .rows) (s′ .rows) → Onward place room J P v es ts bytes s′ x
+        on (verdict.Refused r) es ts bytes s s′ x h o = further (store .rows) (s .rows) (s′ .rows) (h .0) o
+        on verdict.Pass es ts bytes s s′ x h o = (further (store .rows) (s .rows) (s′ .rows) (h .0) o, h .1 .1)
 
 -- ---- in scope, the tokens mean affected rows
 module _ (d : DeviceId) (endpoint : ℕ) (store : Store) where
@@ -142,28 +123,17 @@ all-spared (flight.Poll id) rows = refl
 all-spared (flight.Recovery target d endpoint q) rows = record { number = refl; equal = λ i h e. refl }
 
 module _ (s : Session) (store : Store) (tokens words aborted bytes area : List ℕ) where
-  abbrev To : InFlight → RecoveredTo → Type 0
-  To f o = Spared f (store .rows) (o .store .rows)
+  abbrev To : RecoveredTo → Type 0
+  To o = Spared (s .«in_flight») (store .rows) (o .store .rows)
 
-  by-spares : (x : Recovery) (r : RecoveryReply)
-      → To (flight.Recovery (x .target) (x .device) (x .endpoint) (x .kind)) (replyBy r (withFlight s flight.Nothing) x tokens words aborted bytes store area)
-  unfolding replyBy doneOf scopedOf
-  by-spares x (reply.Error e) = all-spared (flight.Recovery (x .target) (x .device) (x .endpoint) (x .kind)) (store .rows)
-  by-spares x (reply.Done o) =
-      let f = flight.Recovery (x .target) (x .device) (x .endpoint) (x .kind) in
-      if-by (To f) _ _ _ (λ n. all-spared f (store .rows))
-      (λ n. let k = scope-spares (x .device) (x .endpoint) store (isWhole o) (s .«row_bytes») tokens words aborted bytes area (not-false _ n) in
-      record { number = k .size; equal = λ i h e. k .row i e })
+  same : To (recoveredTo (recoveryRefused s (refusalOf 2)) store area)
+  same = all-spared (s .«in_flight») (store .rows)
 
-  pub reply-spares : (fits : Bool) (r : RecoveryReply) → To (s .«in_flight») (recoveryReplyOf s fits r tokens words aborted bytes store area)
-  unfolding recoveryReplyOf replyIn replySized
-  reply-spares fits r = go (s .«in_flight»)
-    where
-      go : (f : InFlight) → To f (replyIn f s fits r tokens words aborted bytes store area)
-      go flight.Nothing = refl
-      go (flight.Submission id) = refl
-      go (flight.Poll id) = refl
-      go (flight.Recovery target d endpoint q) =
-          let f = flight.Recovery target d endpoint q in
-          if-by (To f) _ _ _ (λ n. all-spared f (store .rows))
-          (λ n. if-by (To f) _ _ _ (λ m. all-spared f (store .rows)) (λ m. by-spares (record { target = target; device = d; endpoint = endpoint; kind = q }) r))
+  pub reply-spares : (fits : Bool) (r : RecoveryReply) → To (recoveryReplyOf s fits r tokens words aborted bytes store area)
+  unfolding scopedOf
+  reply-spares fits r =
+      recovery-all s tokens words aborted bytes store area To same same same (λ e. same) same
+      (λ x own o n.
+      let k = scope-spares (x .device) (x .endpoint) store (isWhole o) (s .«row_bytes») tokens words aborted bytes area n in
+      subst (λ (f : InFlight). Spared f (store .rows) (applyAll (place (x .device) (x .endpoint) store) (s .«row_bytes») (returnedOf tokens words) aborted bytes store area .store .rows)) (sym own) (record { number = k .size; equal = λ i h e. k .row i e }))
+      fits r

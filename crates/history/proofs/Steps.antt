@@ -1,106 +1,91 @@
 -- Every call keeps the invariant. Assumes nothing.
 use Prim.Native.Nat.{ℕ, _<_}
-use mathlib.Core.Path.{_≡_, refl, sym, ap}
-use mathlib.Core.Bool.{Bool, true, false, not, cond, _&&_, true≢false, false≢true}
+use mathlib.Core.Path.{_≡_, refl, ap}
+use mathlib.Core.Bool.{Bool, true, false, not, cond, _&&_, true≢false}
 use mathlib.Core.List.{List}
-use lib.ListN.{length, getD}
 use borrow.Author.Tests.{not-true}
-use Rattle.chain.specs.Lists.{foundIn}
-use Rattle.chain.specs.declared.Found.{Found}
-use Rattle.chain.specs.declared.Found.the-variants as found
+use lib.ListN.{length}
+use Rattle.chain.specs.Lists.{count}
 use Rattle.chain.proofs.Chain.{if-all, if-by}
 use Rattle.words.specs.declared.OptionU64.{OptionU64}
 use Rattle.words.specs.declared.OptionU64.the-variants as u64
 use Rattle.models.specs.Requests.{deviceMayAccess, isPending}
-use Rattle.models.specs.declared.ControllerState.the-variants.{AcquiredUnknown, Initialized, RecoveryRequired}
 use Rattle.models.specs.declared.OptionError.{OptionError}
 use Rattle.models.specs.declared.OptionError.the-variants as error
 use Rattle.models.specs.declared.RequestId.{RequestId}
 use Rattle.models.specs.declared.RequestState.{RequestState}
 use Rattle.models.specs.declared.RequestState.the-variants.{Pending, Completed, Failed, Aborted}
 use Rattle.rows.specs.Store.{Store, putIn, emptied}
-use Rattle.rows.specs.Table.{emptyRow}
+use Rattle.rows.specs.Table.{isHeld, rowIn}
 use Rattle.rows.specs.declared.Row.{Row}
-use Rattle.ledger.specs.Apply.{applyBy, applyAt, applyOf}
+use Rattle.ledger.specs.Apply.{applyBy}
 use Rattle.rules.specs.Rules.{moved, freed, whilePending, logicalCancel, timeOut, reclaimed, changeRow, flagged}
-use Rattle.ledger.specs.Search.{isAt}
-use Rattle.rules.specs.declared.Change.{Change}
-use Rattle.rules.specs.declared.Change.the-variants as change
+use Rattle.rules.specs.declared.Change as rules
 use Rattle.rules.specs.declared.Step.{Step}
 use Rattle.rules.specs.declared.Step.the-variants as step
-use Rattle.ledger.proofs.Placing.{found-row}
 use Rattle.session.specs.Session.{isClosed, isBusy, marked}
 use Rattle.session.specs.Lifecycle.{CalledTo, acquiredBy, acquireOf, initializedBy, initializeOf, closedBy, freshBy, closeOf}
+use Rattle.session.specs.Start.{guarded}
 use Rattle.session.specs.declared.Called.{Called}
-use Rattle.session.specs.declared.RecoveryKind.the-variants as kind
 use Rattle.session.specs.declared.Session.{Session}
 use Rattle.session.specs.declared.lifecycle.AcquireReply.{AcquireReply}
 use Rattle.session.specs.declared.lifecycle.AcquireReply.the-variants as acquire
-use Rattle.reports.specs.Answers.{ReportedTo}
+use Rattle.reports.specs.Answers.{ReportedTo, reportedTo}
 use Rattle.reports.specs.Change.{reportedBy, changeOf}
+use Rattle.scope.specs.Scope.{isIn}
 use Rattle.calls.specs.Answers.{ofVerdict}
-use Rattle.calls.specs.Calls.{Call, Open, SetDevice, SetPort, SetEndpoints, SetReconcile, Acquire, Initialize, Close, Submit, SubmitPlan, ReplySubmit, Poll, ReplyPoll, AbortRequest, ResetEndpoint, ReplyRecovery, Cancel, Timeout, Reclaim, Status, Reports, CountReports, CompletedBytes, HeldCount, HeldBytes}
-use Rattle.calls.specs.Step.{World, After, stepOf, rowsFitIn, areaFitsIn, storeFitsIn}
-use Rattle.history.specs.Run.{isOpening, numberOf, isIn, isNew, noted}
+use Rattle.calls.specs.Calls.{Changing, Cancel, Timeout, Reclaim, Call, Open, Place, Move, Acquire, Initialize, Close, Begin, Submit, SubmitPlan, Poll, Recover, Reply, ToSubmit, ToPoll, ToRecovery, Change, Read}
+use Rattle.calls.specs.Step.{World, After, rowsFitIn, areaFitsIn, storeFitsIn, movedOf, begunOf, repliedOf, changeBy, stepOf}
+use Rattle.runs.specs.Run.{isOpening, numberOf, isNew, noted}
+use Rattle.runs.specs.Sound.{Sound}
+use Rattle.runs.proofs.Held.{unheld-row}
+use Rattle.runs.proofs.Ways.{change-all}
+use Rattle.runs.proofs.Facts.{closed-unheld}
 use Rattle.history.specs.Journal.{Journal, isPass, releasedAll, journalStep}
-use Rattle.history.proofs.Led.{Alike, unheld-row}
+use Rattle.history.proofs.Led.{Alike}
 use Rattle.history.proofs.Changes.{flag-alike, empty-alike}
-use Rattle.history.proofs.Inv.{Inv, restated, marks, quietly, seen-more, closed-again, closed-anew}
+use Rattle.history.proofs.Inv.{Inv, marks, quietly, seen-more, closed-again, closed-anew}
 use Rattle.history.proofs.Submits.{submit-kept, plan-kept}
 use Rattle.history.proofs.Replies.{reply-kept, poll-kept, finish-kept}
-use Rattle.history.proofs.Keeps.{begin-kept, recovery-kept}
+use Rattle.history.proofs.Recovery.{begin-kept, recovery-kept}
 
 -- ---- cancel, timeout and reclaim: the row they lead to weighs what it did
 abbrev pub Stays : Row → Step → Type 0
 Stays r (step.Refused x) = Unit {0}
 Stays r (step.To next x) = Alike r next
 
-cancel-stays : (r : Row) → Stays r (changeRow r change.LogicalCancel)
-unfolding changeRow logicalCancel whilePending moved
-cancel-stays r = go (r .state) refl
+change-stays : (c : Changing) (r : Row) → Stays r (changeRow r (changeBy c))
+unfolding changeRow logicalCancel whilePending timeOut reclaimed freed moved
+change-stays Cancel r = go (r .state) refl
   where
     go : (s : RequestState) → r .state ≡ s → Stays r (whilePending s (λ cancel late. flagged r true late true (r .«timed_out»)))
     go (Pending cancel late) e = flag-alike r true late true (r .«timed_out») (ap isPending e)
     go (Completed a b c) e = tt
     go (Failed a b c) e = tt
     go Aborted e = tt
-
-timeout-stays : (r : Row) → Stays r (changeRow r change.Timeout)
-unfolding changeRow timeOut whilePending moved
-timeout-stays r = go (r .state) refl
+change-stays Timeout r = go (r .state) refl
   where
     go : (s : RequestState) → r .state ≡ s → Stays r (whilePending s (λ cancel late. flagged r cancel true (r .«logical_cancel») true))
     go (Pending cancel late) e = flag-alike r cancel true (r .«logical_cancel») true (ap isPending e)
     go (Completed a b c) e = tt
     go (Failed a b c) e = tt
     go Aborted e = tt
-
 -- 42: what is reclaimed is not held
-reclaim-stays : (r : Row) → Stays r (changeRow r change.Reclaim)
-unfolding changeRow reclaimed freed
-reclaim-stays r = if-by (Stays r) _ (deviceMayAccess (r .state)) _ (λ e. tt) (λ e. empty-alike r (unheld-row r e))
+change-stays Reclaim r = if-by (Stays r) _ (deviceMayAccess (r .state)) _ (λ e. tt) (λ e. empty-alike r (unheld-row r e))
 
 module _ (s : Session) (j : Journal) (seen : List ℕ) (store : Store) (k : Inv s (store .rows) j seen) where
   abbrev Change-kept : ReportedTo → Type 0
   Change-kept o = Inv (o .result .session) (o .store .rows) j seen
 
-  change-kept : (fits : Bool) (id : RequestId) (c : Change) → ((r : Row) → Stays r (changeRow r c)) → Change-kept (changeOf s fits id c store)
-  unfolding changeOf reportedBy applyOf applyAt applyBy putIn
+  change-kept : (fits : Bool) (id : RequestId) (c : rules.Change) → ((r : Row) → Stays r (changeRow r c)) → Change-kept (changeOf s fits id c store)
+  unfolding reportedBy applyBy putIn
   change-kept fits id c stays =
-      if-by Change-kept _ (isBusy (s .«in_flight»)) _ (λ y. k)
-      (λ y. if-all Change-kept _ (not fits) _ k (go y (foundIn (isAt id) (store .rows)) refl))
+      change-all s id c store Change-kept (λ x. k) (λ idle i lt hit. by-step i lt (changeRow (rowIn (store .rows) i) c) (stays (rowIn (store .rows) i))) fits
     where
-      row-in : isBusy (s .«in_flight») ≡ false → (i : ℕ) → i < length (store .rows) → (t : Step) → Stays (getD (store .rows) i emptyRow) t
-          → Change-kept (record { result = reportedBy (applyBy t i store .answer) s; store = applyBy t i store .store })
-      row-in y i lt (step.Refused x) h = k
-      row-in y i lt (step.To next x) h = quietly s (store .rows) j seen k y i lt next h
-
-      go : isBusy (s .«in_flight») ≡ false → (f : Found) → foundIn (isAt id) (store .rows) ≡ f
-          → Change-kept (record { result = reportedBy (applyAt f c store .answer) s; store = applyAt f c store .store })
-      go y found.Nothing e = k
-      go y (found.At i) e =
-          let p = found-row id (store .rows) (found.At i) i (sym e) refl in
-          row-in y i (p .0) (changeRow (getD (store .rows) i emptyRow) c) (stays (getD (store .rows) i emptyRow))
+      by-step : (i : ℕ) → i < length (store .rows) → (t : Step) → Stays (rowIn (store .rows) i) t
+          → Change-kept (reportedTo (reportedBy (applyBy t i store .answer) s) (applyBy t i store .store))
+      by-step i lt (step.Refused x) h = k
+      by-step i lt (step.To next x) h = quietly s (store .rows) j seen k i lt next h
 
   -- ---- the lifecycle
   abbrev Called-kept : Called → Type 0
@@ -111,27 +96,28 @@ module _ (s : Session) (j : Journal) (seen : List ℕ) (store : Store) (k : Inv 
   acquire-kept x = if-all Called-kept _ _ _ k (if-all Called-kept _ _ _ k (go x))
     where
       go : (x : AcquireReply) → Called-kept (acquiredBy x s)
-      go acquire.Acquired = restated s (store .rows) j seen k AcquiredUnknown _ (λ e. absurd (false≢true e))
-      go (acquire.Failed e retained) = if-all Called-kept _ _ _ (restated s (store .rows) j seen k RecoveryRequired _ (λ y. absurd (false≢true y))) k
+      go acquire.Acquired = k
+      go (acquire.Failed e retained) = if-all Called-kept _ _ _ k k
 
   initialize-kept : (x : OptionError) → Called-kept (initializeOf s x)
   unfolding initializeOf initializedBy
   initialize-kept x = if-all Called-kept _ _ _ k (if-all Called-kept _ _ _ k (go x))
     where
       go : (x : OptionError) → Called-kept (initializedBy x s)
-      go error.None = restated s (store .rows) j seen k Initialized _ (λ e. absurd (false≢true e))
+      go error.None = k
       go (error.Some e) = marks s (store .rows) j seen k
 
   abbrev Close-kept : OptionU64 → CalledTo → Type 0
   Close-kept n o = Inv (o .result .session) (o .store .rows) (cond (isPass (ofVerdict (o .result .answer))) (releasedAll j) j) (noted n seen)
 
-  close-kept : (fits : Bool) (n : OptionU64) (x : OptionError) → isNew n seen ≡ true → Close-kept n (closeOf s fits n x store)
-  unfolding closeOf freshBy closedBy emptied
-  close-kept fits n x new =
+  close-kept : (isClosed (s .state) ≡ true → count isHeld (store .rows) ≡ 0) → (fits : Bool) (n : OptionU64) (x : OptionError) → isNew n seen ≡ true
+      → Close-kept n (closeOf s fits n x store)
+  unfolding closeOf guarded freshBy closedBy emptied
+  close-kept none fits n x new =
       if-by (Close-kept n) _ (isBusy (s .«in_flight»)) _ (λ y. seen-more s (store .rows) j seen k n)
       (λ y. if-all (Close-kept n) _ (not fits) _ (seen-more s (store .rows) j seen k n)
       (if-by (Close-kept n) _ (isClosed (s .state)) _
-      (λ c. seen-more s (store .rows) (releasedAll j) seen (closed-again s (store .rows) j seen k c) n)
+      (λ c. seen-more s (store .rows) (releasedAll j) seen (closed-again s (store .rows) j seen k (none c)) n)
       (λ c. go y n new x)))
     where
       go : isBusy (s .«in_flight») ≡ false → (n : OptionU64) → isNew n seen ≡ true → (x : OptionError) → Close-kept n (freshBy n s x store)
@@ -143,33 +129,22 @@ module _ (s : Session) (j : Journal) (seen : List ℕ) (store : Store) (k : Inv 
 abbrev pub Kept : Call → Journal → List ℕ → After → Type 0
 Kept c j seen a = Inv (a .result .session) (a .store .rows) (journalStep c (a .result .answer) j) (noted (numberOf c) seen)
 
-pub step-kept : (c : Call) (w : World) (j : Journal) (seen : List ℕ) → Inv (w .session) (w .store .rows) j seen → isOpening c ≡ false
+pub step-kept : (c : Call) (w : World) → Sound w → (j : Journal) (seen : List ℕ) → Inv (w .session) (w .store .rows) j seen → isOpening c ≡ false
     → isNew (numberOf c) seen ≡ true → Kept c j seen (stepOf c w)
-unfolding stepOf journalStep
-step-kept (Open o) w j seen k first new = absurd (true≢false first)
-step-kept (SetDevice d) w j seen k first new = k
-step-kept (SetPort number row) w j seen k first new = k
-step-kept (SetEndpoints slot list) w j seen k first new = k
-step-kept (SetReconcile slot mark) w j seen k first new = k
-step-kept (Acquire reply) w j seen k first new = acquire-kept (w .session) j seen (w .store) k reply
-step-kept (Initialize reply) w j seen k first new = initialize-kept (w .session) j seen (w .store) k reply
-step-kept (Close fresh reply) w j seen k first new = close-kept (w .session) j seen (w .store) k (rowsFitIn w) fresh reply new
-step-kept (Submit q bytes packed packets one two) w j seen k first new =
-    submit-kept (w .session) j seen (w .store) k (storeFitsIn w) q bytes packed packets one two (w .bus) (w .area)
-step-kept (SubmitPlan q bytes one) w j seen k first new = plan-kept (w .session) j seen (w .store) k (storeFitsIn w) q bytes one (w .bus) (w .area)
-step-kept (ReplySubmit reply) w j seen k first new = reply-kept (w .session) j seen (w .store) k (rowsFitIn w) reply
-step-kept (Poll id) w j seen k first new = poll-kept (w .session) j seen (w .store) k (rowsFitIn w) id
-step-kept (ReplyPoll reply bytes) w j seen k first new = finish-kept (w .session) j seen (w .store) k (rowsFitIn w && areaFitsIn w) reply bytes (w .area)
-step-kept (AbortRequest id) w j seen k first new = begin-kept (w .session) j seen (w .store) k (rowsFitIn w) id kind.Abort
-step-kept (ResetEndpoint id preserve) w j seen k first new = begin-kept (w .session) j seen (w .store) k (rowsFitIn w) id (kind.Reset preserve)
-step-kept (ReplyRecovery reply tokens words aborted bytes) w j seen k first new =
-    recovery-kept (w .session) j seen (w .store) k tokens words aborted bytes (w .area) (rowsFitIn w && areaFitsIn w) reply
-step-kept (Cancel id) w j seen k first new = change-kept (w .session) j seen (w .store) k (rowsFitIn w) id change.LogicalCancel cancel-stays
-step-kept (Timeout id) w j seen k first new = change-kept (w .session) j seen (w .store) k (rowsFitIn w) id change.Timeout timeout-stays
-step-kept (Reclaim id) w j seen k first new = change-kept (w .session) j seen (w .store) k (rowsFitIn w) id change.Reclaim reclaim-stays
-step-kept (Status id) w j seen k first new = k
-step-kept (Reports from) w j seen k first new = k
-step-kept CountReports w j seen k first new = k
-step-kept (CompletedBytes id) w j seen k first new = k
-step-kept HeldCount w j seen k first new = k
-step-kept HeldBytes w j seen k first new = k
+unfolding stepOf movedOf begunOf repliedOf journalStep
+step-kept (Open o) w sound j seen k first new = absurd (true≢false first)
+step-kept (Place p) w sound j seen k first new = k
+step-kept (Move (Acquire reply)) w sound j seen k first new = acquire-kept (w .session) j seen (w .store) k reply
+step-kept (Move (Initialize reply)) w sound j seen k first new = initialize-kept (w .session) j seen (w .store) k reply
+step-kept (Move (Close fresh reply)) w sound j seen k first new = close-kept (w .session) j seen (w .store) k (closed-unheld w sound) (rowsFitIn w) fresh reply new
+step-kept (Begin (Submit q bytes packed packets one two)) w sound j seen k first new =
+    submit-kept (w .session) j seen (w .store) k (w .bus) (w .area) (storeFitsIn w) q bytes packed packets one two
+step-kept (Begin (SubmitPlan q bytes one)) w sound j seen k first new = plan-kept (w .session) j seen (w .store) k (w .bus) (w .area) (storeFitsIn w) q bytes one
+step-kept (Begin (Poll id)) w sound j seen k first new = poll-kept w sound j seen k (rowsFitIn w) id
+step-kept (Begin (Recover id kind)) w sound j seen k first new = begin-kept (w .session) j seen (w .store) k (rowsFitIn w) id kind
+step-kept (Reply (ToSubmit reply)) w sound j seen k first new = reply-kept w sound j seen k (rowsFitIn w) reply
+step-kept (Reply (ToPoll reply bytes)) w sound j seen k first new = finish-kept w sound j seen k (rowsFitIn w && areaFitsIn w) reply bytes (w .area)
+step-kept (Reply (ToRecovery reply tokens words aborted bytes)) w sound j seen k first new =
+    recovery-kept (w .session) j seen (w .store) k (sound .held) tokens words aborted bytes (w .area) (rowsFitIn w && areaFitsIn w) reply
+step-kept (Change id c) w sound j seen k first new = change-kept (w .session) j seen (w .store) k (rowsFitIn w) id (changeBy c) (change-stays c)
+step-kept (Read r) w sound j seen k first new = k

@@ -1,16 +1,14 @@
 -- Demand 3: the claim of every list of calls that follows an opening which passed. Assumes nothing.
-use Prim.Native.Nat.{ℕ, zero, suc, _*_, _≤_, _<_}
+use Prim.Native.Nat.{ℕ, zero, suc, _≤_, _<_}
 use mathlib.Core.Path.{_≡_, refl, sym, ap, _∙_, subst}
 use mathlib.Core.Bool.{Bool, true, false, not, cond, _&&_}
 use mathlib.Core.List.{List, [], _∷_, _++_}
 use native.Mathlib.Omega.{arith}
+use borrow.Author.Tests.{eq-eqb, ltb-true, ltb-false}
 use lib.Dec.{ltb}
 use lib.ListN.{length, getD, replicate}
-use borrow.Author.Tests.{eq-eqb, ltb-true, ltb-false}
 use Rattle.chain.specs.Chain.{_if_else_}
-use Rattle.chain.specs.Lists.{sumBy, only, count, find, foundIn}
-use Rattle.chain.specs.declared.Found.{Found}
-use Rattle.chain.specs.declared.Found.the-variants as found
+use Rattle.chain.specs.Lists.{sumBy, only, count, find}
 use Rattle.chain.proofs.Chain.{caseB, if-by}
 use Rattle.chain.proofs.Lists.{sum-eq, sum-le, sum-one, sum-none, count-pos, find-hit, find-some}
 use Rattle.models.specs.Refusals.{refusalOf}
@@ -19,45 +17,45 @@ use Rattle.models.specs.declared.Refusal.{Refusal}
 use Rattle.models.specs.declared.RequestId.{RequestId}
 use Rattle.models.specs.declared.RequestReport.{RequestReport}
 use Rattle.rows.specs.Store.{storeOf, emptied}
-use Rattle.rows.specs.Table.{emptyRow, isHeld}
+use Rattle.rows.specs.Table.{emptyRow, isHeld, rowIn}
 use Rattle.rows.specs.declared.Row.{Row}
-use Rattle.ledger.specs.Apply.{applyBy, applyAt, applyOf}
+use Rattle.ledger.specs.Apply.{applyBy}
 use Rattle.rules.specs.Rules.{reclaimed, changeRow}
 use Rattle.ledger.specs.Search.{isAt}
 use Rattle.rules.specs.declared.Change.the-variants as change
 use Rattle.rules.specs.declared.Step.{Step}
-use Rattle.ledger.proofs.Placing.{found-row}
-use Rattle.ledger.proofs.Saturated.{count-plain, bytes-plain}
+use Rattle.bus.specs.Tables.{Bus, busOf}
 use Rattle.session.specs.Lifecycle.{OpenedTo, newSession, openOf}
 use Rattle.session.specs.Sizes.{openFits}
-use Rattle.bus.specs.Tables.{Bus, busOf}
 use Rattle.session.specs.declared.InFlight.{InFlight}
 use Rattle.session.specs.declared.InFlight.the-variants as flight
 use Rattle.session.specs.declared.RecoveryKind.{RecoveryKind}
-use Rattle.session.specs.declared.RecoveryKind.the-variants as kind
 use Rattle.session.specs.declared.Session.{Session}
 use Rattle.session.specs.declared.lifecycle.Opening.{Opening}
+use Rattle.reports.specs.Answers.{ReportedTo, reportedTo}
+use Rattle.reports.specs.Change.{reportedBy}
 use Rattle.recovery.specs.declared.AbortReport.{AbortReport}
-use Rattle.recovery.specs.Begin.{beginOf}
 use Rattle.recovery.specs.declared.Recovery.{Recovery}
 use Rattle.recovery.specs.declared.RecoveryReply.{RecoveryReply}
-use Rattle.reports.specs.Answers.{ReportedTo}
-use Rattle.reports.specs.Change.{reportedBy, changeOf}
-use Rattle.reports.specs.Status.{heldCountOf, heldBytesOf}
-use Rattle.calls.specs.Answers.{ofOpened, ofReport, ofTally}
-use Rattle.calls.specs.Calls.{Call, Open, Reclaim}
-use Rattle.calls.specs.Step.{World, After, world, begins, rowsFitIn, stepOf}
+use Rattle.calls.specs.Answers.{ofOpened, ofReport}
+use Rattle.calls.specs.Calls.{Call, Open, Begin, Recover, Change, Reclaim}
+use Rattle.calls.specs.Step.{World, world, rowsFitIn, begunOf, repliedOf, stepOf}
 use Rattle.calls.specs.declared.Answer.{Answer}
 use Rattle.calls.specs.declared.Answer.the-variants as answer
-use Rattle.history.specs.Run.{Handed, Event, next, answerTo, leftBy, endOf, historyOf, Handing, Follows, numberOf, isNew, noted, Fresh}
+use Rattle.runs.specs.Run.{Handed, Event, next, answerTo, leftBy, endOf, historyOf, Handing, Follows, numberOf, isNew, noted, Fresh}
+use Rattle.runs.specs.Sound.{Sound}
+use Rattle.runs.proofs.Held.{and-less, any-count, unheld-row}
+use Rattle.runs.proofs.Handings.{by-handed, follows-at, follows-front, fresh-front}
+use Rattle.runs.proofs.Rows.{same}
+use Rattle.runs.proofs.Ways.{change-all}
+use Rattle.runs.proofs.Run.{Whole, lent-rows, sound-open, left-leads, sound-run, fitted-run}
+use Rattle.runs.proofs.Tally.{count-answer, bytes-answer}
 use Rattle.history.specs.Journal.{Entry, Journal, blank, isNone, isOpen, isEntry, noEntry, entryOf, recoveryWaits, journalStep, journalOf, View, entryView}
-use Rattle.history.specs.Claim.{rowView, heldAs, openAs, Agrees, releasesOf, rowsBy, entriesAfter, reclaims, startOf, starts, recovers, Recovered, Spared, Claim}
-use Rattle.history.proofs.Handings.{by-handed, follows-at, follows-front, fresh-front}
-use Rattle.history.proofs.SoundRun.{Whole, fitted-run, lent-rows}
-use Rattle.history.proofs.Led.{cond-and, any-count, rowW, entryW, each, lengthOf, long, at, twice, Led, row-none, and-less, unheld-row, known-in, entry-is}
+use Rattle.history.specs.Claim.{rowView, heldAs, openAs, Agrees, releasesOf, rowsBy, entriesAfter, reclaims, starts, returns, Recovered, Spared, Claim}
+use Rattle.history.proofs.Led.{cond-and, rowW, entryW, each, lengthOf, at, twice, Led, row-none, known-in, entry-is}
 use Rattle.history.proofs.Changes.{none-held, none-at}
 use Rattle.history.proofs.Inv.{Inv, seen-more}
-use Rattle.history.proofs.Keeps.{begin-names}
+use Rattle.history.proofs.Recovery.{begin-names}
 use Rattle.history.proofs.Steps.{step-kept}
 use Rattle.history.proofs.Counting.{refused-3, handed-over}
 use Rattle.history.proofs.Refusing.{refused-untouched}
@@ -78,17 +76,6 @@ entry-ids true false q = refl
 entry-ids false true q = refl
 entry-ids false false q = refl
 
-row-size : (r : Row) → rowW long r ≡ 0 → rowW lengthOf r ≤ rowW each r * 65536
-row-size r =
-    caseB (isHeld r)
-    (λ e. rw e (caseB (ltb 65536 (r .metadata .«requested_length»)) (λ y. rw y λ z. absurd (omega arith))
-    (λ y. λ z. let h = ltb-false 65536 (r .metadata .«requested_length») y in omega arith)))
-    (λ e. rw e λ z. omega arith)
-
-sizes : (l : List Row) → sumBy (rowW long) l ≡ 0 → sumBy (rowW lengthOf) l ≤ sumBy (rowW each) l * 65536
-sizes [] z = omega arith
-sizes (r ∷ l) z = omega (arith, row-size r (omega arith), sizes l (omega arith))
-
 module _ (rows : List Row) (entries : List Entry) (k : Led rows entries) where
   weigh-as : (p : View → Bool) (w : View → ℕ) → sumBy (only (heldAs p) (λ r. w (rowView r))) rows ≡ sumBy (only (openAs p) (λ e. w (entryView e))) entries
   weigh-as p w =
@@ -103,27 +90,16 @@ module _ (rows : List Row) (entries : List Entry) (k : Led rows entries) where
   open-ids : (p : View → Bool) (x : RequestId) → count (λ e. isEntry x e && openAs p e) entries ≡ sumBy (entryW (at x (only p each))) entries
   open-ids p x = sum-eq _ (entryW (at x (only p each))) entries (λ e. entry-ids (isEntry x e) (isOpen e) (p (entryView e)))
 
-  pub agreed : (p : View → Bool) → Agrees p rows entries
-  agreed p = record {
+  pub agreed : count isHeld rows ≤ 128 → (p : View → Bool) → Agrees p rows entries
+  agreed few p = record {
     ids = λ x.
         any-count (λ r. isAt x r && heldAs p r) rows emptyRow
         ∙ ap (λ (n : ℕ). ltb 0 n) (held-ids p x ∙ k .same (at x (only p each)) ∙ sym (open-ids p x))
         ∙ sym (any-count (λ e. isEntry x e && openAs p e) entries noEntry);
     number = weigh-as p each;
     lengths = weigh-as p lengthOf;
-    bound = let a = sum-le (only (heldAs p) (λ r. 1)) (only isHeld (λ r. 1)) rows (λ r. and-less (isHeld r) (p (rowView r))) in omega (arith, k .few);
+    bound = let a = sum-le (only (heldAs p) (λ r. 1)) (only isHeld (λ r. 1)) rows (λ r. and-less (isHeld r) (p (rowView r))) in omega (arith, few);
   }
-
-  pub count-told : (fits : Bool) → fits ≡ true → ofTally (heldCountOf fits rows) ≡ answer.Number (count isOpen entries)
-  unfolding heldCountOf _if_else_
-  count-told fits e = let few = k .few in rw e (ap (λ (n : ℕ). answer.Number n) (count-plain 16 rows (omega arith) ∙ k .same each))
-
-  pub bytes-told : (fits : Bool) → fits ≡ true → ofTally (heldBytesOf fits rows) ≡ answer.Number (sumBy (only isOpen (λ e. e .requested)) entries)
-  unfolding heldBytesOf _if_else_
-  bytes-told fits e =
-      let few = k .few in
-      let most = sizes rows (k .short) in
-      rw e (ap (λ (n : ℕ). answer.Number n) (bytes-plain 64 rows (omega arith) ∙ k .same lengthOf))
 
   -- the releases of an id are those of its one entry
   entry-releases : (x : RequestId) → find (isEntry x) entries < length entries → releasesOf x entries ≡ entryOf x entries .releases
@@ -140,10 +116,10 @@ module _ (rows : List Row) (entries : List Entry) (k : Led rows entries) where
       (λ e. let h = ltb-false 0 (count (isEntry x) entries) e in omega (arith, sum-none (isEntry x) (λ y. y .releases) entries (omega arith)))
 
   -- the row of an id that is not held has an entry with one release
-  pub unheld-once : (x : RequestId) (i : ℕ) → i < length rows → isAt x (getD rows i emptyRow) ≡ true → isHeld (getD rows i emptyRow) ≡ false → releasesOf x entries ≡ 1
+  pub unheld-once : (x : RequestId) (i : ℕ) → i < length rows → isAt x (rowIn rows i) ≡ true → isHeld (rowIn rows i) ≡ false → releasesOf x entries ≡ 1
   unheld-once x i lt hit free =
       let h = known-in rows entries k x i lt hit in
-      let z : entryW each (entryOf x entries) ≡ 0 = entry-is rows entries k x i lt hit each ∙ row-none each (getD rows i emptyRow) free in
+      let z : entryW each (entryOf x entries) ≡ 0 = entry-is rows entries k x i lt hit each ∙ row-none each (rowIn rows i) free in
       omega (arith, entry-releases x h, at-most (find (isEntry x) entries) h, go (entryOf x entries .releases) z)
     where
       go : (n : ℕ) → cond {A = ℕ} (isNone n) 1 0 ≡ 0 → 1 ≤ n
@@ -154,19 +130,19 @@ module _ (rows : List Row) (entries : List Entry) (k : Led rows entries) where
 abbrev pub Holds : World → Journal → List ℕ → Type 0
 Holds w j seen = Inv (w .session) (w .store .rows) j seen
 
-event-kept : (h : Handed) (c : Call) (w : World) (j : Journal) (seen : List ℕ) → Holds w j seen → Handing h c → isNew (numberOf c) seen ≡ true
+event-kept : (h : Handed) (c : Call) (w : World) → Sound w → (j : Journal) (seen : List ℕ) → Holds w j seen → Handing h c → isNew (numberOf c) seen ≡ true
     → Holds (leftBy h c w) (journalStep c (answerTo w (record { call = c; handed = h })) j) (noted (numberOf c) seen)
-event-kept h c w j seen k f n =
+event-kept h c w sound j seen k f n =
     by-handed h c w (λ a v. Holds v (journalStep c a j) (noted (numberOf c) seen)) f
-    (λ first bus area. step-kept c (world (w .session) bus (w .store) area) j seen k first n)
+    (λ first bus area. step-kept c (world (w .session) bus (w .store) area) (same w sound bus area .sound) j seen k first n)
     (subst (λ (x : Journal). Holds w x (noted (numberOf c) seen)) (sym (refused-3 c j)) (seen-more (w .session) (w .store .rows) j seen k (numberOf c)))
 
-pub run-kept : (es : List Event) (w : World) (j : Journal) (seen : List ℕ) → Holds w j seen → Follows es → Fresh seen es
+pub run-kept : (es : List Event) (w : World) (j : Journal) (seen : List ℕ) → Sound w → Holds w j seen → Follows es → Fresh seen es
     → (seen′ : List ℕ) × Holds (endOf w es) (journalOf (historyOf w es) j) seen′
-run-kept [] w j seen k f n = (seen, k)
-run-kept (e ∷ es) w j seen k f n =
+run-kept [] w j seen sound k f n = (seen, k)
+run-kept (e ∷ es) w j seen sound k f n =
     run-kept es (leftBy (e .handed) (e .call) w) (journalStep (e .call) (answerTo w e) j) (noted (numberOf (e .call)) seen)
-    (event-kept (e .handed) (e .call) w j seen k (f .0) (n .0)) (f .1) (n .1)
+    (left-leads (e .handed) (e .call) w sound (f .0) .sound) (event-kept (e .handed) (e .call) w sound j seen k (f .0) (n .0)) (f .1) (n .1)
 
 -- an opening that passed
 pub opened-holds : (o : Opening) (w : World) → stepOf (Open o) w .result .answer ≡ answer.Pass → Holds (next (stepOf (Open o) w)) blank (o .session ∷ [])
@@ -183,45 +159,29 @@ opened-holds o w =
         known = λ x. omega (arith, none-at x (length (w .store .rows)));
         once = λ x. omega arith;
         single = refl;
-        few = omega (arith, none-held each (length (w .store .rows)));
-        short = none-held long (length (w .store .rows));
       };
       fresh = λ n h. refl;
       past = λ x h. refl;
       here = let h = eq-eqb (o .session) (o .session) refl in rw h;
-      shut = λ e. none-held each (length (w .store .rows));
       agree = refl;
-      live = tt;
     }
 
 -- ---- what a reclaim that passed tells
 reclaim-told : (w : World) (x : RequestId) (r : RequestReport) (entries : List Entry) → Led (w .store .rows) entries
-    → stepOf (Reclaim x) w .result .answer ≡ answer.Report r → releasesOf x entries ≡ 1
-unfolding stepOf changeOf reportedBy applyOf applyAt applyBy changeRow reclaimed
+    → stepOf (Change x Reclaim) w .result .answer ≡ answer.Report r → releasesOf x entries ≡ 1
+unfolding stepOf reportedBy applyBy changeRow reclaimed
 reclaim-told w x r entries k =
-    if-by Told _ _ _ (λ y e. refuses e)
-    (λ y. if-by Told _ _ _ (λ z e. refuses e) (λ z. go (foundIn (isAt x) (w .store .rows)) refl))
+    change-all (w .session) x change.Reclaim (w .store) Told (λ f e. refuses e)
+    (λ idle i lt hit.
+    if-by (λ (t : Step). Told (reportedTo (reportedBy (applyBy t i (w .store) .answer) (w .session)) (applyBy t i (w .store) .store))) _ _ _ (λ y e. refuses e)
+    (λ y e. unheld-once (w .store .rows) entries k x i lt hit (unheld-row (rowIn (w .store .rows) i) y)))
+    (rowsFitIn w)
   where
     Told : ReportedTo → Type 0
     Told o = ofReport (o .result .answer) ≡ answer.Report r → releasesOf x entries ≡ 1
 
     refuses : {f : Refusal} → answer.Refused f ≡ answer.Report r → releasesOf x entries ≡ 1
     refuses e = let z : _≡_ {A = ℕ} 0 1 = cc in absurd (omega arith)
-
-    go : (f : Found) → foundIn (isAt x) (w .store .rows) ≡ f
-        → ofReport (reportedBy (applyAt f change.Reclaim (w .store) .answer) (w .session) .answer) ≡ answer.Report r → releasesOf x entries ≡ 1
-    go found.Nothing e = λ y. refuses y
-    go (found.At i) e =
-        let p = found-row x (w .store .rows) (found.At i) i (sym e) refl in
-        if-by (λ (t : Step). ofReport (reportedBy (applyBy t i (w .store) .answer) (w .session) .answer) ≡ answer.Report r → releasesOf x entries ≡ 1)
-        _ (deviceMayAccess (getD (w .store .rows) i emptyRow .state)) _ (λ y h. refuses h)
-        (λ y h. unheld-once (w .store .rows) entries k x i (p .0) (p .1) (unheld-row (getD (w .store .rows) i emptyRow) y))
-
--- ---- a recovery's start, of either kind
-pub start-step : (q : RecoveryKind) (id : RequestId) (v : World) → stepOf (startOf q id) v ≡ begins (beginOf (v .session) (rowsFitIn v) id q (v .store .rows)) v
-unfolding stepOf
-start-step kind.Abort id v = refl
-start-step (kind.Reset preserve) id v = refl
 
 -- ---- the theorem
 module _ (o : Opening) (w : World) (es : List Event) (pass : stepOf (Open o) w .result .answer ≡ answer.Pass) (follows : Follows es)
@@ -239,7 +199,7 @@ module _ (o : Opening) (w : World) (es : List Event) (pass : stepOf (Open o) w .
 
     holds : (s : List ℕ) × Holds (endOf start before) (journalOf (historyOf start before) blank) s
     holds =
-        run-kept before start blank seen (opened-holds o w pass) (follows-front before (e ∷ after) (subst Follows is follows))
+        run-kept before start blank seen (sound-open o w pass) (opened-holds o w pass) (follows-front before (e ∷ after) (subst Follows is follows))
         (fresh-front seen before (e ∷ after) (subst (Fresh seen) is fresh))
 
   reclaim-at : (before after : List Event) (h : Handed) (x : RequestId) (r : RequestReport) → es ≡ before ++ (reclaims x h ∷ after)
@@ -247,32 +207,30 @@ module _ (o : Opening) (w : World) (es : List Event) (pass : stepOf (Open o) w .
   reclaim-at before after h x r is =
       let at = endOf start before in
       let k = holds before after (reclaims x h) is .1 .led in
-      by-handed h (Reclaim x) at (λ a v. a ≡ answer.Report r → releasesOf x (entriesAfter start before) ≡ 1) (handing before after (reclaims x h) is)
+      by-handed h (Change x Reclaim) at (λ a v. a ≡ answer.Report r → releasesOf x (entriesAfter start before) ≡ 1) (handing before after (reclaims x h) is)
       (λ first bus area. reclaim-told (world (at .session) bus (at .store) area) x r _ k)
       (λ e. let z : _≡_ {A = ℕ} 0 1 = cc in absurd (omega arith))
 
   started-at : (before after : List Event) (h : Handed) (q : RecoveryKind) (id : RequestId) → es ≡ before ++ (starts q id h ∷ after) → (x : Recovery)
       → answerTo (endOf start before) (starts q id h) ≡ answer.Recovering x
       → flight.Recovery (x .target) (x .device) (x .endpoint) (x .kind) ≡ recoveryWaits id q (journalOf (historyOf start before) blank) .waiting
+  unfolding stepOf begunOf
   started-at before after h q id is x =
       let mid = endOf start before in
       let k = holds before after (starts q id h) is in
-      by-handed h (startOf q id) mid
+      by-handed h (Begin (Recover id q)) mid
       (λ a v. a ≡ answer.Recovering x → flight.Recovery (x .target) (x .device) (x .endpoint) (x .kind) ≡ recoveryWaits id q (journalOf (historyOf start before) blank) .waiting)
       (handing before after (starts q id h) is)
-      (λ first bus area a.
-      let v = world (mid .session) bus (mid .store) area in
-      begin-names (mid .session) (journalOf (historyOf start before) blank) (k .0) (mid .store) (k .1) x (rowsFitIn v) id q
-      (sym (ap (λ (z : After). z .result .answer) (start-step q id v)) ∙ a))
+      (λ first bus area a. begin-names (mid .session) (journalOf (historyOf start before) blank) (k .0) (mid .store) (k .1) x _ id q a)
       (λ a. let z : _≡_ {A = ℕ} 0 1 = cc in absurd (omega arith))
 
   module _ (before after : List Event) (h : Handed) (reply : RecoveryReply) (tokens words aborted bytes : List ℕ)
-      (is : es ≡ before ++ (recovers reply tokens words aborted bytes h ∷ after)) where
+      (is : es ≡ before ++ (returns reply tokens words aborted bytes h ∷ after)) where
     abbrev mid : World
     mid = endOf start before
 
     abbrev ending : Event
-    ending = recovers reply tokens words aborted bytes h
+    ending = returns reply tokens words aborted bytes h
 
     by-reply : (P : Answer → World → Type 0)
         → ((bus : Bus) (area : List ℕ) → P (stepOf (ending .call) (world (mid .session) bus (mid .store) area) .result .answer) (next (stepOf (ending .call) (world (mid .session) bus (mid .store) area))))
@@ -280,36 +238,36 @@ module _ (o : Opening) (w : World) (es : List Event) (pass : stepOf (Open o) w .
     by-reply P ours = by-handed h (ending .call) mid P (handing before after ending is) (λ first. ours)
 
     recovered-at : (x : AbortReport) → answerTo mid ending ≡ answer.Recovered x → Settles (mid .store .rows) tokens words aborted (rowsBy mid ending) x
-    unfolding stepOf
+    unfolding stepOf repliedOf
     recovered-at x =
         by-reply (λ a v. a ≡ answer.Recovered x → Settles (mid .store .rows) tokens words aborted (v .store .rows) x)
-        (λ bus area. recovered-told (mid .session) (mid .store) (holds before after ending is .1 .led .few) tokens words aborted bytes area x _ reply)
+        (λ bus area. recovered-told (mid .session) (mid .store) (sound-run o w before pass (follows-front before (ending ∷ after) (subst Follows is follows)) .held) tokens words aborted bytes area x _ reply)
         (no-report (refusalOf 3) x _)
 
     reported-at : (x : AbortReport) → answerTo mid ending ≡ answer.Recovered x
         → (q : RecoveryKind) × (journalOf (historyOf start before) blank .waiting ≡ flight.Recovery (x .target) (x .device) (x .endpoint) q)
-    unfolding stepOf
+    unfolding stepOf repliedOf
     reported-at x e =
         let q = by-reply (λ a v. a ≡ answer.Recovered x → (q : RecoveryKind) × (mid .session .«in_flight» ≡ flight.Recovery (x .target) (x .device) (x .endpoint) q))
         (λ bus area. waited-told (mid .session) (mid .store) tokens words aborted bytes area x _ reply) (no-report (refusalOf 3) x _) e in
         (q .0, holds before after ending is .1 .agree ∙ q .1)
 
     spared-at : Spared (journalOf (historyOf start before) blank .waiting) (mid .store .rows) (rowsBy mid ending)
-    unfolding stepOf
+    unfolding stepOf repliedOf
     spared-at =
         subst (λ (f : InFlight). Spared f (mid .store .rows) (rowsBy mid ending)) (sym (holds before after ending is .1 .agree))
         (by-reply (λ a v. Spared (mid .session .«in_flight») (mid .store .rows) (v .store .rows))
         (λ bus area. reply-spares (mid .session) (mid .store) tokens words aborted bytes area _ reply) (all-spared (mid .session .«in_flight») (mid .store .rows)))
 
   pub whole-claim : Whole w → Claim start es
-  unfolding stepOf
   whole-claim whole =
-      let fits = fitted-run o w es pass follows whole .fits in
-      let k = run-kept es start blank seen (opened-holds o w pass) follows fresh .1 .led in
+      let sound = sound-run o w es pass follows in
+      let fitted = fitted-run o w es pass follows whole in
+      let k = run-kept es start blank seen (sound-open o w pass) (opened-holds o w pass) follows fresh .1 .led in
       record {
-        agrees = agreed _ _ k;
-        count-is = count-told _ _ k _ fits;
-        bytes-is = bytes-told _ _ k _ fits;
+        agrees = agreed _ _ k (sound .held);
+        count-is = count-answer (endOf start es) sound fitted ∙ ap (λ (n : ℕ). answer.Number n) (k .same each);
+        bytes-is = bytes-answer (endOf start es) sound fitted ∙ ap (λ (n : ℕ). answer.Number n) (k .same lengthOf);
         one-entry = k .once;
         one-release = release-once _ _ k;
         reclaimed = reclaim-at;

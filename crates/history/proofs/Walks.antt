@@ -1,17 +1,16 @@
 -- A reply's entries, applied to rows and to entries of the journal alike: by induction over them. Assumes nothing.
-use Prim.Native.Nat.{ℕ, _+_, _*_, _≤_, _<_}
+use Prim.Native.Nat.{ℕ, _+_, _*_, _<_}
 use mathlib.Core.Path.{_≡_, refl, sym, ap, _∙_, subst}
 use mathlib.Core.Bool.{Bool, true, false, cond, not, _&&_, _||_, true≢false, false≢true}
 use mathlib.Core.List.{List, [], _∷_, _++_}
 use native.Mathlib.Omega.{arith}
+use borrow.Author.Tests.{eq-eqb}
 use lib.Dec.{eqb}
 use lib.ListN.{length, set, take, drop, length-set}
 use lib.Seq.{getD-set-other}
-use borrow.Author.Tests.{eq-eqb}
 use Rattle.chain.specs.Chain.{_if_else_}
 use Rattle.chain.specs.Lists.{count}
 use Rattle.chain.proofs.Chain.{both}
-use Rattle.chain.proofs.Lists.{sum-set}
 use Rattle.models.specs.Requests.{deviceMayAccess, isUncertainFailure}
 use Rattle.models.specs.declared.BackendCompletion.{BackendCompletion}
 use Rattle.models.specs.declared.RequestId.{RequestId}
@@ -29,14 +28,17 @@ use Rattle.checks.specs.declared.completion.CompletionTest.{CompletionTest}
 use Rattle.checks.specs.declared.completion.CompletionTest.the-variants as test
 use Rattle.scope.specs.Scope.{isIn}
 use Rattle.scope.specs.Returned.{Returned}
-use Rattle.recovery.specs.Entries.{WalkTo, rowCompletedBy, testedBy, completeOne, onwardBy, completeAll, abortedBy, abortOne, abortAll}
-use Rattle.recovery.specs.Reply.{abortsAfter, applyAll}
 use Rattle.scope.proofs.Scoping.{in-cons}
-use Rattle.history.specs.Journal.{Entry, isEntry, entryOf, atEntry, release, ReleasedTo, releasedTo, completesBy, goesOn, completesAll, abortsAll, abortedAfter, releasesAll, View}
+use Rattle.recovery.specs.Entries.{WalkTo, rowCompletedBy, testedBy, completeOne, abortedBy, abortOne}
+use Rattle.recovery.specs.Reply.{applyAll}
+use Rattle.runs.proofs.Held.{or-false}
+use Rattle.runs.proofs.Ids.{same-self}
+use Rattle.runs.proofs.Entries.{Onward, entries-all}
+use Rattle.runs.proofs.Tokens.{tokensIn, Each, Distinct}
+use Rattle.history.specs.Journal.{Entry, isEntry, entryOf, atEntry, release, ReleasedTo, releasedTo, completesBy, goesOn, completesAll, abortedAfter, releasesAll, View}
 use Rattle.history.specs.Claim.{rowView}
-use Rattle.history.proofs.Led.{rowW, each, Led, Changed, led-at, ids-kept, entry-is}
-use Rattle.history.proofs.Changes.{same-self, or-false, settle-change}
-use Rattle.history.proofs.Tokens.{tokensIn, Each, Distinct, distinct-last}
+use Rattle.history.proofs.Led.{Led, Changed, led-at, ids-kept, entry-is}
+use Rattle.history.proofs.Changes.{settle-change}
 
 -- a refusal of an entry: not 2, 3, 49, 45 or 46, and not the ledger's 43
 abbrev pub isLate : ℕ → Bool
@@ -50,11 +52,10 @@ LateBy verdict.Pass = Unit {0}
 pub record Kept (rows : List Row) (entries : List Entry) (rows′ : List Row) (entries′ : List Entry) : Type 0 where
   pub led : Led rows′ entries′
   pub ids : (x : RequestId) → count (isEntry x) entries′ ≡ count (isEntry x) entries
-  pub fewer : count isHeld rows′ ≤ count isHeld rows
 
 kept-on : (rows : List Row) (entries : List Entry) (rows′ : List Row) (entries′ : List Entry) (rows″ : List Row) (entries″ : List Entry)
     → Kept rows entries rows′ entries′ → Kept rows′ entries′ rows″ entries″ → Kept rows entries rows″ entries″
-kept-on rows entries rows′ entries′ rows″ entries″ a b = record { led = b .led; ids = λ x. b .ids x ∙ a .ids x; fewer = omega (arith, a .fewer, b .fewer) }
+kept-on rows entries rows′ entries′ rows″ entries″ a b = record { led = b .led; ids = λ x. b .ids x ∙ a .ids x }
 
 module _ (place : ℕ → ℕ) (view : ℕ → View) where
   -- the row that a token means is held, and is what the journal's entry says
@@ -106,7 +107,6 @@ module _ (place : ℕ → ℕ) (view : ℕ → View) where
     release-kept s h = record {
       led = led-at rows entries k (view t .id) (place t) (a .below) hit (withState (rowIn rows (place t)) s) release (changed s h);
       ids = ids-kept rows entries k (view t .id) (place t) (a .below) hit (withState (rowIn rows (place t)) s) release (changed s h);
-      fewer = omega (arith, sum-set (rowW each) rows (place t) (withState (rowIn rows (place t)) s) emptyRow (a .below), changed s h .few);
     }
 
   -- ---- one entry of the reply: refused on both sides, or a row changed and its entry released
@@ -155,81 +155,70 @@ module _ (place : ℕ → ℕ) (view : ℕ → View) where
         (tested-both c (testCompletion c (length bytes) (row .metadata .«requested_length»)))
 
   -- ---- the completions, then the aborts
-  abort-kept : (ts : List ℕ) (store : Store) (entries : List Entry) → Led (store .rows) entries → Distinct ts → AllReady (store .rows) ts
-      → Kept (store .rows) entries (abortAll place ts store .store .rows) (abortsAll view ts entries) × (abortAll place ts store .verdict ≡ verdict.Pass)
-  unfolding abortOne abortedBy changeRow abortConfirmed moved putIn _if_else_ isHeld
-  abort-kept [] store entries k d a = (record { led = k; ids = λ x. refl; fewer = omega arith }, refl)
-  abort-kept (t ∷ ts) store entries k d a =
-      let row : Row = rowIn (store .rows) (place t) in
-      let h : deviceMayAccess (row .state) ≡ true = both (row .used) (deviceMayAccess (row .state)) (a .0 .held) .1 in
-      let one = release-kept (store .rows) entries k t (a .0) Aborted refl in
-      let next : Store = putIn store (place t) (withState row Aborted) in
-      let rest = abort-kept ts next (atEntry (view t .id) release entries) (one .led) (d .1) (ready-after (store .rows) t (withState row Aborted) (a .0) ts (d .0) (a .1)) in
-      rw h (kept-on (store .rows) entries (next .rows) (atEntry (view t .id) release entries) _ _ one (rest .0), rest .1)
+  module _ (room : ℕ) (rows : List Row) (entries whole : List Entry) where
+    -- rows and entries are in step where the walk has come, and what is left of the journal's own leads to the whole
+    record Along (es : List Returned) (ts bytes : List ℕ) (now : List Row) : Type 0 where
+      pub so-far : List Entry
+      pub kept : Kept rows entries now so-far
+      pub distinct : Distinct (tokensIn es ++ ts)
+      pub ready : AllReady now (tokensIn es ++ ts)
+      pub leads : abortedAfter (completesAll view es bytes so-far) view ts ≡ whole
 
-  kept-same : (rows : List Row) (entries : List Entry) → Led rows entries → Kept rows entries rows entries
-  kept-same rows entries k = record { led = k; ids = λ x. refl; fewer = omega arith }
+    abbrev To : List Returned → List ℕ → List ℕ → Store → List ℕ → Type 0
+    To es ts bytes store area = Along es ts bytes (store .rows)
 
-  -- both refused, or both through, with the tokens that are left still ready
-  abbrev After : List ℕ → List Row → List Entry → Verdict → List Row → ReleasedTo → Type 0
-  After us rows entries (verdict.Refused r) rows′ q = Kept rows entries rows′ (q .entries) × (q .refused ≡ true) × (isLate (r .number) ≡ true)
-  After us rows entries verdict.Pass rows′ q = Kept rows entries rows′ (q .entries) × (q .refused ≡ false) × AllReady rows′ us
+    abbrev End : Verdict → Store → List ℕ → Type 0
+    End v store area = Kept rows entries (store .rows) whole × LateBy v
 
-  after-on : (us : List ℕ) (rows : List Row) (entries : List Entry) (rows′ : List Row) (entries′ : List Entry) → Kept rows entries rows′ entries′
-      → (v : Verdict) (rows″ : List Row) (q : ReleasedTo) → After us rows′ entries′ v rows″ q → After us rows entries v rows″ q
-  after-on us rows entries rows′ entries′ k (verdict.Refused r) rows″ q a = (kept-on rows entries rows′ entries′ rows″ (q .entries) k (a .0), a .1, a .2)
-  after-on us rows entries rows′ entries′ k verdict.Pass rows″ q a = (kept-on rows entries rows′ entries′ rows″ (q .entries) k (a .0), a .1, a .2)
+    ends : (bytes : List ℕ) (store : Store) (area : List ℕ) → To [] [] bytes store area → End verdict.Pass store area
+    ends bytes store area k = (subst (λ (l : List Entry). Kept rows entries (store .rows) l) (k .leads) (k .kept), tt)
 
-  abbrev AfterTo : List ℕ → Store → List Entry → WalkTo → ReleasedTo → Type 0
-  AfterTo us store entries w q = After us (store .rows) entries (w .verdict) (w .store .rows) q
+    completes : (e : Returned) (es : List Returned) (ts bytes : List ℕ) (store : Store) (area : List ℕ) (k : Along (e ∷ es) ts bytes (store .rows)) (v : Verdict) (w : WalkTo) (q : ReleasedTo)
+        → Together (store .rows) (k .so-far) (e .token) v (w .store .rows) q
+        → abortedAfter (goesOn q (λ (l : List Entry). completesAll view es (drop (e .brought .given) bytes) l)) view ts ≡ whole
+        → Onward place room To End v es ts (drop (e .brought .given) bytes) (w .store) (w .area)
+    completes e es ts bytes store area k (verdict.Refused r) w q (er, eq, late) leads =
+        let is : k .so-far ≡ whole = subst (λ (z : ReleasedTo). abortedAfter (goesOn z (λ (l : List Entry). completesAll view es (drop (e .brought .given) bytes) l)) view ts ≡ whole) eq leads in
+        (subst (λ (l : List Row). Kept rows entries l whole) (sym er) (subst (λ (l : List Entry). Kept rows entries (store .rows) l) is (k .kept)), late)
+    completes e es ts bytes store area k verdict.Pass w q (s, h, er, eq) leads =
+        let next : List Entry = atEntry (view (e .token) .id) release (k .so-far) in
+        record {
+          so-far = next;
+          kept = subst (λ (l : List Row). Kept rows entries l next) (sym er)
+              (kept-on rows entries (store .rows) (k .so-far) _ next (k .kept) (release-kept (store .rows) (k .so-far) (k .kept .led) (e .token) (k .ready .0) s h));
+          distinct = k .distinct .1;
+          ready = subst (λ (l : List Row). AllReady l (tokensIn es ++ ts)) (sym er)
+              (ready-after (store .rows) (e .token) _ (k .ready .0) (tokensIn es ++ ts) (k .distinct .0) (k .ready .1));
+          leads = subst (λ (z : ReleasedTo). abortedAfter (goesOn z (λ (l : List Entry). completesAll view es (drop (e .brought .given) bytes) l)) view ts ≡ whole) eq leads;
+        }
 
-  module _ (room : ℕ) (us : List ℕ) where
-    complete-kept : (es : List Returned) (bytes : List ℕ) (store : Store) (area : List ℕ) (entries : List Entry) → Led (store .rows) entries
-        → Distinct (tokensIn es ++ us) → AllReady (store .rows) (tokensIn es ++ us)
-        → AfterTo us store entries (completeAll place room es bytes store area) (completesAll view es bytes entries)
-    complete-kept [] bytes store area entries k d a = (kept-same (store .rows) entries k, refl, a)
-    complete-kept (e ∷ es) bytes store area entries k d a =
-        go (completeOne (place (e .token)) (place (e .token) * room) room (e .brought .completion) (take (e .brought .given) bytes) store area .verdict)
-        (completeOne (place (e .token)) (place (e .token) * room) room (e .brought .completion) (take (e .brought .given) bytes) store area)
-        (completesBy (testCompletion (e .brought .completion) (length (take (e .brought .given) bytes)) (view (e .token) .requested)) (view (e .token)) entries)
-        (complete-both store entries (e .token) (a .0) (place (e .token) * room) room (take (e .brought .given) bytes) area (e .brought .completion)) refl
-        (λ s x l kl dl al. complete-kept es (drop (e .brought .given) bytes) s x l kl dl al)
-      where
-        go : (v : Verdict) (w : WalkTo) (q : ReleasedTo) → Together (store .rows) entries (e .token) v (w .store .rows) q → w .verdict ≡ v
-            → ((s : Store) (x : List ℕ) (l : List Entry) → Led (s .rows) l → Distinct (tokensIn es ++ us) → AllReady (s .rows) (tokensIn es ++ us)
-            → AfterTo us s l (completeAll place room es (drop (e .brought .given) bytes) s x) (completesAll view es (drop (e .brought .given) bytes) l))
-            → AfterTo us store entries (onwardBy v w (λ (s : Store) (x : List ℕ). completeAll place room es (drop (e .brought .given) bytes) s x))
-            (goesOn q (λ (x : List Entry). completesAll view es (drop (e .brought .given) bytes) x))
-        go (verdict.Refused r) w q (er, eq, late) ev rest = rw (ev, eq, er) (kept-same (store .rows) entries k, refl, late)
-        go verdict.Pass w q (s, h, er, eq) ev rest =
-            let one = release-kept (store .rows) entries k (e .token) (a .0) s h in
-            let next : List Entry = atEntry (view (e .token) .id) release entries in
-            let kept : Kept (store .rows) entries (w .store .rows) next = subst (λ (l : List Row). Kept (store .rows) entries l next) (sym er) one in
-            let ready : AllReady (w .store .rows) (tokensIn es ++ us) =
-            subst (λ (l : List Row). AllReady l (tokensIn es ++ us)) (sym er)
-            (ready-after (store .rows) (e .token) (withState (rowIn (store .rows) (place (e .token))) s) (a .0) (tokensIn es ++ us) (d .0) (a .1)) in
-            let ih = rest (w .store) (w .area) next (kept .led) (d .1) ready in
-            rw eq (after-on us (store .rows) entries (w .store .rows) next kept
-            (completeAll place room es (drop (e .brought .given) bytes) (w .store) (w .area) .verdict)
-            (completeAll place room es (drop (e .brought .given) bytes) (w .store) (w .area) .store .rows)
-            (completesAll view es (drop (e .brought .given) bytes) next) ih)
+    aborts : (t : ℕ) (ts bytes : List ℕ) (store : Store) (area : List ℕ) → To [] (t ∷ ts) bytes store area
+        → Onward place room To End (abortOne (place t) store .verdict) [] ts bytes (abortOne (place t) store .store) area
+    unfolding abortOne abortedBy changeRow abortConfirmed moved putIn _if_else_ isHeld
+    aborts t ts bytes store area k =
+        let row : Row = rowIn (store .rows) (place t) in
+        let h : deviceMayAccess (row .state) ≡ true = both (row .used) (deviceMayAccess (row .state)) (k .ready .0 .held) .1 in
+        rw h (record {
+          so-far = atEntry (view t .id) release (k .so-far);
+          kept = kept-on rows entries (store .rows) (k .so-far) _ _ (k .kept) (release-kept (store .rows) (k .so-far) (k .kept .led) t (k .ready .0) Aborted refl);
+          distinct = k .distinct .1;
+          ready = ready-after (store .rows) t (withState row Aborted) (k .ready .0) ts (k .distinct .0) (k .ready .1);
+          leads = k .leads;
+        })
 
   -- the lemma: every list of entries keeps rows and journal in step
   pub apply-kept : (room : ℕ) (es : List Returned) (aborted bytes : List ℕ) (store : Store) (area : List ℕ) (entries : List Entry) → Led (store .rows) entries
       → Distinct (tokensIn es ++ aborted) → AllReady (store .rows) (tokensIn es ++ aborted)
       → Kept (store .rows) entries (applyAll place room es aborted bytes store area .store .rows) (releasesAll view es aborted bytes entries)
       × LateBy (applyAll place room es aborted bytes store area .verdict)
-  unfolding applyAll abortsAfter
   apply-kept room es aborted bytes store area entries k d a =
-      go (completeAll place room es bytes store area .verdict) (completeAll place room es bytes store area) (completesAll view es bytes entries)
-      (complete-kept room aborted es bytes store area entries k d a) refl
-    where
-      go : (v : Verdict) (w : WalkTo) (q : ReleasedTo) → After aborted (store .rows) entries v (w .store .rows) q → w .verdict ≡ v
-          → Kept (store .rows) entries (abortsAfter v w place aborted .store .rows)
-          (abortedAfter q view aborted)
-          × LateBy (abortsAfter v w place aborted .verdict)
-      go (verdict.Refused r) w q (kept, e, late) ev = rw (e, ev) (kept, late)
-      go verdict.Pass w q (kept, e, ready) ev =
-          let rest = abort-kept aborted (w .store) (q .entries) (kept .led) (distinct-last (tokensIn es) aborted d) ready in
-          let pass = rest .1 in
-          rw (e, pass) (kept-on (store .rows) entries (w .store .rows) (q .entries) (abortAll place aborted (w .store) .store .rows) (abortsAll view aborted (q .entries)) kept (rest .0), tt)
+      let whole : List Entry = releasesAll view es aborted bytes entries in
+      entries-all place room (To room (store .rows) entries whole) (End room (store .rows) entries whole) (ends room (store .rows) entries whole)
+      (λ e es ts bytes s x h.
+      let given : List ℕ = take (e .brought .given) bytes in
+      let one : WalkTo = completeOne (place (e .token)) (place (e .token) * room) room (e .brought .completion) given s x in
+      completes room (store .rows) entries whole e es ts bytes s x h (one .verdict) one
+      (completesBy (testCompletion (e .brought .completion) (length given) (view (e .token) .requested)) (view (e .token)) (h .so-far))
+      (complete-both s (h .so-far) (e .token) (h .ready .0) (place (e .token) * room) room given x (e .brought .completion)) (h .leads))
+      (aborts room (store .rows) entries whole) es aborted bytes store area
+      (record { so-far = entries; kept = record { led = k; ids = λ x. refl }; distinct = d; ready = a; leads = refl })

@@ -22,22 +22,21 @@ use Rattle.rows.specs.declared.Row.{Row}
 use Rattle.rules.specs.Rules.{withState}
 use Rattle.ledger.specs.Search.{isAt}
 use Rattle.checks.specs.Completion.{hasError}
+use Rattle.session.specs.declared.InFlight.{InFlight}
+use Rattle.session.specs.declared.InFlight.the-variants as flight
+use Rattle.session.specs.declared.RecoveryKind.{RecoveryKind}
 use Rattle.reports.specs.declared.OptionId.{OptionId}
 use Rattle.reports.specs.declared.OptionId.the-variants as option
 use Rattle.scope.specs.Affected.{isAffected}
 use Rattle.scope.specs.Returned.{Returned, returnedOf}
 use Rattle.scope.specs.Scope.{isIn}
-use Rattle.session.specs.declared.InFlight.{InFlight}
-use Rattle.session.specs.declared.InFlight.the-variants as flight
-use Rattle.session.specs.declared.RecoveryKind.{RecoveryKind}
-use Rattle.session.specs.declared.RecoveryKind.the-variants as kind
 use Rattle.recovery.specs.declared.AbortReport.{AbortReport}
 use Rattle.recovery.specs.declared.Recovery.{Recovery}
 use Rattle.recovery.specs.declared.RecoveryReply.{RecoveryReply}
-use Rattle.calls.specs.Calls.{Call, AbortRequest, ResetEndpoint, ReplyRecovery, Reclaim, HeldCount, HeldBytes}
+use Rattle.calls.specs.Calls.{Call, Begin, Recover, Reply, ToRecovery, Change, Reclaim, Read, HeldCount, HeldBytes}
 use Rattle.calls.specs.Step.{World, stepOf}
 use Rattle.calls.specs.declared.Answer.the-variants as answer
-use Rattle.history.specs.Run.{Handed, own, Event, Answered, next, leftBy, endOf, historyOf, answerTo}
+use Rattle.runs.specs.Run.{Handed, own, Event, Answered, next, leftBy, endOf, historyOf, answerTo}
 use Rattle.history.specs.Journal.{Entry, View, entryView, blank, isOpen, isEntry, begunId, recoveryWaits, journalOf}
 
 -- what a row has in common with an entry
@@ -87,7 +86,7 @@ abbrev pub calls : Call → Event
 calls c = record { call = c; handed = own }
 
 abbrev pub reclaims : RequestId → Handed → Event
-reclaims x h = record { call = Reclaim x; handed = h }
+reclaims x h = record { call = Change x Reclaim; handed = h }
 
 -- an answer that hands the id x over
 abbrev pub isBegun : RequestId → OptionId → Bool
@@ -163,22 +162,18 @@ Spared (flight.Poll id) rows rows′ = rows′ ≡ rows
 Spared (flight.Recovery target device endpoint kind) rows rows′ = Unaffected device endpoint rows rows′
 
 -- a recovery's start
-abbrev pub startOf : RecoveryKind → RequestId → Call
-startOf kind.Abort id = AbortRequest id
-startOf (kind.Reset preserve) id = ResetEndpoint id preserve
-
 abbrev pub starts : RecoveryKind → RequestId → Handed → Event
-starts q id h = record { call = startOf q id; handed = h }
+starts q id h = record { call = Begin (Recover id q); handed = h }
 
 -- a recovery's reply
-abbrev pub recovers : RecoveryReply → List ℕ → List ℕ → List ℕ → List ℕ → Handed → Event
-recovers reply tokens words aborted bytes h = record { call = ReplyRecovery reply tokens words aborted bytes; handed = h }
+abbrev pub returns : RecoveryReply → List ℕ → List ℕ → List ℕ → List ℕ → Handed → Event
+returns reply tokens words aborted bytes h = record { call = Reply (ToRecovery reply tokens words aborted bytes); handed = h }
 
 pub record Claim (w : World) (es : List Event) : Type 0 where
   pub agrees : (p : View → Bool) → Agrees p (rowsAfter w es) (entriesAfter w es)
   -- the calls' own tallies stop at their widths' maxima, and never come to them
-  pub count-is : answerTo (endOf w es) (calls HeldCount) ≡ answer.Number (count isOpen (entriesAfter w es))
-  pub bytes-is : answerTo (endOf w es) (calls HeldBytes) ≡ answer.Number (sumBy (only isOpen (λ e. e .requested)) (entriesAfter w es))
+  pub count-is : answerTo (endOf w es) (calls (Read HeldCount)) ≡ answer.Number (count isOpen (entriesAfter w es))
+  pub bytes-is : answerTo (endOf w es) (calls (Read HeldBytes)) ≡ answer.Number (sumBy (only isOpen (λ e. e .requested)) (entriesAfter w es))
   pub one-entry : (x : RequestId) → count (isEntry x) (entriesAfter w es) ≤ 1
   pub one-release : (x : RequestId) → releasesOf x (entriesAfter w es) ≤ 1
   -- exactly one before it is reclaimed
@@ -192,18 +187,18 @@ pub record Claim (w : World) (es : List Event) : Type 0 where
       → flight.Recovery (x .target) (x .device) (x .endpoint) (x .kind) ≡ recoveryWaits id q (journalOf (historyOf w before) blank) .waiting
   -- each recovery that succeeded, ready and without an error, the affected tokens all different
   pub recovered : (before after : List Event) (h : Handed) (reply : RecoveryReply) (tokens words aborted bytes : List ℕ)
-      → es ≡ before ++ (recovers reply tokens words aborted bytes h ∷ after) → (x : AbortReport)
-      → answerTo (endOf w before) (recovers reply tokens words aborted bytes h) ≡ answer.Recovered x → x .«restart_ready» ≡ true → hasError (x .error) ≡ false
+      → es ≡ before ++ (returns reply tokens words aborted bytes h ∷ after) → (x : AbortReport)
+      → answerTo (endOf w before) (returns reply tokens words aborted bytes h) ≡ answer.Recovered x → x .«restart_ready» ≡ true → hasError (x .error) ≡ false
       → Different (x .device) (x .endpoint) (rowsAfter w before)
-      → Recovered (x .device) (x .endpoint) tokens words aborted (rowsAfter w before) (rowsBy (endOf w before) (recovers reply tokens words aborted bytes h))
+      → Recovered (x .device) (x .endpoint) tokens words aborted (rowsAfter w before) (rowsBy (endOf w before) (returns reply tokens words aborted bytes h))
   -- whatever a recovery's reply is answered, it changes no row but those that are affected by the operation that, by the history, waits
   pub spared : (before after : List Event) (h : Handed) (reply : RecoveryReply) (tokens words aborted bytes : List ℕ)
-      → es ≡ before ++ (recovers reply tokens words aborted bytes h ∷ after)
-      → Spared (journalOf (historyOf w before) blank .waiting) (rowsAfter w before) (rowsBy (endOf w before) (recovers reply tokens words aborted bytes h))
+      → es ≡ before ++ (returns reply tokens words aborted bytes h ∷ after)
+      → Spared (journalOf (historyOf w before) blank .waiting) (rowsAfter w before) (rowsBy (endOf w before) (returns reply tokens words aborted bytes h))
   -- the report of any recovery is of the operation that, by the history, waited
   pub reported : (before after : List Event) (h : Handed) (reply : RecoveryReply) (tokens words aborted bytes : List ℕ)
-      → es ≡ before ++ (recovers reply tokens words aborted bytes h ∷ after) → (x : AbortReport)
-      → answerTo (endOf w before) (recovers reply tokens words aborted bytes h) ≡ answer.Recovered x
+      → es ≡ before ++ (returns reply tokens words aborted bytes h ∷ after) → (x : AbortReport)
+      → answerTo (endOf w before) (returns reply tokens words aborted bytes h) ≡ answer.Recovered x
       → (q : RecoveryKind) × (journalOf (historyOf w before) blank .waiting ≡ flight.Recovery (x .target) (x .device) (x .endpoint) q)
   -- a refusal by 3 leaves whatever the call was handed as it was
   pub untouched : (c : Call) (v : World) → stepOf c v .result .answer ≡ answer.Refused (refusalOf 3) → next (stepOf c v) ≡ v

@@ -20,7 +20,6 @@ use Rattle.checks.specs.declared.completion.CompletionTest.the-variants as test
 use Rattle.session.specs.declared.InFlight.{InFlight}
 use Rattle.session.specs.declared.InFlight.the-variants as flight
 use Rattle.session.specs.declared.RecoveryKind.{RecoveryKind}
-use Rattle.session.specs.declared.RecoveryKind.the-variants as kind
 use Rattle.reports.specs.declared.OptionId.{OptionId}
 use Rattle.reports.specs.declared.OptionId.the-variants as option
 use Rattle.polls.specs.declared.PollReply.{PollReply}
@@ -28,10 +27,10 @@ use Rattle.polls.specs.declared.PollReply.the-variants as poll
 use Rattle.submissions.specs.declared.SubmitReply.{SubmitReply}
 use Rattle.submissions.specs.declared.SubmitReply.the-variants as submit
 use Rattle.scope.specs.Returned.{Returned, returnedOf}
-use Rattle.calls.specs.Calls.{Call, Open, SetDevice, SetPort, SetEndpoints, SetReconcile, Acquire, Initialize, Close, Submit, SubmitPlan, ReplySubmit, Poll, ReplyPoll, AbortRequest, ResetEndpoint, ReplyRecovery, Cancel, Timeout, Reclaim, Status, Reports, CountReports, CompletedBytes, HeldCount, HeldBytes}
+use Rattle.calls.specs.Calls.{Call, Open, Place, Move, Acquire, Initialize, Close, Begin, Submit, SubmitPlan, Poll, Recover, Reply, ToSubmit, ToPoll, ToRecovery, Change, Read}
 use Rattle.calls.specs.declared.Answer.{Answer}
 use Rattle.calls.specs.declared.Answer.the-variants as answer
-use Rattle.history.specs.Run.{Answered}
+use Rattle.runs.specs.Run.{Answered}
 
 -- a request that was submitted, kept for ever: document 01's line
 pub record Entry : Type 0 where
@@ -354,31 +353,20 @@ releasedAll j = record { entries = mapAt isOpen release (j .entries); waiting = 
 
 unfoldable pub journalStep : Call → Answer → Journal → Journal
 journalStep (Open o) a j = cond (isPass a) blank j
-journalStep (SetDevice d) a j = j
-journalStep (SetPort number row) a j = j
-journalStep (SetEndpoints slot list) a j = j
-journalStep (SetReconcile slot mark) a j = j
-journalStep (Acquire reply) a j = j
-journalStep (Initialize reply) a j = j
-journalStep (Close fresh reply) a j = cond (isPass a) (releasedAll j) j
-journalStep (Submit q bytes packed packets first second) a j = begunBy (begunId a) (q .device) (q .endpoint) (q .length) j
+journalStep (Place p) a j = j
+journalStep (Move (Acquire reply)) a j = j
+journalStep (Move (Initialize reply)) a j = j
+journalStep (Move (Close fresh reply)) a j = cond (isPass a) (releasedAll j) j
+journalStep (Begin (Submit q bytes packed packets first second)) a j = begunBy (begunId a) (q .device) (q .endpoint) (q .length) j
 -- a plan is for endpoint 0, its length that of its data stage
-journalStep (SubmitPlan q bytes first) a j = begunBy (begunId a) (q .device) 0 (stageOf (q .«data_stage») (q .setup .«request_type») .length) j
-journalStep (ReplySubmit reply) a j = cond (endsBy a) (endedWith (acceptedAs reply) j) j
-journalStep (Poll id) a j = cond (isAsked a) (pollWaits id j) j
-journalStep (ReplyPoll reply bytes) a j = cond (endsBy a) (polledBy reply (length bytes) j) j
-journalStep (AbortRequest id) a j = cond (isRecovering a) (recoveryWaits id kind.Abort j) j
-journalStep (ResetEndpoint id preserve) a j = cond (isRecovering a) (recoveryWaits id (kind.Reset preserve) j) j
-journalStep (ReplyRecovery reply tokens words aborted bytes) a j = recoveredJournal a (returnedOf tokens words) aborted bytes j
-journalStep (Cancel id) a j = j
-journalStep (Timeout id) a j = j
-journalStep (Reclaim id) a j = j
-journalStep (Status id) a j = j
-journalStep (Reports from) a j = j
-journalStep CountReports a j = j
-journalStep (CompletedBytes id) a j = j
-journalStep HeldCount a j = j
-journalStep HeldBytes a j = j
+journalStep (Begin (SubmitPlan q bytes first)) a j = begunBy (begunId a) (q .device) 0 (stageOf (q .«data_stage») (q .setup .«request_type») .length) j
+journalStep (Begin (Poll id)) a j = cond (isAsked a) (pollWaits id j) j
+journalStep (Begin (Recover id kind)) a j = cond (isRecovering a) (recoveryWaits id kind j) j
+journalStep (Reply (ToSubmit reply)) a j = cond (endsBy a) (endedWith (acceptedAs reply) j) j
+journalStep (Reply (ToPoll reply bytes)) a j = cond (endsBy a) (polledBy reply (length bytes) j) j
+journalStep (Reply (ToRecovery reply tokens words aborted bytes)) a j = recoveredJournal a (returnedOf tokens words) aborted bytes j
+journalStep (Change id c) a j = j
+journalStep (Read r) a j = j
 
 abbrev pub journalOf : List Answered → Journal → Journal
 journalOf [] j = j

@@ -16,7 +16,7 @@ fn main() {
     let mut text = [0u8; 2097153];
     let mut session = [0u64; 26];
     let mut bus = [0u64; 10750];
-    let mut rows = [0u64; 4320];
+    let mut rows = [0u64; 4160];
     let mut area = [0u8; 655360];
     run(&mut text, &mut session, &mut bus, &mut rows, &mut area);
 }

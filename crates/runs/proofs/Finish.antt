@@ -7,9 +7,6 @@ use mathlib.Core.Path.{_≡_, refl, subst}
 use borrow.Author.Tests.{not-false, ltb-false}
 use lib.Dec.{eqb}
 use lib.ListN.{length}
-use Rattle.chain.specs.Lists.{foundIn}
-use Rattle.chain.specs.declared.Found.{Found}
-use Rattle.chain.specs.declared.Found.the-variants as found
 use Rattle.chain.proofs.Chain.{if-by}
 use Rattle.words.specs.declared.OptionU32.{OptionU32}
 use Rattle.words.specs.declared.OptionU32.the-variants as u32
@@ -19,13 +16,10 @@ use Rattle.models.specs.declared.BackendCompletion.{BackendCompletion}
 use Rattle.models.specs.declared.OperationError.{OperationError}
 use Rattle.models.specs.declared.OptionError.{OptionError}
 use Rattle.models.specs.declared.OptionError.the-variants as error
-use Rattle.models.specs.declared.RequestId.{RequestId}
 use Rattle.rows.specs.declared.Row.{Row}
 use Rattle.rules.specs.Rules.{changeRow}
-use Rattle.ledger.specs.Search.{isAt}
 use Rattle.rules.specs.declared.Step.{Step}
 use Rattle.rules.specs.declared.Step.the-variants as step
-use Rattle.ledger.proofs.Placing.{found-row}
 use Rattle.checks.specs.Completion.{hasError, codeTested, testCode, testLength, testCompletion}
 use Rattle.checks.specs.declared.completion.CompletionTest.{CompletionTest}
 use Rattle.checks.specs.declared.completion.CompletionTest.the-variants as test
@@ -34,16 +28,17 @@ use Rattle.session.specs.declared.InFlight.{InFlight}
 use Rattle.session.specs.declared.InFlight.the-variants as flight
 use Rattle.session.specs.declared.Session.{Session}
 use Rattle.reports.specs.Answers.{effect}
-use Rattle.polls.specs.Finish.{FinishTo, failedAs, invalidAs, judgedTest, judgedBy, judged, settled, finishAt, finishBy, finishFound, finishIn, finishOf}
+use Rattle.polls.specs.Finish.{FinishTo, failedAs, invalidAs, judgedTest, judgedBy, judged, settled, finishAt, finishOf}
 use Rattle.polls.specs.declared.PollReply.{PollReply}
 use Rattle.polls.specs.declared.PollReply.the-variants as reply
 use Rattle.polls.specs.declared.finish.Judgement.{Judgement}
 use Rattle.calls.specs.Step.{World, world}
-use Rattle.history.specs.Sound.{rowAt, FlightReady, Sound}
-use Rattle.history.proofs.SoundMoves.{Moves, Idle, stays, marked-moves, effect-moves, moves-on, marked-idle, effect-idle, marked-apart}
-use Rattle.history.proofs.SoundRows.{Leads, kept, moved-idle, changed-certain, changed-uncertain}
-use Rattle.history.proofs.SoundSteps.{StepSound, StepCertain, complete-step, fail-step, quiet-step}
-use Rattle.history.proofs.SoundChange.{at-used}
+use Rattle.runs.specs.Sound.{worldRow, FlightReady, Sound}
+use Rattle.runs.proofs.Moves.{Moves, Idle, stays, marked-moves, effect-moves, moves-on, marked-idle, effect-idle, marked-apart}
+use Rattle.runs.proofs.Rows.{Leads, kept, moved-idle, changed-certain, changed-uncertain}
+use Rattle.runs.proofs.Rules.{StepSound, StepCertain, complete-step, fail-step, quiet-step}
+use Rattle.runs.proofs.Ids.{at-used}
+use Rattle.runs.proofs.Ways.{finish-all}
 
 -- a valid completion is at most as long as requested, and its code is 1 or 13
 abbrev pub TestSound : ℕ → CompletionTest → Type 0
@@ -117,7 +112,7 @@ abbrev pub FinishedSound : World → FinishTo → Type 0
 FinishedSound w o = Leads w (world (o .result .session) (w .bus) (o .store) (o .area))
 
 -- the row that was polled; the controller is Initialized
-module _ (w : World) (k : Sound w) (ready : isInitialized (w .session .state) ≡ true) (i : ℕ) (h : i < length (w .store .rows)) (u : rowAt w i .used ≡ true)
+module _ (w : World) (k : Sound w) (ready : isInitialized (w .session .state) ≡ true) (i : ℕ) (h : i < length (w .store .rows)) (u : worldRow w i .used ≡ true)
     (at room : ℕ) (bytes area : List ℕ) where
   abbrev idle : Session
   idle = withFlight (w .session) flight.Nothing
@@ -126,7 +121,7 @@ module _ (w : World) (k : Sound w) (ready : isInitialized (w .session .state) �
   idle-moves = stays (w .session)
 
   settled-sound : (m : Step) (j : Judgement) → Moves (w .session) (j .session) → Idle (j .session)
-      → StepCertain (rowAt w i) m ⊎ (StepSound (rowAt w i) m × (isInitialized (j .session .state) ≡ false))
+      → StepCertain (worldRow w i) m ⊎ (StepSound (worldRow w i) m × (isInitialized (j .session .state) ≡ false))
       → FinishedSound w (settled m j idle i at room bytes (w .store) area)
   unfolding settled
   settled-sound (step.Refused x) j m d c = moved-idle w k idle idle-moves (w .bus) area refl
@@ -139,28 +134,14 @@ module _ (w : World) (k : Sound w) (ready : isInitialized (w .session .state) �
   by-reply (reply.Error e) =
       moved-idle w k (effect e idle) (moves-on (w .session) idle (effect e idle) idle-moves (effect-moves e idle)) (w .bus) area (effect-idle e idle refl)
   by-reply (reply.Completion c) =
-      let j = judged idle (rowAt w i) c (length bytes) in
-      let d = judged-sound idle refl (rowAt w i) c (length bytes) in
-      settled-sound (changeRow (rowAt w i) (j .change)) j (moves-on (w .session) idle (j .session) idle-moves (d .moves)) (d .idle) (d .step)
+      let j = judged idle (worldRow w i) c (length bytes) in
+      let d = judged-sound idle refl (worldRow w i) c (length bytes) in
+      settled-sound (changeRow (worldRow w i) (j .change)) j (moves-on (w .session) idle (j .session) idle-moves (d .moves)) (d .idle) (d .step)
 
-module _ (w : World) (k : Sound w) (x : PollReply) (bytes : List ℕ) where
-  by-place : isInitialized (w .session .state) ≡ true → (id : RequestId) (g : Found) → g ≡ foundIn (isAt id) (w .store .rows)
-      → FinishedSound w (finishBy g (w .session) x bytes (w .store) (w .area))
-  unfolding finishBy
-  by-place r id found.Nothing e = kept w k
-  by-place r id (found.At i) e =
-      let p = found-row id (w .store .rows) (found.At i) i e refl in
-      by-reply w k r i (p .0) (at-used id (rowAt w i) (p .1)) (i * w .session .«row_bytes») (w .session .«row_bytes») bytes (w .area) x
-
-  by-flight : (f : InFlight) (fits : Bool) → w .session .«in_flight» ≡ f → FinishedSound w (finishIn f (w .session) fits x bytes (w .store) (w .area))
-  unfolding finishIn finishFound
-  by-flight flight.Nothing fits e = kept w k
-  by-flight (flight.Submission id) fits e = kept w k
-  by-flight (flight.Recovery target device endpoint kind) fits e = kept w k
-  by-flight (flight.Poll id) fits e =
-      if-by (FinishedSound w) _ _ _ (λ y. kept w k)
-      (λ y. by-place (subst (λ (g : InFlight). FlightReady g (w .session .state)) e (k .ready)) id (foundIn (isAt id) (w .store .rows)) refl)
-
-  pub finish-sound : (fits : Bool) → FinishedSound w (finishOf (w .session) fits x bytes (w .store) (w .area))
-  unfolding finishOf
-  finish-sound fits = by-flight (w .session .«in_flight») fits refl
+pub finish-sound : (w : World) → Sound w → (x : PollReply) (bytes : List ℕ) (fits : Bool) → FinishedSound w (finishOf (w .session) fits x bytes (w .store) (w .area))
+finish-sound w k x bytes fits =
+    finish-all (w .session) x bytes (w .store) (w .area) (FinishedSound w) (kept w k) (kept w k)
+    (λ id own i h e.
+    by-reply w k (subst (λ (g : InFlight). FlightReady g (w .session .state)) own (k .ready)) i h (at-used id (worldRow w i) e)
+    (i * w .session .«row_bytes») (w .session .«row_bytes») bytes (w .area) x)
+    fits

@@ -1,17 +1,14 @@
 -- A recovery's two calls keep the invariant of session, rows and journal. Assumes nothing.
-use Prim.Native.Nat.{ℕ, _<_}
+use Prim.Native.Nat.{ℕ, _≤_, _<_}
 use mathlib.Core.Path.{_≡_, refl, sym, ap, _∙_}
 use mathlib.Core.Bool.{Bool, true, false, not, cond, _||_, false≢true}
 use mathlib.Core.List.{List, _++_}
 use native.Mathlib.Omega.{arith}
+use borrow.Author.Tests.{not-true}
 use lib.Dec.{eqb}
 use lib.ListN.{length}
-use borrow.Author.Tests.{not-true, not-false}
-use Rattle.chain.specs.Lists.{foundIn}
-use Rattle.chain.specs.declared.Found.{Found}
-use Rattle.chain.specs.declared.Found.the-variants as found
-use Rattle.chain.proofs.Chain.{if-all, if-by, both}
-use Rattle.models.specs.declared.ControllerState.the-variants.{Initialized}
+use Rattle.chain.specs.Lists.{count}
+use Rattle.chain.proofs.Chain.{if-all, both}
 use Rattle.models.specs.declared.DeviceId.{DeviceId}
 use Rattle.models.specs.declared.Refusal.{Refusal}
 use Rattle.models.specs.declared.RequestId.{RequestId}
@@ -21,8 +18,7 @@ use Rattle.rows.specs.Store.{Store}
 use Rattle.rows.specs.Table.{isHeld, rowIn}
 use Rattle.rows.specs.declared.Row.{Row}
 use Rattle.ledger.specs.Search.{isAt}
-use Rattle.ledger.proofs.Placing.{found-row}
-use Rattle.session.specs.Session.{withFlight, withStall, marked}
+use Rattle.session.specs.Session.{withFlight, marked}
 use Rattle.session.specs.declared.InFlight.{InFlight}
 use Rattle.session.specs.declared.InFlight.the-variants as flight
 use Rattle.session.specs.declared.OptionStall.{OptionStall}
@@ -33,36 +29,34 @@ use Rattle.session.specs.declared.Session.{Session}
 use Rattle.scope.specs.Affected.{affectedOf, tokensOf}
 use Rattle.scope.specs.Scope.{meant, inScope}
 use Rattle.scope.specs.Returned.{returnedOf}
-use Rattle.recovery.specs.Begin.{recoveryOf, begunAs, beginRow, beginBy, beginOf}
+use Rattle.recovery.specs.Begin.{recoveryOf, begunAs, beginOf}
 use Rattle.recovery.specs.Reports.{idLists}
-use Rattle.recovery.specs.Reply.{RecoveredTo, isWhole, restoredBy, resetBy, sessionAfter, refusedAfter, applyAll, reportOf, concludedBy, scopedOf, doneOf, replyBy, replySized, replyIn, recoveryReplyOf}
+use Rattle.recovery.specs.Reply.{RecoveredTo, isWhole, restoredBy, resetBy, sessionAfter, refusedAfter, applyAll, reportOf, concludedBy, scopedOf, recoveryReplyOf}
 use Rattle.recovery.specs.declared.AbortReport.{AbortReport}
 use Rattle.recovery.specs.declared.Begun.{Begun}
 use Rattle.recovery.specs.declared.Ids.{Ids}
 use Rattle.recovery.specs.declared.Outcome.{Outcome}
 use Rattle.recovery.specs.declared.Recovery.{Recovery}
 use Rattle.recovery.specs.declared.RecoveryReply.{RecoveryReply}
-use Rattle.recovery.specs.declared.RecoveryReply.the-variants as reply
 use Rattle.calls.specs.Answers.{ofBegin, ofRecovery}
 use Rattle.calls.specs.declared.Answer.the-variants as answer
+use Rattle.runs.proofs.Ids.{access-held}
+use Rattle.runs.proofs.Ways.{begin-all, recovery-all}
 use Rattle.history.specs.Journal.{Entry, Journal, View, entryView, entryOf, isRecovering, idle, affectedViews, meantView, releasesAll, recoveryWaits, releasedIn, recoveredJournal}
 use Rattle.history.specs.Claim.{rowView}
 use Rattle.history.proofs.Led.{entry-is}
-use Rattle.history.proofs.Changes.{access-held, view-is}
+use Rattle.history.proofs.Changes.{view-is}
 use Rattle.history.proofs.Ordered.{view-ext}
-use Rattle.history.proofs.Inv.{Inv, restated, marks, stalls, ended, ends-idle}
+use Rattle.history.proofs.Inv.{Inv, marks, ended, waits-for}
 use Rattle.history.proofs.Walks.{Kept, isLate, LateBy}
-use Rattle.history.proofs.Recovers.{recovered-kept}
+use Rattle.history.proofs.Scoped.{recovered-kept}
 
 -- ---- the session after the entries
 module _ (rows : List Row) (j : Journal) (seen : List ℕ) where
   restored-kept : (q : OptionStall) (s : Session) → Inv s rows j seen → (d : DeviceId) (endpoint : ℕ) (certain : Bool) → Inv (restoredBy q s d endpoint certain) rows j seen
   unfolding restoredBy
-  restored-kept stall.None s k d endpoint certain = stalls s rows j seen k stall.None
-  restored-kept (stall.Some note) s k d endpoint certain =
-      if-all (λ (x : Session). Inv x rows j seen) _ _ _
-      (restated (withStall s stall.None) rows j seen (stalls s rows j seen k stall.None) Initialized (s .«recovery_revision») (λ e. absurd (false≢true e)))
-      (stalls s rows j seen k stall.None)
+  restored-kept stall.None s k d endpoint certain = k
+  restored-kept (stall.Some note) s k d endpoint certain = if-all (λ (x : Session). Inv x rows j seen) _ _ _ k k
 
   reset-kept : (q : RecoveryKind) (s : Session) → Inv s rows j seen → (x : Recovery) (l : List Row) → Inv (resetBy q s x l) rows j seen
   unfolding resetBy
@@ -111,28 +105,25 @@ module _ (s : Session) (j : Journal) (seen : List ℕ) (store : Store) (k : Inv 
       fresh = k .fresh;
       past = k .past;
       here = k .here;
-      shut = k .shut;
       agree = ap (λ (v : View). flight.Recovery id (v .device) (v .endpoint) q) its-view;
-      live = tt;
     }
 
   pub begin-kept : (fits : Bool) (id : RequestId) (q : RecoveryKind) → Begin-kept id q (beginOf s fits id q (store .rows))
-  unfolding beginOf beginBy beginRow
-  begin-kept fits id q = if-all (Begin-kept id q) _ _ _ k (if-all (Begin-kept id q) _ _ _ k (go (foundIn (isAt id) (store .rows)) refl))
-    where
-      go : (f : Found) → f ≡ foundIn (isAt id) (store .rows) → Begin-kept id q (beginBy f s id q (store .rows))
-      go found.Nothing e = k
-      go (found.At i) e =
-          let p = found-row id (store .rows) (found.At i) i e refl in
-          if-by (Begin-kept id q) _ _ _ (λ y. k)
-          (λ y. if-all (Begin-kept id q) _ _ _ k (opened id i (p .0) (p .1) (access-held id (rowIn (store .rows) i) (p .1) (not-false _ y)) q))
+  begin-kept fits id q =
+      begin-all s id q (store .rows) (Begin-kept id q) (λ n e. k) (λ i lt hit m. k)
+      (λ i lt hit a m. opened id i lt hit (access-held id (rowIn (store .rows) i) hit a) q) fits
 
   -- a start that opens its operation names it
   pub begin-names : (x : Recovery) (fits : Bool) (id : RequestId) (q : RecoveryKind) → ofBegin (beginOf s fits id q (store .rows) .answer) ≡ answer.Recovering x
       → flight.Recovery (x .target) (x .device) (x .endpoint) (x .kind) ≡ recoveryWaits id q j .waiting
-  unfolding beginOf beginBy beginRow begunAs
+  unfolding begunAs
   begin-names x fits id q =
-      if-by Names _ _ _ (λ y. refused) (λ y. if-by Names _ _ _ (λ z. refused) (λ z. go (foundIn (isAt id) (store .rows)) refl))
+      begin-all s id q (store .rows) Names (λ n e. refused) (λ i lt hit m. refused)
+      (λ i lt hit a m y.
+      let n : recoveryOf id (rowIn (store .rows) i) q ≡ x = cc in
+      ap (λ (v : Recovery). flight.Recovery (v .target) (v .device) (v .endpoint) (v .kind)) (sym n)
+      ∙ ap (λ (v : View). flight.Recovery id (v .device) (v .endpoint) q) (sym (its-view id i lt hit (access-held id (rowIn (store .rows) i) hit a))))
+      fits
     where
       Names : Begun → Type 0
       Names o = ofBegin (o .answer) ≡ answer.Recovering x → flight.Recovery (x .target) (x .device) (x .endpoint) (x .kind) ≡ recoveryWaits id q j .waiting
@@ -140,19 +131,8 @@ module _ (s : Session) (j : Journal) (seen : List ℕ) (store : Store) (k : Inv 
       refused : {f : Refusal} {A : Type 0} → answer.Refused f ≡ answer.Recovering x → A
       refused e = let z : _≡_ {A = ℕ} 0 1 = cc in absurd (omega arith)
 
-      go : (f : Found) → f ≡ foundIn (isAt id) (store .rows) → Names (beginBy f s id q (store .rows))
-      go found.Nothing e = refused
-      go (found.At i) e =
-          let p = found-row id (store .rows) (found.At i) i e refl in
-          if-by Names _ _ _ (λ y. refused)
-          (λ y. if-by Names _ _ _ (λ z. refused)
-          (λ z a.
-          let n : recoveryOf id (rowIn (store .rows) i) q ≡ x = cc in
-          ap (λ (v : Recovery). flight.Recovery (v .target) (v .device) (v .endpoint) (v .kind)) (sym n)
-          ∙ ap (λ (v : View). flight.Recovery id (v .device) (v .endpoint) q) (sym (its-view id i (p .0) (p .1) (access-held id (rowIn (store .rows) i) (p .1) (not-false _ y))))))
-
   -- ---- the reply
-  module _ (tokens words aborted bytes area : List ℕ) where
+  module _ (few : count isHeld (store .rows) ≤ 128) (tokens words aborted bytes area : List ℕ) where
     abbrev Reply-kept : RecoveredTo → Type 0
     Reply-kept o = Inv (o .result .session) (o .store .rows) (recoveredJournal (ofRecovery (o .result .answer)) (returnedOf tokens words) aborted bytes j) seen
 
@@ -161,7 +141,7 @@ module _ (s : Session) (j : Journal) (seen : List ℕ) (store : Store) (k : Inv 
     quiet = withFlight s flight.Nothing
 
     refused-kept : Inv (marked quiet) (store .rows) (idle j) seen
-    refused-kept = marks quiet (store .rows) (idle j) seen (ends-idle s (store .rows) j seen k)
+    refused-kept = marks quiet (store .rows) (idle j) seen (waits-for s (store .rows) j seen k flight.Nothing)
 
     module _ (x : Recovery) (own : s .«in_flight» ≡ flight.Recovery (x .target) (x .device) (x .endpoint) (x .kind)) where
       abbrev entries′ : List Entry
@@ -175,7 +155,7 @@ module _ (s : Session) (j : Journal) (seen : List ℕ) (store : Store) (k : Inv 
 
       module _ (rows′ : List Row) (kept : Kept (store .rows) (j .entries) rows′ entries′) where
         base : Inv quiet rows′ released seen
-        base = ended s (store .rows) j seen k rows′ entries′ (kept .led) (kept .ids) (kept .fewer)
+        base = ended s (store .rows) j seen k rows′ entries′ (kept .led) (kept .ids)
 
         concluded : (v : Verdict) → LateBy v → (o : Outcome) (report : AbortReport) (ids : Ids)
             → Inv (concludedBy v quiet x o report ids rows′ .session) rows′ (recoveredJournal (ofRecovery (concludedBy v quiet x o report ids rows′ .answer)) (returnedOf tokens words) aborted bytes j) seen
@@ -185,11 +165,11 @@ module _ (s : Session) (j : Journal) (seen : List ℕ) (store : Store) (k : Inv 
             rw (two, three, lists, error, scope, about) (if-all (λ (y : Session). Inv y rows′ released seen) _ _ _ (marks quiet rows′ released seen base) base)
         concluded verdict.Pass late o report ids = rw about (after-kept rows′ released seen quiet base x o rows′)
 
-      scoped-kept : (o : Outcome) → not (inScope (isWhole o) (tokensOf (store .rows) (affectedOf (x .device) (x .endpoint) (store .rows))) (tokens ++ aborted)) ≡ false
+      scoped-kept : (o : Outcome) → inScope (isWhole o) (tokensOf (store .rows) (affectedOf (x .device) (x .endpoint) (store .rows))) (tokens ++ aborted) ≡ true
           → Reply-kept (scopedOf quiet x o (affectedOf (x .device) (x .endpoint) (store .rows)) (tokensOf (store .rows) (affectedOf (x .device) (x .endpoint) (store .rows))) tokens words aborted bytes store area)
       unfolding scopedOf
       scoped-kept o n =
-          let w = recovered-kept (x .device) (x .endpoint) store (j .entries) (k .led) (isWhole o) (quiet .«row_bytes») tokens words aborted bytes area (not-false _ n) in
+          let w = recovered-kept (x .device) (x .endpoint) store (j .entries) few (k .led) (isWhole o) (quiet .«row_bytes») tokens words aborted bytes area n in
           concluded
           (applyAll (meant (affectedOf (x .device) (x .endpoint) (store .rows)) (tokensOf (store .rows) (affectedOf (x .device) (x .endpoint) (store .rows)))) (quiet .«row_bytes») (returnedOf tokens words) aborted bytes store area .store .rows)
           (w .0)
@@ -197,18 +177,5 @@ module _ (s : Session) (j : Journal) (seen : List ℕ) (store : Store) (k : Inv 
           (w .1) o (reportOf x o (length tokens) (length aborted))
           (idLists (store .rows) (meant (affectedOf (x .device) (x .endpoint) (store .rows)) (tokensOf (store .rows) (affectedOf (x .device) (x .endpoint) (store .rows)))) tokens aborted)
 
-      by-kept : (r : RecoveryReply) → Reply-kept (replyBy r quiet x tokens words aborted bytes store area)
-      unfolding replyBy doneOf
-      by-kept (reply.Error e) = refused-kept
-      by-kept (reply.Done o) = if-by Reply-kept _ _ _ (λ y. refused-kept) (λ y. scoped-kept o y)
-
     pub recovery-kept : (fits : Bool) (r : RecoveryReply) → Reply-kept (recoveryReplyOf s fits r tokens words aborted bytes store area)
-    unfolding recoveryReplyOf replyIn replySized
-    recovery-kept fits r = go (s .«in_flight») refl
-      where
-        go : (f : InFlight) → s .«in_flight» ≡ f → Reply-kept (replyIn f s fits r tokens words aborted bytes store area)
-        go flight.Nothing e = k
-        go (flight.Submission id) e = k
-        go (flight.Poll id) e = k
-        go (flight.Recovery target device endpoint q) e =
-            if-all Reply-kept _ _ _ k (if-all Reply-kept _ _ _ k (by-kept (record { target = target; device = device; endpoint = endpoint; kind = q }) e r))
+    recovery-kept fits r = recovery-all s tokens words aborted bytes store area Reply-kept k k k (λ e. refused-kept) refused-kept (λ x own o n. scoped-kept x own o n) fits r

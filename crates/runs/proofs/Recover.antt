@@ -4,16 +4,14 @@ use mathlib.Core.Bool.{Bool, true, false, not, _&&_, false≢true}
 use mathlib.Core.List.{List, [], _∷_, _++_}
 use mathlib.Core.Path.{_≡_, refl, sym, ap, _∙_}
 use native.Mathlib.Omega.{arith}
-use borrow.Author.Tests.{eqb-true, eqb-false, not-true, not-false, ltb-false}
+use borrow.Author.Tests.{eqb-true, eqb-false, not-true, ltb-false}
 use lib.Dec.{eqb, ltb}
-use lib.ListN.{length, getD, set, take, drop, length-set}
+use lib.ListN.{length, set, take, drop, length-set}
 use lib.Seq.{getD-set-same, getD-set-other}
-use Rattle.chain.specs.Lists.{count, anyIn, foundIn}
-use Rattle.chain.specs.declared.Found.{Found}
-use Rattle.chain.specs.declared.Found.the-variants as found
-use Rattle.chain.proofs.Chain.{caseB, if-by, both, and3}
+use Rattle.chain.specs.Lists.{count, anyIn}
+use Rattle.chain.proofs.Chain.{caseB, if-by, and3}
 use Rattle.words.specs.declared.OptionU64.{OptionU64}
-use Rattle.models.specs.Requests.{deviceMayAccess, sameDevice}
+use Rattle.models.specs.Requests.{sameDevice}
 use Rattle.models.specs.declared.BackendCompletion.{BackendCompletion}
 use Rattle.models.specs.declared.ControllerState.the-variants.{Initialized}
 use Rattle.models.specs.declared.DeviceId.{DeviceId}
@@ -21,17 +19,15 @@ use Rattle.models.specs.declared.RequestId.{RequestId}
 use Rattle.models.specs.declared.Verdict.{Verdict}
 use Rattle.models.specs.declared.Verdict.the-variants as verdict
 use Rattle.rows.specs.Store.{Store, putIn}
-use Rattle.rows.specs.Table.{emptyRow, isHeld, isUncertain, rowIn}
+use Rattle.rows.specs.Table.{emptyRow, isUncertain, rowIn}
 use Rattle.rows.specs.declared.Row.{Row}
 use Rattle.rules.specs.Rules.{changeRow}
-use Rattle.ledger.specs.Search.{isAt}
 use Rattle.rules.specs.declared.Change.the-variants as change
 use Rattle.rules.specs.declared.Step.{Step}
 use Rattle.rules.specs.declared.Step.the-variants as step
-use Rattle.ledger.proofs.Placing.{found-row}
 use Rattle.checks.specs.declared.completion.CompletionTest.{CompletionTest}
 use Rattle.checks.specs.declared.completion.CompletionTest.the-variants as test
-use Rattle.session.specs.Session.{mayRecover, withState, withFlight, withStall, marked}
+use Rattle.session.specs.Session.{withState, withFlight, withStall, marked}
 use Rattle.session.specs.declared.InFlight.{InFlight}
 use Rattle.session.specs.declared.InFlight.the-variants as flight
 use Rattle.session.specs.declared.OptionStall.{OptionStall}
@@ -42,76 +38,50 @@ use Rattle.session.specs.declared.Session.{Session}
 use Rattle.scope.specs.Affected.{affectedOf, tokensOf}
 use Rattle.scope.specs.Scope.{isIn, meant, inScope}
 use Rattle.scope.specs.Returned.{Returned, returnedOf}
-use Rattle.recovery.specs.Begin.{begunAs, beginRow, beginBy, beginOf}
-use Rattle.recovery.specs.Entries.{WalkTo, storedAt, rowCompletedBy, testedBy, completeOne, onwardBy, completeAll, AbortTo, abortedBy, abortOne, furtherBy, abortAll}
+use Rattle.recovery.specs.Begin.{begunAs, beginOf}
+use Rattle.recovery.specs.Entries.{WalkTo, storedAt, rowCompletedBy, testedBy, completeOne, abortedBy, abortOne}
 use Rattle.recovery.specs.Reports.{idLists}
-use Rattle.recovery.specs.Reply.{RecoveredTo, isWhole, isRevision, restoredBy, resetBy, sessionAfter, refusedAfter, abortsAfter, applyAll, reportOf, concludedBy, scopedOf, doneOf, replyBy, replySized, replyIn, recoveryReplyOf}
+use Rattle.recovery.specs.Reply.{RecoveredTo, isWhole, isRevision, restoredBy, resetBy, sessionAfter, refusedAfter, applyAll, reportOf, concludedBy, scopedOf, recoveryReplyOf}
 use Rattle.recovery.specs.declared.AbortReport.{AbortReport}
 use Rattle.recovery.specs.declared.Begun.{Begun}
 use Rattle.recovery.specs.declared.Ids.{Ids}
 use Rattle.recovery.specs.declared.Outcome.{Outcome}
 use Rattle.recovery.specs.declared.Recovery.{Recovery}
 use Rattle.recovery.specs.declared.RecoveryReply.{RecoveryReply}
-use Rattle.recovery.specs.declared.RecoveryReply.the-variants as reply
 use Rattle.calls.specs.Step.{World, world}
-use Rattle.history.specs.Sound.{rowAt, FlightReady, Sound}
-use Rattle.history.proofs.Led.{any-count}
-use Rattle.history.proofs.Changes.{access-held}
-use Rattle.history.proofs.Tokens.{tokensIn, Each, each-last, scope-each}
-use Rattle.history.proofs.Recovers.{returned-tokens, affected-is-held, meant-below, meant-affected}
-use Rattle.history.proofs.SoundMoves.{Idle, stays, marked-moves, marked-idle}
-use Rattle.history.proofs.SoundRows.{Leads, kept, moved, moved-idle, changed-certain}
-use Rattle.history.proofs.SoundSteps.{StepCertain, StepUsed, complete-step, complete-used, abort-step, abort-used}
-use Rattle.history.proofs.SoundFinish.{TestSound, test-sound}
-use Rattle.history.proofs.SoundChange.{at-own}
+use Rattle.runs.specs.Sound.{worldRow, FlightReady, Sound}
+use Rattle.runs.proofs.Tokens.{tokensIn, Each, scope-each}
+use Rattle.runs.proofs.Moves.{Idle, stays, marked-moves, marked-idle}
+use Rattle.runs.proofs.Rows.{Leads, kept, moved, moved-idle, changed-certain}
+use Rattle.runs.proofs.Rules.{StepCertain, StepUsed, complete-step, complete-used, abort-step, abort-used}
+use Rattle.runs.proofs.Finish.{TestSound, test-sound}
+use Rattle.runs.proofs.Affected.{affected-is-held, meant-affected, meant-below, returned-tokens}
+use Rattle.runs.proofs.Held.{any-count, held-used}
+use Rattle.runs.proofs.Ids.{access-held, at-own}
+use Rattle.runs.proofs.Ways.{begin-all, recovery-all}
+use Rattle.runs.proofs.Entries.{Onward, entries-all}
 
 leads-then : (a b c : World) → Leads a b → Leads b c → Leads a c
 leads-then a b c p q = record { sound = q .sound; fitted = λ z. q .fitted (p .fitted z) }
-
-held-used : (r : Row) → isHeld r ≡ true → r .used ≡ true
-unfolding isHeld
-held-used r e = both (r .used) (deviceMayAccess (r .state)) e .0
 
 -- ---- the start
 abbrev pub BegunSound : World → Begun → Type 0
 BegunSound w o = Leads w (world (o .session) (w .bus) (w .store) (w .area))
 
-module _ (w : World) (k : Sound w) where
-  by-row : (i : ℕ) → i < length (w .store .rows) → (id : RequestId) → isAt id (rowAt w i) ≡ true → (q : RecoveryKind)
-      → BegunSound w (beginRow (w .session) (rowAt w i) id q (w .store .rows))
-  unfolding beginRow begunAs
-  by-row i h id e q =
-      if-by (BegunSound w) _ _ _ (λ x. kept w k)
-      (λ a. if-by (BegunSound w) _ _ _ (λ x. kept w k)
-      (λ r. moved w k (withFlight (w .session) (flight.Recovery id (rowAt w i .metadata .device) (rowAt w i .metadata .endpoint) q)) (stays (w .session)) (w .bus) (w .area)
-      (record {
-        index = i;
-        below = h;
-        held = access-held id (rowAt w i) e (not-false (deviceMayAccess (rowAt w i .state)) a);
-        own = at-own id (rowAt w i) e;
-        of-device = refl;
-        of-endpoint = refl;
-      })
-      (not-false (mayRecover (w .session .state)) r)))
-
-  by-place : (id : RequestId) (q : RecoveryKind) (g : Found) → g ≡ foundIn (isAt id) (w .store .rows) → BegunSound w (beginBy g (w .session) id q (w .store .rows))
-  unfolding beginBy
-  by-place id q found.Nothing e = kept w k
-  by-place id q (found.At i) e =
-      let p = found-row id (w .store .rows) (found.At i) i e refl in
-      by-row i (p .0) id (p .1) q
-
-  pub begin-sound : (fits : Bool) (id : RequestId) (q : RecoveryKind) → BegunSound w (beginOf (w .session) fits id q (w .store .rows))
-  unfolding beginOf
-  begin-sound fits id q =
-      if-by (BegunSound w) _ _ _ (λ x. kept w k)
-      (λ x. if-by (BegunSound w) _ _ _ (λ y. kept w k) (λ y. by-place id q (foundIn (isAt id) (w .store .rows)) refl))
+pub begin-sound : (w : World) → Sound w → (fits : Bool) (id : RequestId) (q : RecoveryKind) → BegunSound w (beginOf (w .session) fits id q (w .store .rows))
+unfolding begunAs
+begin-sound w k fits id q =
+    begin-all (w .session) id q (w .store .rows) (BegunSound w) (λ n e. kept w k) (λ i h e m. kept w k)
+    (λ i h e a m.
+    moved w k (withFlight (w .session) (flight.Recovery id (worldRow w i .metadata .device) (worldRow w i .metadata .endpoint) q)) (stays (w .session)) (w .bus) (w .area)
+    (record { index = i; below = h; held = access-held id (worldRow w i) e a; own = at-own id (worldRow w i) e; of-device = refl; of-endpoint = refl }) m)
+    fits
 
 -- ---- the entries
 module _ (place : ℕ → ℕ) where
   -- the row that a token means is used
   abbrev pub Used : List Row → ℕ → Type 0
-  Used rows t = (place t < length rows) × (getD rows (place t) emptyRow .used ≡ true)
+  Used rows t = (place t < length rows) × (rowIn rows (place t) .used ≡ true)
 
   abbrev pub AllUsed : List Row → List ℕ → Type 0
   AllUsed rows ts = Each (Used rows) ts
@@ -122,7 +92,7 @@ module _ (place : ℕ → ℕ) where
     (
       omega (arith, a .0 .0, length-set rows i q),
       caseB (eqb (place t) i)
-          (λ e. let z = eqb-true (place t) i e in ap (λ (r : Row). r .used) (ap (λ (n : ℕ). getD (set rows i q) n emptyRow) z ∙ getD-set-same rows i q emptyRow h) ∙ u)
+          (λ e. let z = eqb-true (place t) i e in ap (λ (r : Row). r .used) (ap (λ (n : ℕ). rowIn (set rows i q) n) z ∙ getD-set-same rows i q emptyRow h) ∙ u)
           (λ e. ap (λ (r : Row). r .used) (getD-set-other rows i (place t) q emptyRow (eqb-false (place t) i e)) ∙ a .0 .1),
     ),
     used-after rows i q h u ts (a .1),
@@ -132,9 +102,9 @@ module _ (place : ℕ → ℕ) where
     pub leads : Leads v (world (v .session) (v .bus) store area)
     pub used : AllUsed (store .rows) us
 
-  module _ (v : World) (k : Sound v) (idle : Idle (v .session)) (i : ℕ) (h : i < length (v .store .rows)) (u : rowAt v i .used ≡ true) (us : List ℕ)
+  module _ (v : World) (k : Sound v) (idle : Idle (v .session)) (i : ℕ) (h : i < length (v .store .rows)) (u : worldRow v i .used ≡ true) (us : List ℕ)
       (a : AllUsed (v .store .rows) us) where
-    stepped : (m : Step) → StepCertain (rowAt v i) m → StepUsed (rowAt v i) m → (at room : ℕ) (bytes : List ℕ)
+    stepped : (m : Step) → StepCertain (worldRow v i) m → StepUsed (worldRow v i) m → (at room : ℕ) (bytes : List ℕ)
         → Walked v (rowCompletedBy m i at room bytes (v .store) (v .area) .store) (rowCompletedBy m i at room bytes (v .store) (v .area) .area) us
     unfolding rowCompletedBy putIn
     stepped (step.Refused x) c s at room bytes = record { leads = kept v k; used = a }
@@ -143,20 +113,20 @@ module _ (place : ℕ → ℕ) where
       used = used-after (v .store .rows) i q h (s ∙ u) us a;
     }
 
-    tested : (p : CompletionTest) → TestSound (rowAt v i .metadata .«requested_length») p → (c : BackendCompletion) (at room : ℕ) (bytes : List ℕ)
+    tested : (p : CompletionTest) → TestSound (worldRow v i .metadata .«requested_length») p → (c : BackendCompletion) (at room : ℕ) (bytes : List ℕ)
         → Walked v (testedBy p (c .«completion_code») i at room bytes (v .store) (v .area) .store) (testedBy p (c .«completion_code») i at room bytes (v .store) (v .area) .area) us
     unfolding testedBy
     tested test.MissingLength t c at room bytes = record { leads = kept v k; used = a }
     tested test.Invalid t c at room bytes = record { leads = kept v k; used = a }
     tested (test.Valid actual n) t c at room bytes =
-        stepped (changeRow (rowAt v i) (change.Complete actual n)) (complete-step (rowAt v i) actual n (t .0) (t .1)) (complete-used (rowAt v i) actual n) at room bytes
+        stepped (changeRow (worldRow v i) (change.Complete actual n)) (complete-step (worldRow v i) actual n (t .0) (t .1)) (complete-used (worldRow v i) actual n) at room bytes
 
     completed-one : (c : BackendCompletion) (at room : ℕ) (bytes : List ℕ)
         → Walked v (completeOne i at room c bytes (v .store) (v .area) .store) (completeOne i at room c bytes (v .store) (v .area) .area) us
     unfolding completeOne
-    completed-one c at room bytes = tested _ (test-sound c (length bytes) (rowAt v i .metadata .«requested_length»)) c at room bytes
+    completed-one c at room bytes = tested _ (test-sound c (length bytes) (worldRow v i .metadata .«requested_length»)) c at room bytes
 
-    aborted-by : (m : Step) → StepCertain (rowAt v i) m → StepUsed (rowAt v i) m → Walked v (abortedBy m i (v .store) .store) (v .area) us
+    aborted-by : (m : Step) → StepCertain (worldRow v i) m → StepUsed (worldRow v i) m → Walked v (abortedBy m i (v .store) .store) (v .area) us
     unfolding abortedBy putIn
     aborted-by (step.Refused x) c s = record { leads = kept v k; used = a }
     aborted-by (step.To q x) c s = record {
@@ -166,56 +136,33 @@ module _ (place : ℕ → ℕ) where
 
     aborted-one : Walked v (abortOne i (v .store) .store) (v .area) us
     unfolding abortOne
-    aborted-one = aborted-by (changeRow (rowAt v i) change.ConfirmAbort) (abort-step (rowAt v i)) (abort-used (rowAt v i))
-
-  abbrev WalkedTo : World → List ℕ → WalkTo → Type 0
-  WalkedTo v us o = Walked v (o .store) (o .area) us
-
-  completed-all : (room : ℕ) (us : List ℕ) (es : List Returned) (bytes : List ℕ) (v : World) → Sound v → Idle (v .session) → AllUsed (v .store .rows) (tokensIn es ++ us)
-      → WalkedTo v us (completeAll place room es bytes (v .store) (v .area))
-  completed-all room us [] bytes v k idle a = record { leads = kept v k; used = a }
-  completed-all room us (e ∷ es) bytes v k idle a =
-      go (completeOne (place (e .token)) (place (e .token) * room) room (e .brought .completion) (take (e .brought .given) bytes) (v .store) (v .area) .verdict)
-      (completeOne (place (e .token)) (place (e .token) * room) room (e .brought .completion) (take (e .brought .given) bytes) (v .store) (v .area))
-      (completed-one v k idle (place (e .token)) (a .0 .0) (a .0 .1) (tokensIn es ++ us) (a .1) (e .brought .completion) (place (e .token) * room) room (take (e .brought .given) bytes))
-      (λ s x q b. completed-all room us es (drop (e .brought .given) bytes) (world (v .session) (v .bus) s x) q idle b)
-    where
-      go : (x : Verdict) (w : WalkTo) → WalkedTo v (tokensIn es ++ us) w
-          → ((s : Store) (x : List ℕ) → Sound (world (v .session) (v .bus) s x) → AllUsed (s .rows) (tokensIn es ++ us)
-          → WalkedTo (world (v .session) (v .bus) s x) us (completeAll place room es (drop (e .brought .given) bytes) s x))
-          → WalkedTo v us (onwardBy x w (λ (s : Store) (y : List ℕ). completeAll place room es (drop (e .brought .given) bytes) s y))
-      go (verdict.Refused r) w o rest = record { leads = o .leads; used = each-last (Used (w .store .rows)) (tokensIn es) us (o .used) }
-      go verdict.Pass w o rest =
-          let n = rest (w .store) (w .area) (o .leads .sound) (o .used) in
-          record { leads = leads-then v (world (v .session) (v .bus) (w .store) (w .area)) _ (o .leads) (n .leads); used = n .used }
-
-  abbrev AbortedTo : World → AbortTo → Type 0
-  AbortedTo v o = Leads v (world (v .session) (v .bus) (o .store) (v .area))
-
-  aborted-all : (ts : List ℕ) (v : World) → Sound v → Idle (v .session) → AllUsed (v .store .rows) ts → AbortedTo v (abortAll place ts (v .store))
-  aborted-all [] v k idle a = kept v k
-  aborted-all (t ∷ ts) v k idle a =
-      go (abortOne (place t) (v .store) .verdict) (abortOne (place t) (v .store)) (aborted-one v k idle (place t) (a .0 .0) (a .0 .1) ts (a .1))
-      (λ s q b. aborted-all ts (world (v .session) (v .bus) s (v .area)) q idle b)
-    where
-      go : (x : Verdict) (w : AbortTo) → Walked v (w .store) (v .area) ts
-          → ((s : Store) → Sound (world (v .session) (v .bus) s (v .area)) → AllUsed (s .rows) ts → AbortedTo (world (v .session) (v .bus) s (v .area)) (abortAll place ts s))
-          → AbortedTo v (furtherBy x w (λ (s : Store). abortAll place ts s))
-      go (verdict.Refused r) w o rest = o .leads
-      go verdict.Pass w o rest = leads-then v (world (v .session) (v .bus) (w .store) (v .area)) _ (o .leads) (rest (w .store) (o .leads .sound) (o .used))
+    aborted-one = aborted-by (changeRow (worldRow v i) change.ConfirmAbort) (abort-step (worldRow v i)) (abort-used (worldRow v i))
 
   applied-all : (room : ℕ) (es : List Returned) (aborted bytes : List ℕ) (v : World) → Sound v → Idle (v .session) → AllUsed (v .store .rows) (tokensIn es ++ aborted)
       → Leads v (world (v .session) (v .bus) (applyAll place room es aborted bytes (v .store) (v .area) .store) (applyAll place room es aborted bytes (v .store) (v .area) .area))
-  unfolding applyAll abortsAfter
   applied-all room es aborted bytes v k idle a =
-      go (completeAll place room es bytes (v .store) (v .area) .verdict) (completeAll place room es bytes (v .store) (v .area)) (completed-all room aborted es bytes v k idle a)
+      entries-all place room J P (λ bytes store area h. h .leads)
+      (λ e es ts bytes store area h.
+      let u = world (v .session) (v .bus) store area in
+      let one : WalkTo = completeOne (place (e .token)) (place (e .token) * room) room (e .brought .completion) (take (e .brought .given) bytes) store area in
+      on (one .verdict) es ts (drop (e .brought .given) bytes) store area (one .store) (one .area) h (completed-one u (h .leads .sound) idle (place (e .token)) (h .used .0 .0) (h .used .0 .1) (tokensIn es ++ ts) (h .used .1)
+      (e .brought .completion) (place (e .token) * room) room (take (e .brought .given) bytes)))
+      (λ t ts bytes store area h.
+      let u = world (v .session) (v .bus) store area in
+      on (abortOne (place t) store .verdict) [] ts bytes store area (abortOne (place t) store .store) area h (aborted-one u (h .leads .sound) idle (place t) (h .used .0 .0) (h .used .0 .1) ts (h .used .1)))
+      es aborted bytes (v .store) (v .area) (record { leads = kept v k; used = a })
     where
-      go : (x : Verdict) (w : WalkTo) → WalkedTo v aborted w
-          → Leads v (world (v .session) (v .bus) (abortsAfter x w place aborted .store) (abortsAfter x w place aborted .area))
-      go (verdict.Refused r) w o = o .leads
-      go verdict.Pass w o =
-          leads-then v (world (v .session) (v .bus) (w .store) (w .area)) _ (o .leads)
-          (aborted-all aborted (world (v .session) (v .bus) (w .store) (w .area)) (o .leads .sound) idle (o .used))
+      J : List Returned → List ℕ → List ℕ → Store → List ℕ → Type 0
+      J es ts bytes store area = Walked v store area (tokensIn es ++ ts)
+
+      P : Verdict → Store → List ℕ → Type 0
+      P x store area = Leads v (world (v .session) (v .bus) store area)
+
+      on : (x : Verdict) (es : List Returned) (ts bytes : List ℕ) (store : Store) (area : List ℕ) (store′ : Store) (area′ : List ℕ) {us : List ℕ} → Walked v store area us
+          → Walked (world (v .session) (v .bus) store area) store′ area′ (tokensIn es ++ ts) → Onward place room J P x es ts bytes store′ area′
+      on (verdict.Refused r) es ts bytes store area store′ area′ h o = leads-then v (world (v .session) (v .bus) store area) _ (h .leads) (o .leads)
+      on verdict.Pass es ts bytes store area store′ area′ h o =
+          record { leads = leads-then v (world (v .session) (v .bus) store area) _ (h .leads) (o .leads); used = o .used }
 
 -- ---- the session after the entries
 module _ (v : World) (k : Sound v) (idle : Idle (v .session)) where
@@ -314,20 +261,7 @@ module _ (w : World) (k : Sound w) (tokens words aborted bytes : List ℕ) where
       leads-then w still _ stilled
       (leads-then still after _ a (concluded-after after (a .sound) refl (o′ .verdict) x o (reportOf x o (length tokens) (length aborted)) (idLists (w .store .rows) (meant affected mine) tokens aborted)))
 
-  by-reply : (x : Recovery) (r : RecoveryReply) → RecoveredSound (replyBy r quiet x tokens words aborted bytes (w .store) (w .area))
-  unfolding replyBy doneOf
-  by-reply x (reply.Error e) = marks
-  by-reply x (reply.Done o) = if-by RecoveredSound _ _ _ (λ e. marks) (λ e. scoped-sound x o (not-false _ e))
-
-  by-flight : (f : InFlight) (fits : Bool) (r : RecoveryReply) → RecoveredSound (replyIn f (w .session) fits r tokens words aborted bytes (w .store) (w .area))
-  unfolding replyIn replySized
-  by-flight flight.Nothing fits r = kept w k
-  by-flight (flight.Submission id) fits r = kept w k
-  by-flight (flight.Poll id) fits r = kept w k
-  by-flight (flight.Recovery target device endpoint q) fits r =
-      if-by RecoveredSound _ _ _ (λ e. kept w k)
-      (λ e. if-by RecoveredSound _ _ _ (λ y. kept w k) (λ y. by-reply (record { target = target; device = device; endpoint = endpoint; kind = q }) r))
-
   pub recovery-sound : (fits : Bool) (r : RecoveryReply) → RecoveredSound (recoveryReplyOf (w .session) fits r tokens words aborted bytes (w .store) (w .area))
-  unfolding recoveryReplyOf
-  recovery-sound fits r = by-flight (w .session .«in_flight») fits r
+  recovery-sound fits r =
+      recovery-all (w .session) tokens words aborted bytes (w .store) (w .area) RecoveredSound (kept w k) (kept w k) (kept w k) (λ e. marks) marks
+      (λ x own o s. scoped-sound x o s) fits r

@@ -3,13 +3,13 @@ use Prim.Native.Nat.{ℕ}
 use mathlib.Core.Path.{_≡_, sym, subst}
 use mathlib.Core.Bool.{false}
 use mathlib.Core.List.{List, [], _∷_, _++_}
-use Rattle.bus.specs.Tables.{Bus}
 use Rattle.models.specs.Refusals.{refusalOf}
+use Rattle.bus.specs.Tables.{Bus}
 use Rattle.calls.specs.Calls.{Call}
 use Rattle.calls.specs.Step.{World, world, stepOf}
 use Rattle.calls.specs.declared.Answer.{Answer}
 use Rattle.calls.specs.declared.Answer.the-variants as answer
-use Rattle.history.specs.Run.{Handed, own, lent, other, Event, next, leftBy, answerTo, isOpening, Handing, Follows, numberOf, noted, Fresh}
+use Rattle.runs.specs.Run.{Handed, own, lent, other, Event, next, leftBy, answerTo, isOpening, Handing, Follows, numberOf, noted, Fresh}
 
 -- the session and the rows with some bus and area; or others, and then it is refused by 3 and leaves ours
 pub by-handed : (h : Handed) (c : Call) (w : World) (P : Answer → World → Type 0) → Handing h c

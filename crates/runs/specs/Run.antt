@@ -1,14 +1,14 @@
 -- Lists of calls, what they leave, and the history: the calls with their answers. Assumes nothing.
 use Prim.Native.Nat.{ℕ}
-use mathlib.Core.Bool.{Bool, true, false, not, _||_}
+use mathlib.Core.Bool.{Bool, true, false, not}
 use mathlib.Core.Path.{_≡_}
 use mathlib.Core.List.{List, [], _∷_}
-use lib.Dec.{eqb}
 use Rattle.words.specs.declared.OptionU64.{OptionU64}
 use Rattle.words.specs.declared.OptionU64.the-variants as u64
 use Rattle.models.specs.Refusals.{refusalOf}
 use Rattle.bus.specs.Tables.{Bus}
-use Rattle.calls.specs.Calls.{Call, Open, SetDevice, SetPort, SetEndpoints, SetReconcile, Acquire, Initialize, Close, Submit, SubmitPlan, ReplySubmit, Poll, ReplyPoll, AbortRequest, ResetEndpoint, ReplyRecovery, Cancel, Timeout, Reclaim, Status, Reports, CountReports, CompletedBytes, HeldCount, HeldBytes}
+use Rattle.scope.specs.Scope.{isIn}
+use Rattle.calls.specs.Calls.{Call, Open, Place, Move, Acquire, Initialize, Close, Begin, Reply, Change, Read}
 use Rattle.calls.specs.Step.{World, After, world, stepOf}
 use Rattle.calls.specs.declared.Answer.{Answer}
 use Rattle.calls.specs.declared.Answer.the-variants as answer
@@ -58,30 +58,12 @@ historyOf w (e ∷ es) = record { call = e .call; answer = answerTo w e } ∷ hi
 
 abbrev pub isOpening : Call → Bool
 isOpening (Open o) = true
-isOpening (SetDevice d) = false
-isOpening (SetPort number row) = false
-isOpening (SetEndpoints slot list) = false
-isOpening (SetReconcile slot mark) = false
-isOpening (Acquire reply) = false
-isOpening (Initialize reply) = false
-isOpening (Close fresh reply) = false
-isOpening (Submit q bytes packed packets first second) = false
-isOpening (SubmitPlan q bytes first) = false
-isOpening (ReplySubmit reply) = false
-isOpening (Poll id) = false
-isOpening (ReplyPoll reply bytes) = false
-isOpening (AbortRequest id) = false
-isOpening (ResetEndpoint id preserve) = false
-isOpening (ReplyRecovery reply tokens words aborted bytes) = false
-isOpening (Cancel id) = false
-isOpening (Timeout id) = false
-isOpening (Reclaim id) = false
-isOpening (Status id) = false
-isOpening (Reports from) = false
-isOpening CountReports = false
-isOpening (CompletedBytes id) = false
-isOpening HeldCount = false
-isOpening HeldBytes = false
+isOpening (Place p) = false
+isOpening (Move m) = false
+isOpening (Begin b) = false
+isOpening (Reply r) = false
+isOpening (Change id c) = false
+isOpening (Read r) = false
 
 -- there is no second opening; a call that is handed another session or other slices is refused by 3
 abbrev pub Handing : Handed → Call → Type 0
@@ -96,34 +78,14 @@ Follows (e ∷ es) = Handing (e .handed) (e .call) × Follows es
 -- the session number that a call hands over
 abbrev pub numberOf : Call → OptionU64
 numberOf (Open o) = u64.Some (o .session)
-numberOf (SetDevice d) = u64.None
-numberOf (SetPort number row) = u64.None
-numberOf (SetEndpoints slot list) = u64.None
-numberOf (SetReconcile slot mark) = u64.None
-numberOf (Acquire reply) = u64.None
-numberOf (Initialize reply) = u64.None
-numberOf (Close fresh reply) = fresh
-numberOf (Submit q bytes packed packets first second) = u64.None
-numberOf (SubmitPlan q bytes first) = u64.None
-numberOf (ReplySubmit reply) = u64.None
-numberOf (Poll id) = u64.None
-numberOf (ReplyPoll reply bytes) = u64.None
-numberOf (AbortRequest id) = u64.None
-numberOf (ResetEndpoint id preserve) = u64.None
-numberOf (ReplyRecovery reply tokens words aborted bytes) = u64.None
-numberOf (Cancel id) = u64.None
-numberOf (Timeout id) = u64.None
-numberOf (Reclaim id) = u64.None
-numberOf (Status id) = u64.None
-numberOf (Reports from) = u64.None
-numberOf CountReports = u64.None
-numberOf (CompletedBytes id) = u64.None
-numberOf HeldCount = u64.None
-numberOf HeldBytes = u64.None
-
-abbrev pub isIn : ℕ → List ℕ → Bool
-isIn n [] = false
-isIn n (m ∷ ms) = eqb n m || isIn n ms
+numberOf (Place p) = u64.None
+numberOf (Move (Acquire reply)) = u64.None
+numberOf (Move (Initialize reply)) = u64.None
+numberOf (Move (Close fresh reply)) = fresh
+numberOf (Begin b) = u64.None
+numberOf (Reply r) = u64.None
+numberOf (Change id c) = u64.None
+numberOf (Read r) = u64.None
 
 abbrev pub isNew : OptionU64 → List ℕ → Bool
 isNew u64.None seen = true

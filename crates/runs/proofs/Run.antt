@@ -1,37 +1,35 @@
 -- Every list of calls after an opening that passed leads to a sound session. Assumes nothing.
+use Prim.Native.Nat.{ℕ}
 use mathlib.Core.Bool.{true, false, _&&_, true≢false}
 use mathlib.Core.List.{List, [], _∷_}
 use mathlib.Core.Path.{_≡_, refl, sym}
 use native.Mathlib.Omega.{arith}
 use borrow.Author.Tests.{not-false}
-use Prim.Native.Nat.{ℕ}
 use lib.ListN.{length}
 use Rattle.chain.proofs.Chain.{if-by, both}
 use Rattle.rows.specs.Store.{storeOf, emptied}
 use Rattle.rows.specs.Table.{rowCount}
 use Rattle.rows.proofs.Placed.{length-rowsOf}
-use Rattle.rules.specs.declared.Change.the-variants as change
 use Rattle.bus.specs.Tables.{cleared}
 use Rattle.session.specs.Lifecycle.{OpenedTo, newSession, openOf}
 use Rattle.session.specs.Sizes.{sized, rowsFit, openFits}
-use Rattle.session.specs.declared.RecoveryKind.the-variants as kind
 use Rattle.session.specs.declared.lifecycle.Opening.{Opening}
 use Rattle.session.proofs.Sized.{fit-rows}
-use Rattle.calls.specs.Calls.{Call, Open, SetDevice, SetPort, SetEndpoints, SetReconcile, Acquire, Initialize, Close, Submit, SubmitPlan, ReplySubmit, Poll, ReplyPoll, AbortRequest, ResetEndpoint, ReplyRecovery, Cancel, Timeout, Reclaim, Status, Reports, CountReports, CompletedBytes, HeldCount, HeldBytes}
-use Rattle.calls.specs.Step.{World, world, opens, rowsFitIn, areaFitsIn, storeFitsIn, stepOf}
+use Rattle.calls.specs.Calls.{Call, Open, Place, Move, Acquire, Initialize, Close, Begin, Submit, SubmitPlan, Poll, Recover, Reply, ToSubmit, ToPoll, ToRecovery, Change, Read}
+use Rattle.calls.specs.Step.{World, world, opens, rowsFitIn, areaFitsIn, storeFitsIn, movedOf, begunOf, repliedOf, changeBy, stepOf}
 use Rattle.calls.specs.declared.Answer.the-variants as answer
-use Rattle.history.specs.Run.{Handed, Event, next, leftBy, endOf, isOpening, Handing, Follows}
-use Rattle.history.specs.Sound.{Sound, Fitted}
-use Rattle.history.proofs.Handings.{by-handed}
-use Rattle.history.proofs.SoundRows.{Leads, kept, same, all-free, all-fitted}
-use Rattle.history.proofs.SoundSteps.{cancel-step, timeout-step, reclaim-step}
-use Rattle.history.proofs.SoundChange.{change-sound}
-use Rattle.history.proofs.SoundReply.{reply-sound}
-use Rattle.history.proofs.SoundPoll.{poll-sound}
-use Rattle.history.proofs.SoundFinish.{finish-sound}
-use Rattle.history.proofs.SoundSubmit.{submit-sound, plan-sound}
-use Rattle.history.proofs.SoundRecover.{begin-sound, recovery-sound}
-use Rattle.history.proofs.SoundClose.{acquire-sound, initialize-sound, close-sound}
+use Rattle.runs.specs.Run.{Handed, Event, next, leftBy, endOf, isOpening, Handing, Follows}
+use Rattle.runs.specs.Sound.{Sound, Fitted}
+use Rattle.runs.proofs.Handings.{by-handed}
+use Rattle.runs.proofs.Rows.{Leads, kept, same, all-free, all-fitted}
+use Rattle.runs.proofs.Rules.{change-step}
+use Rattle.runs.proofs.Change.{change-sound}
+use Rattle.runs.proofs.Reply.{reply-sound}
+use Rattle.runs.proofs.Poll.{poll-sound}
+use Rattle.runs.proofs.Finish.{finish-sound}
+use Rattle.runs.proofs.Submit.{submit-sound, plan-sound}
+use Rattle.runs.proofs.Recover.{begin-sound, recovery-sound}
+use Rattle.runs.proofs.Lifecycle.{acquire-sound, initialize-sound, close-sound}
 
 -- what an opening that passes says of the sizes
 open-fits : (o : Opening) (words area bus : ℕ) → openFits o words area bus ≡ true → rowsFit (o .«row_count») (o .«row_bytes») words ≡ true
@@ -74,40 +72,23 @@ fitted-open o w n =
 
 -- any other call
 leads : (c : Call) (w : World) → Sound w → isOpening c ≡ false → Leads w (next (stepOf c w))
-unfolding stepOf
+unfolding stepOf movedOf begunOf repliedOf
 leads (Open o) w k e = absurd (true≢false e)
-leads (SetDevice d) w k e = same w k _ (w .area)
-leads (SetPort number row) w k e = same w k _ (w .area)
-leads (SetEndpoints slot list) w k e = same w k _ (w .area)
-leads (SetReconcile slot mark) w k e = same w k _ (w .area)
-leads (Acquire reply) w k e = acquire-sound w k reply
-leads (Initialize reply) w k e = initialize-sound w k reply
-leads (Close fresh reply) w k e = close-sound w k (rowsFitIn w) fresh reply
-leads (Submit q bytes given packets first second) w k e = submit-sound w k q bytes given first second (storeFitsIn w) packets
-leads (SubmitPlan q bytes first) w k e = plan-sound w k q bytes first (storeFitsIn w)
-leads (ReplySubmit reply) w k e = reply-sound w k (rowsFitIn w) reply
-leads (Poll id) w k e = poll-sound w k id (rowsFitIn w)
-leads (ReplyPoll reply bytes) w k e = finish-sound w k reply bytes (rowsFitIn w && areaFitsIn w)
-leads (AbortRequest id) w k e = begin-sound w k (rowsFitIn w) id kind.Abort
-leads (ResetEndpoint id preserve) w k e = begin-sound w k (rowsFitIn w) id (kind.Reset preserve)
-leads (ReplyRecovery reply tokens words aborted bytes) w k e = recovery-sound w k tokens words aborted bytes (rowsFitIn w && areaFitsIn w) reply
-leads (Cancel id) w k e = change-sound w k (rowsFitIn w) id change.LogicalCancel cancel-step
-leads (Timeout id) w k e = change-sound w k (rowsFitIn w) id change.Timeout timeout-step
-leads (Reclaim id) w k e = change-sound w k (rowsFitIn w) id change.Reclaim reclaim-step
-leads (Status id) w k e = kept w k
-leads (Reports from) w k e = kept w k
-leads CountReports w k e = kept w k
-leads (CompletedBytes id) w k e = kept w k
-leads HeldCount w k e = kept w k
-leads HeldBytes w k e = kept w k
+leads (Place p) w k e = same w k _ (w .area)
+leads (Move (Acquire reply)) w k e = acquire-sound w k reply
+leads (Move (Initialize reply)) w k e = initialize-sound w k reply
+leads (Move (Close fresh reply)) w k e = close-sound w k (rowsFitIn w) fresh reply
+leads (Begin (Submit q bytes given packets first second)) w k e = submit-sound w k (storeFitsIn w) q bytes given packets first second
+leads (Begin (SubmitPlan q bytes first)) w k e = plan-sound w k (storeFitsIn w) q bytes first
+leads (Begin (Poll id)) w k e = poll-sound w k id (rowsFitIn w)
+leads (Begin (Recover id kind)) w k e = begin-sound w k (rowsFitIn w) id kind
+leads (Reply (ToSubmit reply)) w k e = reply-sound w k (rowsFitIn w) reply
+leads (Reply (ToPoll reply bytes)) w k e = finish-sound w k reply bytes (rowsFitIn w && areaFitsIn w)
+leads (Reply (ToRecovery reply tokens words aborted bytes)) w k e = recovery-sound w k tokens words aborted bytes (rowsFitIn w && areaFitsIn w) reply
+leads (Change id c) w k e = change-sound w k (rowsFitIn w) id (changeBy c) (λ r. change-step r c)
+leads (Read r) w k e = kept w k
 
-pub sound-step : (c : Call) (w : World) → Sound w → isOpening c ≡ false → Sound (next (stepOf c w))
-sound-step c w k e = leads c w k e .sound
-
-pub fitted-step : (c : Call) (w : World) → Sound w → isOpening c ≡ false → Fitted w → Fitted (next (stepOf c w))
-fitted-step c w k e = leads c w k e .fitted
-
-left-leads : (h : Handed) (c : Call) (w : World) → Sound w → Handing h c → Leads w (leftBy h c w)
+pub left-leads : (h : Handed) (c : Call) (w : World) → Sound w → Handing h c → Leads w (leftBy h c w)
 left-leads h c w k e =
     by-handed h c w (λ x v. Leads w v) e
     (λ first bus area.

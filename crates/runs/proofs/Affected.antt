@@ -1,0 +1,64 @@
+-- The rows that a recovery affects, and those that a reply's tokens mean. Assumes nothing.
+use Prim.Native.Nat.{ℕ, zero, suc, _<_}
+use mathlib.Core.Path.{_≡_, _∙_}
+use mathlib.Core.Bool.{true, _&&_}
+use mathlib.Core.List.{List, [], _∷_, map}
+use native.Mathlib.Omega.{arith}
+use native.Mathlib.Nat.{le-of-suc-le-suc}
+use borrow.Author.Tests.{ltb-true}
+use lib.Dec.{ltb}
+use lib.ListN.{length, getD, length-map}
+use Rattle.chain.proofs.Chain.{caseB, both}
+use Rattle.words.proofs.Records.{map-tab, tab-list}
+use Rattle.models.specs.declared.DeviceId.{DeviceId}
+use Rattle.rows.specs.Table.{isHeld, rowIn, idIn, tokenIn}
+use Rattle.rows.specs.declared.Row.{Row}
+use Rattle.scope.specs.Affected.{isAffected, comesBefore, insertRow, joined, affectedUpTo, affectedOf, tokensOf}
+use Rattle.scope.specs.Scope.{slotOf, isIn, meant}
+use Rattle.scope.specs.Returned.{Returned, returnedAt, returnedOf}
+use Rattle.scope.proofs.Affecting.{affected-bounded}
+
+pub returned-tokens : (tokens words : List ℕ) → map (λ (e : Returned). e .token) (returnedOf tokens words) ≡ tokens
+unfolding returnedOf
+returned-tokens tokens words = map-tab (λ (e : Returned). e .token) (returnedAt tokens words) (length tokens) ∙ tab-list tokens 0
+
+-- ---- an affected row is held
+module _ (d : DeviceId) (endpoint : ℕ) (rows : List Row) where
+  abbrev AllHeld : List ℕ → Type 0
+  AllHeld l = (k : ℕ) → k < length l → isAffected d endpoint (rowIn rows (getD l k 0)) ≡ true
+
+  cons-held : (i : ℕ) (l : List ℕ) → isAffected d endpoint (rowIn rows i) ≡ true → AllHeld l → AllHeld (i ∷ l)
+  cons-held i l h a zero lt = h
+  cons-held i l h a (suc k) lt = a k (le-of-suc-le-suc lt)
+
+  insert-held : (i : ℕ) (l : List ℕ) → isAffected d endpoint (rowIn rows i) ≡ true → AllHeld l → AllHeld (insertRow rows i l)
+  insert-held i [] h a = cons-held i [] h a
+  insert-held i (j ∷ js) h a = caseB (comesBefore rows (idIn rows i) j)
+      (λ e. rw e (cons-held i (j ∷ js) h a))
+      (λ e. rw e (cons-held j (insertRow rows i js) (a 0 (omega arith)) (insert-held i js h (λ k lt. a (suc k) (omega arith)))))
+
+  pub affected-is-held : (r : Row) → isAffected d endpoint r ≡ true → isHeld r ≡ true
+  unfolding isAffected
+  affected-is-held r e = both _ _ (both _ _ e .0) .0
+
+  up-to-held : (n : ℕ) → AllHeld (affectedUpTo d endpoint rows n)
+  unfolding joined
+  up-to-held zero = λ k lt. absurd (omega arith)
+  up-to-held (suc n) = caseB (isAffected d endpoint (rowIn rows n) && ltb (length (affectedUpTo d endpoint rows n)) 128)
+      (λ e. rw e (insert-held n (affectedUpTo d endpoint rows n) (both _ _ e .0) (up-to-held n)))
+      (λ e. rw e (up-to-held n))
+
+  affected-held : AllHeld (affectedOf d endpoint rows)
+  unfolding affectedOf
+  affected-held = up-to-held (length rows)
+
+  -- the row that an expected token means is affected
+  module _ (t : ℕ) (e : isIn t (tokensOf rows (affectedOf d endpoint rows)) ≡ true) where
+    pub slot-in : slotOf (tokensOf rows (affectedOf d endpoint rows)) t < length (affectedOf d endpoint rows)
+    slot-in = omega (arith, ltb-true (slotOf (tokensOf rows (affectedOf d endpoint rows)) t) (length (tokensOf rows (affectedOf d endpoint rows))) e, length-map (affectedOf d endpoint rows) (tokenIn rows))
+
+    pub meant-below : meant (affectedOf d endpoint rows) (tokensOf rows (affectedOf d endpoint rows)) t < length rows
+    meant-below = affected-bounded d endpoint rows (slotOf (tokensOf rows (affectedOf d endpoint rows)) t) slot-in
+
+    pub meant-affected : isAffected d endpoint (rowIn rows (meant (affectedOf d endpoint rows) (tokensOf rows (affectedOf d endpoint rows)) t)) ≡ true
+    meant-affected = affected-held (slotOf (tokensOf rows (affectedOf d endpoint rows)) t) slot-in

@@ -1,0 +1,41 @@
+-- What a sound session says of the row in flight, and of a store while the controller is Closed. Assumes nothing.
+use Prim.Native.Nat.{ℕ, _<_}
+use mathlib.Core.Bool.{true}
+use mathlib.Core.Path.{_≡_, sym, ap, _∙_, subst}
+use native.Mathlib.Omega.{arith}
+use lib.ListN.{length}
+use Rattle.chain.specs.Lists.{count}
+use Rattle.chain.proofs.Lists.{sum-le}
+use Rattle.models.specs.Requests.{isPending}
+use Rattle.models.specs.declared.RequestId.{RequestId}
+use Rattle.models.specs.declared.RequestState.{RequestState}
+use Rattle.rows.specs.Table.{isHeld}
+use Rattle.ledger.specs.Search.{isAt}
+use Rattle.session.specs.Session.{isClosed}
+use Rattle.session.specs.declared.InFlight.{InFlight}
+use Rattle.session.specs.declared.InFlight.the-variants as flight
+use Rattle.calls.specs.Step.{World}
+use Rattle.runs.specs.Sound.{worldRow, InFlightAt, FlightSound, isUsed, Sound}
+use Rattle.runs.proofs.Ids.{at-used, at-own}
+use Rattle.runs.proofs.Rows.{one, held-less}
+use Rattle.runs.proofs.Lifecycle.{closed-bare}
+
+module _ (w : World) (k : Sound w) where
+  -- a submission or a poll that waits: the row that its id finds is Pending
+  module _ (id : RequestId) (i : ℕ) (h : i < length (w .store .rows)) (hit : isAt id (worldRow w i) ≡ true) where
+    at-flight : (state : RequestState → Type 0) → InFlightAt (w .store .rows) id state → state (worldRow w i .state)
+    at-flight state f =
+        subst (λ (n : ℕ). state (worldRow w n .state))
+        (k .distinct (f .index) i (f .below) h (f .used) (at-used id (worldRow w i) hit) (f .own ∙ sym (at-own id (worldRow w i) hit))) (f .state-is)
+
+    in-flight : (f : InFlight) → w .session .«in_flight» ≡ f → FlightSound f (w .store .rows)
+    in-flight f e = subst (λ (g : InFlight). FlightSound g (w .store .rows)) e (k .flight)
+
+    pub submission-pending : w .session .«in_flight» ≡ flight.Submission id → isPending (worldRow w i .state) ≡ true
+    submission-pending e = ap isPending (at-flight _ (in-flight (flight.Submission id) e))
+
+    pub poll-pending : w .session .«in_flight» ≡ flight.Poll id → isPending (worldRow w i .state) ≡ true
+    poll-pending e = at-flight _ (in-flight (flight.Poll id) e)
+
+  pub closed-unheld : isClosed (w .session .state) ≡ true → count isHeld (w .store .rows) ≡ 0
+  closed-unheld e = omega (arith, k .empty (closed-bare (w .session .state) e), sum-le (one isHeld) (one isUsed) (w .store .rows) held-less)
