@@ -17,8 +17,8 @@ use Rattle.scope.specs.Returned.{completionWords, readOptionError, readCompleti
 use Rattle.session_words.specs.State.{idAt}
 use Rattle.session.specs.declared.RecoveryKind.the-variants as kind
 use Rattle.calls.specs.Calls.{Call, Open, Place, Device, Port, Endpoints, Reconcile, Move, Acquire, Initialize, Close, Begin, Submit, SubmitPlan, Recover, Reply, ToSubmit, ToPoll, ToRecovery, Change, Cancel, Timeout, Read, Reports, HeldCount, HeldBytes}
-use Rattle.call_words.specs.Parts.{isZero, isFlag, isByte, areZero, byFlag, zeros, idWords, backendCompletionWords, isError, isOptionError, readReading, isCompletion}
-use Rattle.call_words.specs.Form.{has, isOpening, isSetDevice, isSetPort, isSetEndpoints, isSetReconcile, isAcquire, isInitialize, isClose, isSubmit, isPlan, isSubmitReply, isPollReply, isReports, isReset, isRecovered, isRecoveryReply, isPlacing, isMoving, isSubmission, isReplying, isReporting, isRecovering, isCall}
+use Rattle.call_words.specs.Parts.{isZero, isFlag, isByte, areZero, byFlag, zeros, requestIdWords, backendCompletionWords, isError, isOptionError, readReading, isCompletion}
+use Rattle.call_words.specs.Form.{has, isOpenCall, isSetDevice, isSetPort, isSetEndpoints, isSetReconcile, isAcquire, isInitialize, isClose, isSubmit, isPlan, isSubmitReply, isPollReply, isReports, isReset, isRecovered, isRecoveryReply, isPlacing, isMoving, isSubmission, isReplying, isReporting, isRecoveryCall, isCall}
 use Rattle.call_words.specs.Arguments.{readOpening, readSnapshot, readPortRow, readAcquireReply, readSpec, readPlan, readSubmitReply, readPollReply, readOptionId, readRecoveryReply, readCompleted, readCompletions, readAborted}
 use Rattle.call_words.specs.Decode.{placingOf, movingOf, submissionOf, replyingOf, changingOf, reportingOf, recoveringOf, callOf}
 use Rattle.call_words.specs.Encode.{recoveryReplyWords, callWords}
@@ -26,7 +26,7 @@ use Rattle.call_words.proofs.Told.{and4, opening-told, device-told, por
 use Rattle.call_words.proofs.PartWords.{word, from, cut, whole, by-flag, zeros-words, flag-word, transfer-word, direction-word, device-state-word, profile-word, status-word, byte-word, option-u32-word, number-words, error-words, setup-words, option-error-words, option-setup-words, reading-words, stage-words, ports-words, completion-words}
 
 -- the way that two chains with the same tests take
-pub same-way : {A : Type 0} (P : A → Type 0) (b : Bool) {x y : Bool} {u v : A} → (b ≡ true → x ≡ true → P u) → (b ≡ false → y ≡ true → P v)
+same-way : {A : Type 0} (P : A → Type 0) (b : Bool) {x y : Bool} {u v : A} → (b ≡ true → x ≡ true → P u) → (b ≡ false → y ≡ true → P v)
     → (x if b else y) ≡ true → P (u if b else v)
 unfolding _if_else_
 same-way P true a c = a refl
@@ -51,7 +51,7 @@ module _ (w : List ℕ) where
   abbrev after : ℕ → ℕ → ℕ
   after at = from (word w) at
 
-  opening-says : getD w 0 0 ≡ 0 → isOpening w ≡ true → Says (Open (readOpening w))
+  opening-says : getD w 0 0 ≡ 0 → isOpenCall w ≡ true → Says (Open (readOpening w))
   unfolding readOpening callWords
   opening-says e t =
       let p = opening-told w t in
@@ -157,7 +157,7 @@ module _ (w : List ℕ) where
       (λ k z. let q = both (isZero w 2) (isError w 3) z in
       rw (k, error-words (after 3) (q .1)) (rw (k, eqb-true (getD w 2 0) 0 (q .0)) at h))
 
-  id-says : (n : ℕ) → getD w 0 0 ≡ n → has w 4 ≡ true → n ∷ idWords (idAt w 1) ≡ w
+  id-says : (n : ℕ) → getD w 0 0 ≡ n → has w 4 ≡ true → n ∷ requestIdWords (idAt w 1) ≡ w
   id-says n e t = all 3 n t e
 
   polled : (k : ℕ) → getD w 1 0 ≡ k → has w 12 ≡ true → getD w 0 0 ≡ 12 → 12 ∷ k ∷ tab (after 2) 10 ≡ w
@@ -278,8 +278,8 @@ module _ (w : List ℕ) where
         if-by Says (Read HeldCount) (eqb n 20) (Read HeldBytes) (λ q. count-says 20 (to 20 q) t) λ n20.
         count-says 21 (e ∙ omega (arith, eqb-false n 16 n16, eqb-false n 17 n17, eqb-false n 18 n18, eqb-false n 19 n19, eqb-false n 20 n20)) t
 
-    recovering-says : (bytes : List ℕ) → 22 ≤ n → n ≤ 24 → isRecovering n w ≡ true → Says (recoveringOf n w bytes)
-    unfolding isRecovering recoveringOf callWords
+    recovering-says : (bytes : List ℕ) → 22 ≤ n → n ≤ 24 → isRecoveryCall n w ≡ true → Says (recoveringOf n w bytes)
+    unfolding isRecoveryCall recoveringOf callWords
     recovering-says bytes l h =
         same-way Says (eqb n 22) (λ t. id-says 22 (to 22 t)) λ n22.
         same-way Says (eqb n 23) (λ t. reset-says (to 23 t)) λ n23.
@@ -295,7 +295,7 @@ module _ (w : List ℕ) where
       same-way Says (leb n 12) (λ d. replying-says n refl bytes (leb-false n 9 c) (leb-true n 12 d)) λ d.
       same-way Says (leb n 15) (λ f. changing-says n refl (leb-false n 12 d) (leb-true n 15 f)) λ f.
       same-way Says (leb n 21) (λ g. reporting-says n refl (leb-false n 15 f) (leb-true n 21 g)) λ g t.
-      let z = known (leb n 24) (isRecovering n w) t in
+      let z = known (leb n 24) (isRecoveryCall n w) t in
       recovering-says n refl bytes (leb-false n 21 g) (leb-true n 24 (z .0)) (z .1)
 
 -- so different words are different calls

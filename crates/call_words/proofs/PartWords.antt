@@ -20,7 +20,7 @@ use Rattle.rows.specs.Codec.{setupWords}
 use Rattle.rows.specs.declared.codec.SetupWords.{SetupWords}
 use Rattle.scope.specs.Returned.{readError, readOptionError, readCompletion}
 use Rattle.call_words.proofs.Told.{and4, and5}
-use Rattle.call_words.specs.Parts.{areZero, byFlag, zeros, isOptionNumber, isError, errorWords, isOptionError, optionErrorWords, isSetup, isOptionSetup, readOptionSetup, isReading, readReading, readingWords, isCompletion, backendCompletionWords, readProfile, profileWord, isStage, readStage, stageWords, readStatus, statusWord}
+use Rattle.call_words.specs.Parts.{areZero, byFlag, zeros, isOptionNumber, isError, errorWords, isOptionError, errorOptionWords, isSetup, isOptionSetup, readOptionSetup, isReading, readReading, readingWords, isCompletion, backendCompletionWords, readProfile, controlProfileWord, isStage, readStage, stageWords, readStatus, statusWord}
 
 -- ---- one word
 
@@ -47,8 +47,8 @@ module _ (x : ℕ) where
   pub device-state-word : leb x 6 ≡ true → deviceStateWord (deviceStateOf x) ≡ x
   device-state-word t = coded deviceStateWord deviceStateOf 7 refl x t (omega arith)
 
-  pub profile-word : leb x 1 ≡ true → profileWord (readProfile x) ≡ x
-  profile-word t = coded profileWord readProfile 2 refl x t (omega arith)
+  pub profile-word : leb x 1 ≡ true → controlProfileWord (readProfile x) ≡ x
+  profile-word t = coded controlProfileWord readProfile 2 refl x t (omega arith)
 
   pub status-word : leb x 2 ≡ true → statusWord (readStatus x) ≡ x
   status-word t = coded statusWord readStatus 3 refl x t (omega arith)
@@ -122,7 +122,7 @@ module _ (f : ℕ → ℕ) where
       )
 
 module _ (f : ℕ → ℕ) where
-  pub option-error-words : isOptionError (tab f 5) 0 ≡ true → optionErrorWords (readOptionError (tab f 5) 0) ≡ tab f 5
+  pub option-error-words : isOptionError (tab f 5) 0 ≡ true → errorOptionWords (readOptionError (tab f 5) 0) ≡ tab f 5
   option-error-words t =
       by-flag (f 0) (areZero (tab f 5) 1 4) (isError (tab f 5) 1) t (λ e z. rw (e, zeros-words (from f 1) 4 z)) (λ e z. rw (e, error-words (from f 1) z))
 

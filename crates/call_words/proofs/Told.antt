@@ -9,7 +9,7 @@ use Rattle.chain.specs.Lists.{anyIn}
 use Rattle.chain.proofs.Chain.{both, and3}
 use Rattle.scope.specs.Returned.{completionWords}
 use Rattle.call_words.specs.Parts.{atMost, isZero, isFlag, isByte, isOption, areZero, byFlag, isBusId, isOptionNumber, isError, isOptionError, isSetup, isOptionSetup, isReading, isStage}
-use Rattle.call_words.specs.Form.{has, isOpening, isSetDevice, isSetPort, isSetEndpoints, isSetReconcile, isAcquire, isInitialize, isClose, isSubmit, isPlan, isSubmitReply, isReports, isReset, areCompletions, isRecovered, isRecoveryReply}
+use Rattle.call_words.specs.Form.{has, isOpenCall, isSetDevice, isSetPort, isSetEndpoints, isSetReconcile, isAcquire, isInitialize, isClose, isSubmit, isPlan, isSubmitReply, isReports, isReset, areCompletions, isRecovered, isRecoveryReply}
 
 pub and4 : (a b c d : Bool) → (a && b && c && d) ≡ true → (a ≡ true) × (b ≡ true) × (c ≡ true) × (d ≡ true)
 and4 a b c d t = let p = both (a && b && c) d t in let q = and3 a b c (p .0) in (q .0, q .1, q .2, p .1)
@@ -18,8 +18,8 @@ pub and5 : (a b c d e : Bool) → (a && b && c && d && e) ≡ true → (a ≡ tr
 and5 a b c d e t = let p = both (a && b && c && d) e t in let q = and4 a b c d (p .0) in (q .0, q .1, q .2, q .3, p .1)
 
 module _ (w : List ℕ) where
-  pub opening-told : isOpening w ≡ true → (has w 9 ≡ true) × (isOptionNumber w 3 ≡ true) × (byFlag (getD w 5 0) (isZero w 6) (isByte w 6) ≡ true)
-  unfolding isOpening
+  pub opening-told : isOpenCall w ≡ true → (has w 9 ≡ true) × (isOptionNumber w 3 ≡ true) × (byFlag (getD w 5 0) (isZero w 6) (isByte w 6) ≡ true)
+  unfolding isOpenCall
   opening-told t = and3 _ _ _ t
 
   pub device-told : isSetDevice w ≡ true → (has w 8 ≡ true) × (isBusId w 1 ≡ true) × (isBusId w 4 ≡ true) × (atMost w 7 6 ≡ true)

@@ -57,8 +57,8 @@ use Rattle.submissions.specs.declared.SubmitReply.the-variants as submit
 use Rattle.recovery.specs.declared.RecoveryReply.{RecoveryReply}
 use Rattle.recovery.specs.declared.RecoveryReply.the-variants as recovery
 use Rattle.calls.specs.Calls.{Call, Open, Placing, Place, Device, Port, Endpoints, Reconcile, Moving, Move, Acquire, Initialize, Close, Beginning, Begin, Submit, SubmitPlan, Poll, Recover, Replying, Reply, ToSubmit, ToPoll, ToRecovery, Changing, Change, Cancel, Timeout, Reclaim, Reading, Read, Status, Reports, CountReports, CompletedBytes, HeldCount, HeldBytes}
-use Rattle.call_words.specs.Parts.{isZero, isFlag, isByte, isHalf, areZero, deviceWords, packetWords, isError, errorWords, isOptionError, optionErrorWords, isOptionSetup, isReading, readReading, readingWords, isCompletion, backendCompletionWords, readStage, stageWords, readProfile, profileWord, readStatus, statusWord}
-use Rattle.call_words.specs.Form.{has, isOpening, isSetDevice, isSetPort, isSetEndpoints, isSetReconcile, isAcquire, isInitialize, isClose, isSubmit, isPlan, isSubmitReply, isPollReply, isReports, isReset, isRecovered, isRecoveryReply, isPlacing, isMoving, isSubmission, isReplying, isReporting, isRecovering, isCall}
+use Rattle.call_words.specs.Parts.{isZero, isFlag, isByte, isHalf, areZero, deviceIdWords, packetWords, isError, errorWords, isOptionError, errorOptionWords, isOptionSetup, isReading, readReading, readingWords, isCompletion, backendCompletionWords, readStage, stageWords, readProfile, controlProfileWord, readStatus, statusWord}
+use Rattle.call_words.specs.Form.{has, isOpenCall, isSetDevice, isSetPort, isSetEndpoints, isSetReconcile, isAcquire, isInitialize, isClose, isSubmit, isPlan, isSubmitReply, isPollReply, isReports, isReset, isRecovered, isRecoveryReply, isPlacing, isMoving, isSubmission, isReplying, isReporting, isRecoveryCall, isCall}
 use Rattle.call_words.specs.Arguments.{readOpening, readSnapshot, readPortRow, readAcquireReply, readSpec, readPlan, readSubmitReply, readPollReply, readOptionId, readRecoveryReply, readCompleted, readCompletions, readAborted}
 use Rattle.call_words.specs.Decode.{placingOf, movingOf, submissionOf, replyingOf, changingOf, reportingOf, recoveringOf, callOf}
 use Rattle.call_words.specs.Encode.{specWords, recoveryReplyWords, callWords, callBytes}
@@ -67,7 +67,7 @@ use Rattle.call_words.proofs.Told.{and4, and5, opening-told, device-tol
 use Rattle.call_words.proofs.PartWords.{byte-word, half-word, full-word, ports-words}
 
 -- ---- one word
-pub category-back : (x : ErrorCategory) → categoryOf (categoryWord x) ≡ x
+category-back : (x : ErrorCategory) → categoryOf (categoryWord x) ≡ x
 category-back category.Validation = refl
 category-back category.Unsupported = refl
 category-back category.OperatingSystem = refl
@@ -76,21 +76,21 @@ category-back category.Timeout = refl
 category-back category.Disconnect = refl
 category-back category.RecoveryRequired = refl
 
-pub direction-back : (x : Direction) → directionOf (directionWord x) ≡ x
+direction-back : (x : Direction) → directionOf (directionWord x) ≡ x
 direction-back direction.In = refl
 direction-back direction.Out = refl
 
-pub transfer-back : (x : TransferType) → transferOf (transferWord x) ≡ x
+transfer-back : (x : TransferType) → transferOf (transferWord x) ≡ x
 transfer-back transfer.Control = refl
 transfer-back transfer.Bulk = refl
 transfer-back transfer.Interrupt = refl
 transfer-back transfer.Isochronous = refl
 
-pub option-u32-says : (o : OptionU32) → leb (optionU32Word o) (2 ^ 32) ≡ true → optionU32Of (optionU32Word o) ≡ o
+option-u32-says : (o : OptionU32) → leb (optionU32Word o) (2 ^ 32) ≡ true → optionU32Of (optionU32Word o) ≡ o
 option-u32-says u32.None t = refl
 option-u32-says (u32.Some v) t = option-u32-back v (omega (arith, leb-true (v + 1) (2 ^ 32) t))
 
-pub signed-says : (v : ℤ) → isSigned (i32.Some v) ≡ true → signedOf (signedWord v) ≡ v
+signed-says : (v : ℤ) → isSigned (i32.Some v) ≡ true → signedOf (signedWord v) ≡ v
 unfolding signedOf signedWord
 signed-says (pos n) t =
     let h = ltb-true n (2 ^ 31) t in
@@ -105,7 +105,7 @@ signed-says (negsuc n) t =
     let g : 2 ^ 31 ≤ y = omega arith in
     rw (low 32 s, le-ltb y (2 ^ 31) g) (ap negsuc (omega arith))
 
-pub option-i32-says : (o : OptionI32) → isSigned o ≡ true → optionI32Of (optionI32Word o) ≡ o
+option-i32-says : (o : OptionI32) → isSigned o ≡ true → optionI32Of (optionI32Word o) ≡ o
 unfolding optionI32Of
 option-i32-says i32.None t = refl
 option-i32-says (i32.Some v) t =
@@ -113,24 +113,24 @@ option-i32-says (i32.Some v) t =
     let e : y + 1 - 1 ≡ y = omega arith in
     rw (ne-eqb (y + 1) 0 (omega arith), e, signed-says v t)
 
-pub number-says : (o : OptionU64) → optionU64Of (optionU64Words o .present) (optionU64Words o .value) ≡ o
+number-says : (o : OptionU64) → optionU64Of (optionU64Words o .present) (optionU64Words o .value) ≡ o
 number-says u64.None = refl
 number-says (u64.Some v) = refl
 
-pub error-says : (e : OperationError) → isError (errorWords e) 0 ≡ true → isSigned (e .«os_code») ≡ true → readError (errorWords e) 0 ≡ e
+error-says : (e : OperationError) → isError (errorWords e) 0 ≡ true → isSigned (e .«os_code») ≡ true → readError (errorWords e) 0 ≡ e
 error-says e t s =
     let p = and4 (leb (categoryWord (e .category)) 6) (leb (e .message) 65535) (leb (optionI32Word (e .«os_code»)) 4294967296) (leb (optionU32Word (e .«completion_code»)) 4294967296) t in
     rw (category-back (e .category), half-word (e .message) (p .1), option-i32-says (e .«os_code») s, option-u32-says (e .«completion_code») (p .3))
 
-pub reading-says : (r : PortReading) → isReading (readingWords r) 0 ≡ true → signedReading r ≡ true → readReading (readingWords r) 0 ≡ r
+reading-says : (r : PortReading) → isReading (readingWords r) 0 ≡ true → signedReading r ≡ true → readReading (readingWords r) 0 ≡ r
 reading-says (reading.Word v) t s = rw (full-word v (both (leb v 4294967295) true t .0))
 reading-says (reading.Error e) t s = ap reading.Error (error-says e t s)
 
-pub reading-shape : (r : PortReading) → readingWords r ≡ tab (λ (k : ℕ). getD (readingWords r) k 0) 6
+reading-shape : (r : PortReading) → readingWords r ≡ tab (λ (k : ℕ). getD (readingWords r) k 0) 6
 reading-shape (reading.Word v) = refl
 reading-shape (reading.Error e) = refl
 
-pub option-setup-says : (o : OptionSetup) → isOptionSetup (let p = setupWords o in p .present ∷ p .«request_type» ∷ p .request ∷ p .value ∷ p .index ∷ p .length ∷ []) 0 ≡ true
+option-setup-says : (o : OptionSetup) → isOptionSetup (let p = setupWords o in p .present ∷ p .«request_type» ∷ p .request ∷ p .value ∷ p .index ∷ p .length ∷ []) 0 ≡ true
     → setupOf (setupWords o .present) (setupWords o .«request_type») (setupWords o .request) (setupWords o .value) (setupWords o .index) (setupWords o .length) ≡ o
 option-setup-says setup.None t = refl
 option-setup-says (setup.Some x) t =
@@ -143,7 +143,7 @@ option-setup-says (setup.Some x) t =
       half-word (x .length) (p .4),
     )
 
-pub device-state-back : (x : DeviceState) → deviceStateOf (deviceStateWord x) ≡ x
+device-state-back : (x : DeviceState) → deviceStateOf (deviceStateWord x) ≡ x
 device-state-back device.Observed = refl
 device-state-back device.PortReset = refl
 device-state-back device.SlotEnabled = refl
@@ -152,32 +152,32 @@ device-state-back device.Addressed = refl
 device-state-back device.Configured = refl
 device-state-back device.Disconnected = refl
 
-pub profile-back : (x : ControlProfile) → readProfile (profileWord x) ≡ x
+profile-back : (x : ControlProfile) → readProfile (controlProfileWord x) ≡ x
 profile-back profile.Compliant = refl
 profile-back profile.DeviceCompatibility = refl
 
-pub status-back : (x : OptionDirection) → readStatus (statusWord x) ≡ x
+status-back : (x : OptionDirection) → readStatus (statusWord x) ≡ x
 status-back status.None = refl
 status-back (status.Some direction.In) = refl
 status-back (status.Some direction.Out) = refl
 
-pub stage-says : (o : OptionStage) → readStage (stageWords o) 0 ≡ o
+stage-says : (o : OptionStage) → readStage (stageWords o) 0 ≡ o
 stage-says stage.None = refl
 stage-says (stage.Some x) = rw (direction-back (x .direction))
 
-pub stage-shape : (o : OptionStage) → stageWords o ≡ tab (λ (k : ℕ). getD (stageWords o) k 0) 3
+stage-shape : (o : OptionStage) → stageWords o ≡ tab (λ (k : ℕ). getD (stageWords o) k 0) 3
 stage-shape stage.None = refl
 stage-shape (stage.Some x) = refl
 
-pub option-error-says : (o : OptionError) → isOptionError (optionErrorWords o) 0 ≡ true → signedError o ≡ true → readOptionError (optionErrorWords o) 0 ≡ o
+option-error-says : (o : OptionError) → isOptionError (errorOptionWords o) 0 ≡ true → signedError o ≡ true → readOptionError (errorOptionWords o) 0 ≡ o
 option-error-says error.None t s = refl
 option-error-says (error.Some e) t s = ap error.Some (error-says e t s)
 
-pub option-error-shape : (o : OptionError) → optionErrorWords o ≡ tab (λ (k : ℕ). getD (optionErrorWords o) k 0) 5
+option-error-shape : (o : OptionError) → errorOptionWords o ≡ tab (λ (k : ℕ). getD (errorOptionWords o) k 0) 5
 option-error-shape error.None = refl
 option-error-shape (error.Some e) = refl
 
-pub completion-says : (x : BackendCompletion) → signedError (x .error) ≡ true → isCompletion (backendCompletionWords x) ≡ true → readCompletion (backendCompletionWords x) ≡ x
+completion-says : (x : BackendCompletion) → signedError (x .error) ≡ true → isCompletion (backendCompletionWords x) ≡ true → readCompletion (backendCompletionWords x) ≡ x
 completion-says x s =
     rw (option-error-shape (x .error)) λ t.
     let p = and5 _ _ _ _ _ t in
@@ -189,7 +189,7 @@ completion-says x s =
       flag-back (x .quiescent),
     )
 
-pub recovered-says : (r : RecoveryReply) → isRecovered (24 ∷ recoveryReplyWords r) ≡ true → signedRecovery r ≡ true → readRecoveryReply (24 ∷ recoveryReplyWords r) ≡ r
+recovered-says : (r : RecoveryReply) → isRecovered (24 ∷ recoveryReplyWords r) ≡ true → signedRecovery r ≡ true → readRecoveryReply (24 ∷ recoveryReplyWords r) ≡ r
 unfolding readRecoveryReply
 recovered-says (recovery.Done x) t s =
     let w : List ℕ = 24 ∷ recoveryReplyWords (recovery.Done x) in
@@ -197,7 +197,7 @@ recovered-says (recovery.Done x) t s =
     rw (flag-back (x .«restart_ready»), option-error-says (x .error) (p .1) s)
 recovered-says (recovery.Error e) t s = ap recovery.Error (error-says e t s)
 
-pub recovery-shape : (r : RecoveryReply) → recoveryReplyWords r ≡ tab (λ (k : ℕ). getD (recoveryReplyWords r) k 0) 7
+recovery-shape : (r : RecoveryReply) → recoveryReplyWords r ≡ tab (λ (k : ℕ). getD (recoveryReplyWords r) k 0) 7
 recovery-shape (recovery.Done x) = ap (λ (l : List ℕ). 0 ∷ flagWord (x .«restart_ready») ∷ l) (option-error-shape (x .error))
 recovery-shape (recovery.Error e) = refl
 
@@ -206,15 +206,15 @@ module _ (w a b c : List ℕ) (d : drop 10 w ≡ (a ++ b) ++ c) (m : ℕ) (em : 
   tail-is : drop (10 + length a) w ≡ b ++ c
   tail-is = sym (drop-drop (length a) 10 w) ∙ ap (λ (l : List ℕ). drop (length a) l) (d ∙ append-assoc a b c) ∙ drop-at a (b ++ c) (length a) refl
 
-  pub completed-is : part 10 (length a) w ≡ a
+  completed-is : part 10 (length a) w ≡ a
   unfolding part
   completed-is = ap (λ (l : List ℕ). take (length a) l) (d ∙ append-assoc a b c) ∙ take-at a (b ++ c) (length a) refl
 
-  pub completions-are : part (10 + length a) (m * completionWords) w ≡ b
+  completions-are : part (10 + length a) (m * completionWords) w ≡ b
   unfolding part
   completions-are = rw tail-is (take-at b c (m * completionWords) (sym em))
 
-  pub aborted-is : drop (10 + length a + m * completionWords) w ≡ c
+  aborted-is : drop (10 + length a + m * completionWords) w ≡ c
   aborted-is = sym (drop-drop (m * completionWords) (10 + length a) w) ∙ rw tail-is (drop-at b c (m * completionWords) (sym em))
 
 -- ---- calls
@@ -222,7 +222,7 @@ abbrev Back : Call → Type 0
 Back c = isCall (callWords c) ≡ true → callOf (callWords c) (callBytes c) ≡ c
 
 open-back : (o : Opening) → Back (Open o)
-unfolding isCall isPlacing isOpening callOf placingOf readOpening callWords _if_else_
+unfolding isCall isPlacing isOpenCall callOf placingOf readOpening callWords _if_else_
 open-back o t =
     let p = opening-told (callWords (Open o)) t in
     let q = ports-words (λ (k : ℕ). getD (flagWord (o .«has_ports») ∷ o .«port_count» ∷ []) k 0) (p .2) in
@@ -282,7 +282,7 @@ unfolding isCall isSubmission isPlan callOf submissionOf readPlan callWords _if_
 plan-back x bytes r s =
     rw (stage-shape (x .«data_stage»)) λ t.
     let w : List ℕ =
-    9 ∷ deviceWords (x .device) ++ profileWord (x .profile) ∷ packetWords (x .setup)
+    9 ∷ deviceIdWords (x .device) ++ controlProfileWord (x .profile) ∷ packetWords (x .setup)
     ++ tab (λ (k : ℕ). getD (stageWords (x .«data_stage»)) k 0) 3 ++ statusWord (x .«status_direction») ∷ [] ++ readingWords r in
     let p = plan-told w t in
     let u = and5 (isByte w 5) (isByte w 6) (isHalf w 7) (isHalf w 8) (isHalf w 9) (p .3) in
@@ -300,7 +300,7 @@ plan-back x bytes r s =
     )
 
 begin-back : (b : Beginning) → typedBeginning b ≡ true → Back (Begin b)
-unfolding isCall isReplying isRecovering isReset callOf replyingOf recoveringOf callWords _if_else_
+unfolding isCall isReplying isRecoveryCall isReset callOf replyingOf recoveringOf callWords _if_else_
 begin-back (Submit q bytes given packets first second) s t =
     let p = both (signedReading first) (signedReading second) s in
     submit-back q bytes given packets first second (p .0) (p .1) t
@@ -310,7 +310,7 @@ begin-back (Recover id kind.Abort) s t = refl
 begin-back (Recover id (kind.Reset preserve)) s t = rw (flag-back preserve)
 
 recovery-back : (r : RecoveryReply) (a b c bytes : List ℕ) → signedRecovery r ≡ true → length b % completionWords ≡ 0 → Back (Reply (ToRecovery r a b c bytes))
-unfolding isCall isRecovering isRecoveryReply callOf recoveringOf readRecoveryReply readCompleted readCompletions readAborted callWords _if_else_
+unfolding isCall isRecoveryCall isRecoveryReply callOf recoveringOf readRecoveryReply readCompleted readCompletions readAborted callWords _if_else_
 recovery-back r a b c bytes s whole =
     let m = length b / completionWords in
     let em : m * completionWords ≡ length b = omega arith in

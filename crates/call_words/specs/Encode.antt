@@ -20,7 +20,7 @@ use Rattle.scope.specs.Returned.{completionWords}
 use Rattle.recovery.specs.declared.RecoveryReply.{RecoveryReply}
 use Rattle.recovery.specs.declared.RecoveryReply.the-variants as recovery
 use Rattle.calls.specs.Calls.{Call, Open, Placing, Place, Device, Port, Endpoints, Reconcile, Moving, Move, Acquire, Initialize, Close, Beginning, Begin, Submit, SubmitPlan, Poll, Recover, Replying, Reply, ToSubmit, ToPoll, ToRecovery, Changing, Change, Cancel, Timeout, Reclaim, Reading, Read, Status, Reports, CountReports, CompletedBytes, HeldCount, HeldBytes}
-use Rattle.call_words.specs.Parts.{zeros, idWords, deviceWords, portIdWords, optionNumberWords, errorWords, optionErrorWords, packetWords, optionSetupWords, readingWords, backendCompletionWords, profileWord, stageWords, statusWord}
+use Rattle.call_words.specs.Parts.{zeros, requestIdWords, deviceIdWords, portIdWords, optionNumberWords, errorWords, errorOptionWords, packetWords, optionSetupWords, readingWords, backendCompletionWords, controlProfileWord, stageWords, statusWord}
 
 -- ---- the arguments of several words
 
@@ -35,11 +35,11 @@ acquireWords (acquire.Failed e retained) = 1 ∷ flagWord retained ∷ errorWord
 
 abbrev pub specWords : RequestSpec → List ℕ
 specWords q =
-    deviceWords (q .device) ++ q .endpoint ∷ transferWord (q .«transfer_type») ∷ directionWord (q .direction) ∷ q .length ∷ optionSetupWords (q .setup)
+    deviceIdWords (q .device) ++ q .endpoint ∷ transferWord (q .«transfer_type») ∷ directionWord (q .direction) ∷ q .length ∷ optionSetupWords (q .setup)
 
-abbrev pub planWords : ControlPlan → List ℕ
-planWords p =
-    deviceWords (p .device) ++ profileWord (p .profile) ∷ packetWords (p .setup)
+abbrev pub controlPlanWords : ControlPlan → List ℕ
+controlPlanWords p =
+    deviceIdWords (p .device) ++ controlProfileWord (p .profile) ∷ packetWords (p .setup)
     ++ stageWords (p .«data_stage») ++ statusWord (p .«status_direction») ∷ []
 
 abbrev pub submitReplyWords : SubmitReply → List ℕ
@@ -53,32 +53,32 @@ pollReplyWords (poll.Completion x) = 2 ∷ backendCompletionWords x
 
 abbrev pub optionIdWords : OptionId → List ℕ
 optionIdWords option.None = zeros 4
-optionIdWords (option.Some id) = 1 ∷ idWords id
+optionIdWords (option.Some id) = 1 ∷ requestIdWords id
 
 abbrev pub recoveryReplyWords : RecoveryReply → List ℕ
-recoveryReplyWords (recovery.Done x) = 0 ∷ flagWord (x .«restart_ready») ∷ optionErrorWords (x .error)
+recoveryReplyWords (recovery.Done x) = 0 ∷ flagWord (x .«restart_ready») ∷ errorOptionWords (x .error)
 recoveryReplyWords (recovery.Error e) = 1 ∷ 0 ∷ 0 ∷ errorWords e
 
 -- ---- by group
 
 abbrev pub placingWords : Placing → List ℕ
-placingWords (Device d) = 1 ∷ deviceWords (d .id) ++ portIdWords (d .port) ++ deviceStateWord (d .state) ∷ []
+placingWords (Device d) = 1 ∷ deviceIdWords (d .id) ++ portIdWords (d .port) ++ deviceStateWord (d .state) ∷ []
 placingWords (Port n r) = 2 ∷ n ∷ r .generation ∷ optionU32Word (r .reading) ∷ []
 placingWords (Endpoints slot list) = 3 ∷ slot ∷ list
 placingWords (Reconcile slot mark) = 4 ∷ slot ∷ flagWord mark ∷ []
 
 abbrev pub movingWords : Moving → List ℕ
 movingWords (Acquire r) = 5 ∷ acquireWords r
-movingWords (Initialize e) = 6 ∷ optionErrorWords e
-movingWords (Close fresh e) = 7 ∷ optionNumberWords fresh ++ optionErrorWords e
+movingWords (Initialize e) = 6 ∷ errorOptionWords e
+movingWords (Close fresh e) = 7 ∷ optionNumberWords fresh ++ errorOptionWords e
 
 abbrev pub beginningWords : Beginning → List ℕ
 beginningWords (Submit q bytes given packets first second) =
     8 ∷ specWords q ++ readingWords first ++ readingWords second ++ flagWord given ∷ packets
-beginningWords (SubmitPlan p bytes reading) = 9 ∷ planWords p ++ readingWords reading
-beginningWords (Poll id) = 11 ∷ idWords id
-beginningWords (Recover id kind.Abort) = 22 ∷ idWords id
-beginningWords (Recover id (kind.Reset preserve)) = 23 ∷ idWords id ++ flagWord preserve ∷ []
+beginningWords (SubmitPlan p bytes reading) = 9 ∷ controlPlanWords p ++ readingWords reading
+beginningWords (Poll id) = 11 ∷ requestIdWords id
+beginningWords (Recover id kind.Abort) = 22 ∷ requestIdWords id
+beginningWords (Recover id (kind.Reset preserve)) = 23 ∷ requestIdWords id ++ flagWord preserve ∷ []
 
 abbrev pub replyingWords : Replying → List ℕ
 replyingWords (ToSubmit r) = 10 ∷ submitReplyWords r
@@ -92,10 +92,10 @@ changingNumber Timeout = 14
 changingNumber Reclaim = 15
 
 abbrev pub readingCallWords : Reading → List ℕ
-readingCallWords (Status id) = 16 ∷ idWords id
+readingCallWords (Status id) = 16 ∷ requestIdWords id
 readingCallWords (Reports after) = 17 ∷ optionIdWords after
 readingCallWords CountReports = 18 ∷ []
-readingCallWords (CompletedBytes id) = 19 ∷ idWords id
+readingCallWords (CompletedBytes id) = 19 ∷ requestIdWords id
 readingCallWords HeldCount = 20 ∷ []
 readingCallWords HeldBytes = 21 ∷ []
 
@@ -105,7 +105,7 @@ callWords (Place p) = placingWords p
 callWords (Move m) = movingWords m
 callWords (Begin b) = beginningWords b
 callWords (Reply r) = replyingWords r
-callWords (Change id c) = changingNumber c ∷ idWords id
+callWords (Change id c) = changingNumber c ∷ requestIdWords id
 callWords (Read r) = readingCallWords r
 
 -- ---- the bytes lent beside the words

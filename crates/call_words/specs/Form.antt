@@ -15,8 +15,8 @@ abbrev pub has : List ℕ → ℕ → Bool
 has w n = eqb (length w) n
 
 -- session, first sequence, revision (optional), ports (flag, count), rows, bytes a row
-unfoldable pub isOpening : List ℕ → Bool
-isOpening w = has w 9 && isOptionNumber w 3 && byFlag (getD w 5 0) (isZero w 6) (isByte w 6)
+unfoldable pub isOpenCall : List ℕ → Bool
+isOpenCall w = has w 9 && isOptionNumber w 3 && byFlag (getD w 5 0) (isZero w 6) (isByte w 6)
 
 -- device id, port id, state
 unfoldable pub isSetDevice : List ℕ → Bool
@@ -95,7 +95,7 @@ isRecoveryReply w =
 
 unfoldable pub isPlacing : ℕ → List ℕ → Bool
 isPlacing n w =
-    isOpening w if eqb n 0 else
+    isOpenCall w if eqb n 0 else
     isSetDevice w if eqb n 1 else
     isSetPort w if eqb n 2 else
     isSetEndpoints w if eqb n 3 else
@@ -129,8 +129,8 @@ isReporting n w =
     has w 1
 
 -- an abort takes an id
-unfoldable pub isRecovering : ℕ → List ℕ → Bool
-isRecovering n w =
+unfoldable pub isRecoveryCall : ℕ → List ℕ → Bool
+isRecoveryCall n w =
     has w 4 if eqb n 22 else
     isReset w if eqb n 23 else
     isRecoveryReply w
@@ -144,5 +144,5 @@ isCall w =
     isReplying (getD w 0 0) w if leb (getD w 0 0) 12 else
     has w 4 if leb (getD w 0 0) 15 else
     isReporting (getD w 0 0) w if leb (getD w 0 0) 21 else
-    isRecovering (getD w 0 0) w if leb (getD w 0 0) 24 else
+    isRecoveryCall (getD w 0 0) w if leb (getD w 0 0) 24 else
     false

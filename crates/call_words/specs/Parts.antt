@@ -71,11 +71,11 @@ isBusId w at = isByte w (at + 2)
 abbrev pub readPortId : List ℕ → ℕ → PortId
 readPortId w at = record { session = getD w at 0; generation = getD w (at + 1) 0; number = getD w (at + 2) 0 % 2 ^ 8 }
 
-abbrev pub idWords : RequestId → List ℕ
-idWords x = x .session ∷ x .generation ∷ x .sequence ∷ []
+abbrev pub requestIdWords : RequestId → List ℕ
+requestIdWords x = x .session ∷ x .generation ∷ x .sequence ∷ []
 
-abbrev pub deviceWords : DeviceId → List ℕ
-deviceWords x = x .session ∷ x .generation ∷ x .slot ∷ []
+abbrev pub deviceIdWords : DeviceId → List ℕ
+deviceIdWords x = x .session ∷ x .generation ∷ x .slot ∷ []
 
 abbrev pub portIdWords : PortId → List ℕ
 portIdWords x = x .session ∷ x .generation ∷ x .number ∷ []
@@ -100,9 +100,9 @@ errorWords e = categoryWord (e .category) ∷ e .message ∷ optionI32Word (e .�
 abbrev pub isOptionError : List ℕ → ℕ → Bool
 isOptionError w at = byFlag (getD w at 0) (areZero w (at + 1) 4) (isError w (at + 1))
 
-abbrev pub optionErrorWords : OptionError → List ℕ
-optionErrorWords error.None = zeros 5
-optionErrorWords (error.Some e) = 1 ∷ errorWords e
+abbrev pub errorOptionWords : OptionError → List ℕ
+errorOptionWords error.None = zeros 5
+errorOptionWords (error.Some e) = 1 ∷ errorWords e
 
 -- ---- a SETUP packet, five: type, request, value, index, length
 
@@ -153,7 +153,7 @@ isCompletion w = isOptionError w 0 && isOptionNumber w 5 && isOption w 7 && isFl
 
 abbrev pub backendCompletionWords : BackendCompletion → List ℕ
 backendCompletionWords x =
-    optionErrorWords (x .error) ++ optionNumberWords (x .«actual_length»)
+    errorOptionWords (x .error) ++ optionNumberWords (x .«actual_length»)
     ++ optionU32Word (x .«completion_code») ∷ flagWord (x .«has_data») ∷ flagWord (x .quiescent) ∷ []
 
 -- ---- a plan's parts
@@ -162,9 +162,9 @@ backendCompletionWords x =
 abbrev pub readProfile : ℕ → ControlProfile
 readProfile w = cond (eqb w 0) profile.Compliant profile.DeviceCompatibility
 
-abbrev pub profileWord : ControlProfile → ℕ
-profileWord profile.Compliant = 0
-profileWord profile.DeviceCompatibility = 1
+abbrev pub controlProfileWord : ControlProfile → ℕ
+controlProfileWord profile.Compliant = 0
+controlProfileWord profile.DeviceCompatibility = 1
 
 -- three: a flag, direction, length
 abbrev pub isStage : List ℕ → ℕ → Bool

@@ -10,7 +10,7 @@ ghost use lib.Dec.{ltb};
 ghost use Rattle.chain.specs.Lists.{anyIn};
 ghost use Rattle.scope.specs.Returned.{completionWords};
 ghost use Rattle.call_words.specs.Parts.{atMost, isZero, isFlag, isByte, isHalf, isOption, areZero, byFlag, isBusId, isOptionNumber, isError, isOptionError, isSetup, isOptionSetup, isReading, isCompletion, isStage};
-ghost use Rattle.call_words.specs.Form.{has, isOpening, isSetDevice, isSetPort, isSetEndpoints, isSetReconcile, isAcquire, isInitialize, isClose, isSubmit, isPlan, isSubmitReply, isPollReply, isReports, isReset, areCompletions, isRecovered, isRecoveryReply, isPlacing, isMoving, isSubmission, isReplying, isReporting, isRecovering, isCall};
+ghost use Rattle.call_words.specs.Form.{has, isOpenCall, isSetDevice, isSetPort, isSetEndpoints, isSetReconcile, isAcquire, isInitialize, isClose, isSubmit, isPlan, isSubmitReply, isPollReply, isReports, isReset, areCompletions, isRecovered, isRecoveryReply, isPlacing, isMoving, isSubmission, isReplying, isReporting, isRecoveryCall, isCall};
 
 fn at_most(w: &[u64], i: usize, limit: u64) -> bool
     ensures { λ r. ⌜ r ≡ atMost (now (w .entry)) i limit ⌝ }
@@ -153,8 +153,8 @@ fn has(w: &[u64], n: usize) -> bool
     w.len() == n
 }
 
-fn is_opening(w: &[u64]) -> bool
-    ensures { λ r. ⌜ r ≡ isOpening (now (w .entry)) ⌝ }
+fn is_open_call(w: &[u64]) -> bool
+    ensures { λ r. ⌜ r ≡ isOpenCall (now (w .entry)) ⌝ }
 {
     has(w, 9) & is_option_number(w, 3) & by_flag(word_at(w, 5), is_zero(w, 6), is_byte(w, 6))
 }
@@ -314,7 +314,7 @@ fn is_placing(number: u64, w: &[u64]) -> bool
     ensures { λ r. ⌜ r ≡ isPlacing number (now (w .entry)) ⌝ }
 {
     if number == 0 {
-        return is_opening(w);
+        return is_open_call(w);
     }
     if number == 1 {
         return is_set_device(w);
@@ -381,8 +381,8 @@ fn is_reporting(number: u64, w: &[u64]) -> bool
     has(w, 1)
 }
 
-fn is_recovering(number: u64, w: &[u64]) -> bool
-    ensures { λ r. ⌜ r ≡ isRecovering number (now (w .entry)) ⌝ }
+fn is_recovery_call(number: u64, w: &[u64]) -> bool
+    ensures { λ r. ⌜ r ≡ isRecoveryCall number (now (w .entry)) ⌝ }
 {
     if number == 22 {
         return has(w, 4);
@@ -416,7 +416,7 @@ pub fn is_call(w: &[u64]) -> bool
         return is_reporting(number, w);
     }
     if number <= 24 {
-        return is_recovering(number, w);
+        return is_recovery_call(number, w);
     }
     false
 }
