@@ -24,7 +24,7 @@ use Rattle.models.specs.declared.OptionError.{OptionError}
 use Rattle.models.specs.declared.OptionError.the-variants as error
 use Rattle.recovery.specs.declared.AbortReport.{AbortReport}
 use Rattle.recovery.specs.declared.Recovery.{Recovery}
-use Rattle.session_words.specs.State.{kindWord}
+use Rattle.session_words.specs.State.{recoveryWord}
 use Rattle.calls.specs.declared.Answer.{Answer}
 use Rattle.answer_words.specs.Encode.{refusalWords, idTail, metadataTail, begunWords, stageTail, planWords, stateTail, reportWords, recoveringWords, optionErrorWords, recoveredWords, answerWords, written}
 
@@ -69,7 +69,7 @@ module _ (m w₁ w₂ w : List ℕ) where
   unfolding planWords setupBytes splice
   plan-exact x q t b w₃ em eq eb et e₁ e₂ e₃ e = e ∙ rw (e₃, e₂, e₁, em, et, eb, eq)
 
-pub recovering-exact : (x : Recovery) (k : ℕ) → k ≡ kindWord (x .kind)
+pub recovering-exact : (x : Recovery) (k : ℕ) → k ≡ recoveryWord (x .kind)
     → 9 ∷ idTail (x .target) (x .device .session ∷ x .device .generation ∷ x .device .slot ∷ x .endpoint ∷ k ∷ []) ≡ recoveringWords x
 unfolding recoveringWords
 recovering-exact x k e = rw e

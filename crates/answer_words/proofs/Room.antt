@@ -27,8 +27,8 @@ use Rattle.session.specs.declared.InFlight.the-variants as flight
 use Rattle.session.specs.declared.RecoveryKind.{RecoveryKind}
 use Rattle.session.specs.declared.Session.{Session}
 use Rattle.scope.specs.Affected.{isAffected, comesBefore, insertRow, joined, affectedUpTo, affectedOf, tokensOf}
-use Rattle.recovery.specs.Begin.{beginRefused, begunAs, beginRow, beginBy, beginOf}
-use Rattle.recovery.specs.Reply.{RecoveredTo, recoveryRefused, isWhole, concludedBy, reportOf, scopedOf, doneOf, replyBy, replySized, replyIn, recoveryReplyOf}
+use Rattle.recovery.specs.Begin.{beginRefused, begunAs, beginRow, recoverBy, recoverOf}
+use Rattle.recovery.specs.Reply.{RecoveredTo, recoveryRefused, isWhole, concludedBy, abortReport, scopedOf, doneOf, replyBy, replySized, replyIn, recoveryReplyOf}
 use Rattle.scope.specs.Scope.{inScope}
 use Rattle.recovery.specs.declared.Begun.{Begun}
 use Rattle.recovery.specs.declared.Ids.{Ids}
@@ -80,13 +80,13 @@ module _ (s : Session) (id : RequestId) (k : RecoveryKind) (rows : List Row) whe
   unfolding beginRow
   row-begun r = if-all ShortBegun _ _ _ (refused-begun _) (if-all ShortBegun _ _ _ (refused-begun _) (begun-short _))
 
-  found-begun : (f : Found) → ShortBegun (beginBy f s id k rows)
-  unfolding beginBy
+  found-begun : (f : Found) → ShortBegun (recoverBy f s id k rows)
+  unfolding recoverBy
   found-begun found.Nothing = refused-begun _
   found-begun (found.At i) = row-begun _
 
-  begin-short : (fits : Bool) → ShortBegun (beginOf s fits id k rows)
-  unfolding beginOf guarded
+  begin-short : (fits : Bool) → ShortBegun (recoverOf s fits id k rows)
+  unfolding recoverOf guarded
   begin-short fits = if-all ShortBegun _ _ _ (refused-begun _) (if-all ShortBegun _ _ _ (refused-begun _) (found-begun _))
 
 -- ---- and of its reply
@@ -98,7 +98,7 @@ unfolding recoveredLists
 refused-short s r = omega arith
 
 concluded-short : (v : Verdict) (idle : Session) (x : Recovery) (o : Outcome) (n m : ℕ) (ids : Ids) (rows : List Row) → n + m ≤ 128
-    → length (recoveredLists (concludedBy v idle x o (reportOf x o n m) ids rows)) ≤ listSize
+    → length (recoveredLists (concludedBy v idle x o (abortReport x o n m) ids rows)) ≤ listSize
 unfolding recoveredLists concludedBy
 concluded-short (verdict.Refused r) idle x o n m ids rows h = omega arith
 concluded-short verdict.Pass idle x o n m ids rows h =

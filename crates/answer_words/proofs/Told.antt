@@ -41,12 +41,12 @@ use Rattle.models.specs.declared.Refusal.{Refusal}
 use Rattle.models.specs.declared.TransferType.{TransferType}
 use Rattle.models.specs.declared.TransferType.the-variants as transfer
 use Rattle.standards.specs.Setup.{setupBytes}
-use Rattle.rows.specs.Codec.{setupOf, setupWords, metadataOf, errorOf, stateOf, stateWords}
+use Rattle.rows.specs.Codec.{setupOf, setupWords, readMetadata, errorOf, stateOf, stateWords}
 use Rattle.rows.specs.declared.codec.SetupWords.{SetupWords}
 use Rattle.rows.specs.declared.codec.StateWords.{StateWords}
 use Rattle.session.specs.declared.RecoveryKind.{RecoveryKind}
 use Rattle.session.specs.declared.RecoveryKind.the-variants as kind
-use Rattle.session_words.specs.State.{deviceOf, kindOf, kindWord}
+use Rattle.session_words.specs.State.{deviceOf, readKind, recoveryWord}
 use Rattle.submissions.specs.declared.PlanSubmission.{PlanSubmission}
 use Rattle.submissions.specs.declared.Submission.{Submission}
 use Rattle.recovery.specs.declared.AbortReport.{AbortReport}
@@ -80,7 +80,7 @@ profile-back : (p : ControlProfile) → profileOf (profileWord p) ≡ p
 profile-back profile.Compliant = refl
 profile-back profile.DeviceCompatibility = refl
 
-kind-back : (k : RecoveryKind) → kindOf (kindWord k) ≡ k
+kind-back : (k : RecoveryKind) → readKind (recoveryWord k) ≡ k
 kind-back kind.Abort = refl
 kind-back (kind.Reset true) = refl
 kind-back (kind.Reset false) = refl
@@ -118,8 +118,8 @@ setup-back (setup.Some p) (t, r, v, i, l) = rw (low 8 t, low 8 r, low 16 v, low 
 device-back : (d : DeviceId) → DeviceFits d → deviceOf (d .session) (d .generation) (d .slot) ≡ d
 device-back d h = rw (low 8 h)
 
-metadata-back : (m : RequestMetadata) → MetadataFits m → metadataOf (metadataTail m []) ≡ m
-unfolding metadataOf
+metadata-back : (m : RequestMetadata) → MetadataFits m → readMetadata (metadataTail m []) ≡ m
+unfolding readMetadata
 metadata-back m (d, e, s) =
     rw (low 8 d, low 8 e, transfer-back (m .«transfer_type»), direction-back (m .direction), setup-back (m .setup) s)
 

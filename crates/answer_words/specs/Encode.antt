@@ -23,7 +23,7 @@ use Rattle.models.specs.declared.OptionError.{OptionError}
 use Rattle.models.specs.declared.OptionError.the-variants as error
 use Rattle.recovery.specs.declared.AbortReport.{AbortReport}
 use Rattle.recovery.specs.declared.Recovery.{Recovery}
-use Rattle.session_words.specs.State.{kindWord}
+use Rattle.session_words.specs.State.{recoveryWord}
 use Rattle.calls.specs.declared.Answer.{Answer}
 use Rattle.calls.specs.declared.Answer.the-variants as answer
 
@@ -72,7 +72,7 @@ reportWords x =
 
 -- target, device, endpoint, and what the backend is to do
 unfoldable pub recoveringWords : Recovery → List ℕ
-recoveringWords x = 9 ∷ idTail (x .target) (x .device .session ∷ x .device .generation ∷ x .device .slot ∷ x .endpoint ∷ kindWord (x .kind) ∷ [])
+recoveringWords x = 9 ∷ idTail (x .target) (x .device .session ∷ x .device .generation ∷ x .device .slot ∷ x .endpoint ∷ recoveryWord (x .kind) ∷ [])
 
 -- a flag, then category, message, system number and code
 unfoldable pub optionErrorWords : OptionError → List ℕ

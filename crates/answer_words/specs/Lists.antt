@@ -6,7 +6,7 @@ use lib.Dec.{ltb}
 use Rattle.chain.specs.Chain.{_if_else_}
 use Rattle.words.specs.Records.{splice}
 use Rattle.models.specs.declared.RequestId.{RequestId}
-use Rattle.recovery.specs.Begin.{beginOf}
+use Rattle.recovery.specs.Begin.{recoverOf}
 use Rattle.recovery.specs.declared.BeginAnswer.{BeginAnswer}
 use Rattle.recovery.specs.declared.BeginAnswer.the-variants as begin
 use Rattle.recovery.specs.declared.Begun.{Begun}
@@ -16,7 +16,7 @@ use Rattle.recovery.specs.declared.RecoveryAnswer.{RecoveryAnswer}
 use Rattle.recovery.specs.declared.RecoveryAnswer.the-variants as recovery
 use Rattle.calls.specs.Calls.{Beginning, Submit, SubmitPlan, Poll, Recover, Replying, ToSubmit, ToPoll, ToRecovery, Call, Open, Place, Move, Begin, Reply, Change, Read}
 use Rattle.answer_words.specs.Encode.{idTail}
-use Rattle.calls.specs.Step.{World, rowsFitIn, recoversOf}
+use Rattle.calls.specs.Step.{World, rowsMatch, recoversOf}
 
 -- how many words the lists have at most: two lengths, and 128 ids
 abbrev pub listSize : ℕ
@@ -33,12 +33,12 @@ abbrev pub idList : List RequestId → List ℕ
 idList ids = length ids ∷ idWords ids
 
 -- the tokens of the affected requests
-abbrev pub begunBy : BeginAnswer → ℕ → List ℕ → List ℕ
-begunBy (begin.Refused r) n tokens = []
-begunBy (begin.Recover x) n tokens = tokenList (take n tokens)
+abbrev pub begunList : BeginAnswer → ℕ → List ℕ → List ℕ
+begunList (begin.Refused r) n tokens = []
+begunList (begin.Recover x) n tokens = tokenList (take n tokens)
 
 unfoldable pub begunLists : Begun → List ℕ
-begunLists o = begunBy (o .answer) (o .count) (o .tokens)
+begunLists o = begunList (o .answer) (o .count) (o .tokens)
 
 -- the ids of the completed requests, and those of the aborted
 abbrev pub recoveredBy : RecoveryAnswer → Ids → List ℕ
@@ -53,7 +53,7 @@ abbrev pub begunIn : Beginning → World → List ℕ
 begunIn (Submit q bytes given packets first second) w = []
 begunIn (SubmitPlan q bytes first) w = []
 begunIn (Poll id) w = []
-begunIn (Recover id kind) w = begunLists (beginOf (w .session) (rowsFitIn w) id kind (w .store .rows))
+begunIn (Recover id kind) w = begunLists (recoverOf (w .session) (rowsMatch w) id kind (w .store .rows))
 
 abbrev pub repliedIn : Replying → World → List ℕ
 repliedIn (ToSubmit reply) w = []

@@ -24,8 +24,8 @@ use Rattle.models.specs.declared.OptionSetup.the-variants as setup
 use Rattle.models.specs.declared.RequestMetadata.{RequestMetadata}
 use Rattle.models.specs.declared.RequestState.{RequestState}
 use Rattle.models.specs.declared.RequestState.the-variants as state
-use Rattle.rows.specs.Codec.{metadataOf, errorOf, stateOf}
-use Rattle.session_words.specs.State.{idAt, deviceAt, kindOf}
+use Rattle.rows.specs.Codec.{readMetadata, errorOf, stateOf}
+use Rattle.session_words.specs.State.{readRequestId, readDeviceId, readKind}
 use Rattle.calls.specs.declared.Answer.{Answer}
 use Rattle.calls.specs.declared.Answer.the-variants as answer
 
@@ -45,13 +45,13 @@ unfoldable pub readAnswer : List ℕ → Answer
 readAnswer w =
     answer.Refused (record { number = getD w 1 0; error = errorOf (getD w 2 0) (getD w 3 0) (getD w 4 0) (getD w 5 0) }) if eqb (getD w 0 0) 0 else
     answer.Pass if eqb (getD w 0 0) 1 else
-    answer.Begun (record { id = idAt w 1; row = getD w 4 0; metadata = metadataOf (wordsFrom w 5 13); «has_packets» = flagOf (getD w 18 0) })
+    answer.Begun (record { id = readRequestId w 1; row = getD w 4 0; metadata = readMetadata (wordsFrom w 5 13); «has_packets» = flagOf (getD w 18 0) })
     if eqb (getD w 0 0) 2 else
     answer.PlanBegun (record {
-      id = idAt w 1;
+      id = readRequestId w 1;
       row = getD w 4 0;
       plan = record {
-        metadata = metadataOf (wordsFrom w 5 13);
+        metadata = readMetadata (wordsFrom w 5 13);
         «has_data» = flagOf (getD w 18 0);
         «data_direction» = directionOf (getD w 19 0);
         «status_direction» = directionOf (getD w 20 0);
@@ -59,8 +59,8 @@ readAnswer w =
       };
     }) if eqb (getD w 0 0) 3 else
     answer.Report (record {
-      id = idAt w 1;
-      metadata = metadataOf (wordsFrom w 4 13);
+      id = readRequestId w 1;
+      metadata = readMetadata (wordsFrom w 4 13);
       state = stateOf (getD w 17 0) (getD w 18 0) (getD w 19 0) (getD w 20 0) (getD w 21 0) (getD w 22 0) (getD w 23 0);
       «logical_cancel» = flagOf (getD w 24 0);
       «timed_out» = flagOf (getD w 25 0);
@@ -69,10 +69,10 @@ readAnswer w =
     answer.Asked (getD w 1 0) if eqb (getD w 0 0) 6 else
     answer.Number (getD w 1 0) if eqb (getD w 0 0) 7 else
     answer.Bytes (record { start = getD w 1 0; length = getD w 2 0 }) if eqb (getD w 0 0) 8 else
-    answer.Recovering (record { target = idAt w 1; device = deviceAt w 4; endpoint = getD w 7 0; kind = kindOf (getD w 8 0) }) if eqb (getD w 0 0) 9 else
+    answer.Recovering (record { target = readRequestId w 1; device = readDeviceId w 4; endpoint = getD w 7 0; kind = readKind (getD w 8 0) }) if eqb (getD w 0 0) 9 else
     answer.Recovered (record {
-      target = idAt w 1;
-      device = deviceAt w 4;
+      target = readRequestId w 1;
+      device = readDeviceId w 4;
       endpoint = getD w 7 0;
       completed = getD w 8 0;
       aborted = getD w 9 0;

@@ -20,7 +20,7 @@ use Rattle.models.specs.declared.Verdict.{Verdict}
 use Rattle.models.specs.declared.Verdict.the-variants as verdict
 use Rattle.standards.specs.Ports.{portConnected}
 use Rattle.bus.specs.Tables.{Bus, portAt, putPort}
-use Rattle.bus.specs.Ports.{numberChecked, verdictTo, setPortBy, setPort, readingChecked, isSession, validatedRow, validatedBy, validated, raisedRow, observedBy, observedRow, observedTo, observePortBy, observePort, freshTo, freshObserved, freshWord, freshReading, freshPortBy, freshPort}
+use Rattle.bus.specs.Ports.{numberChecked, verdictTo, setPortBy, setPort, readingChecked, ofOpening, validatedRow, validatedBy, validated, raisedRow, observedBy, observedRow, observedTo, observePortBy, observePort, freshTo, freshObserved, freshWord, freshReading, freshPortBy, freshPort}
 use Rattle.bus.specs.declared.PortRow.{PortRow}
 use Rattle.bus.specs.declared.ports.PortChecked.{PortChecked}
 use Rattle.bus.specs.declared.ports.PortChecked.the-variants as checked
@@ -43,7 +43,7 @@ module _ (o : OptionPorts) (number : ℕ) where
     number-in t = rw e (passes Verdict _ _ _ _ t refl)
 
 -- the session and the reading
-pub session-is : (o : OptionPorts) (p : Ports) (session : ℕ) → o ≡ ports.Some p → eqb session (p .session) ≡ isSession o session
+pub session-is : (o : OptionPorts) (p : Ports) (session : ℕ) → o ≡ ports.Some p → eqb session (p .session) ≡ ofOpening o session
 session-is o p session e = rw e
 
 pub reading-none : (o : OptionU32) (r : Refusal) → o ≡ u32.None → r ≡ refusalOf 32 → checked.Refused r ≡ readingChecked o
@@ -56,7 +56,7 @@ reading-some o raw e = rw e
 
 -- an id against its row
 module _ (o : OptionPorts) (id : PortId) where
-  module _ (row : PortRow) (same : Bool) (s : same ≡ isSession o (id .session)) where
+  module _ (row : PortRow) (same : Bool) (s : same ≡ ofOpening o (id .session)) where
     pub row-stale : (r : Refusal) → (not same || not (eqb (id .generation) (row .generation))) ≡ true → r ≡ refusalOf 31
         → checked.Refused r ≡ validatedRow o id row
     unfolding validatedRow

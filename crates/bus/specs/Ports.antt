@@ -47,14 +47,14 @@ readingChecked u32.None = checked.Refused (refusalOf 32)
 readingChecked (u32.Some raw) = checked.Read raw
 
 -- the session number that port ids carry is the opening's
-abbrev pub isSession : OptionPorts → ℕ → Bool
-isSession ports.None session = false
-isSession (ports.Some p) session = eqb session (p .session)
+abbrev pub ofOpening : OptionPorts → ℕ → Bool
+ofOpening ports.None session = false
+ofOpening (ports.Some p) session = eqb session (p .session)
 
 -- 31: another session than the opening's, or another generation than the row's
 unfoldable pub validatedRow : OptionPorts → PortId → PortRow → PortChecked
 validatedRow ports id row =
-    checked.Refused (refusalOf 31) if not (isSession ports (id .session)) || not (eqb (id .generation) (row .generation)) else
+    checked.Refused (refusalOf 31) if not (ofOpening ports (id .session)) || not (eqb (id .generation) (row .generation)) else
     readingChecked (row .reading)
 
 unfoldable pub validatedBy : Verdict → OptionPorts → PortId → Bus → PortChecked

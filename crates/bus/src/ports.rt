@@ -13,7 +13,7 @@ ghost use Prim.Native.Nat.{_<_};
 ghost use lib.ListN.{length};
 ghost use Rattle.bus.specs.Layout.{busWords};
 ghost use Rattle.bus.specs.Tables.{busOf, portIndex, portAt, putPort};
-ghost use Rattle.bus.specs.Ports.{numberChecked, verdictTo, setPort, readingChecked, isSession, validatedRow, validated, raisedRow, observedRow, observedTo, observePort, freshTo, freshWord, freshReading, freshPort};
+ghost use Rattle.bus.specs.Ports.{numberChecked, verdictTo, setPort, readingChecked, ofOpening, validatedRow, validated, raisedRow, observedRow, observedTo, observePort, freshTo, freshWord, freshReading, freshPort};
 
 // A port that was validated, with its reading.
 pub enum PortChecked {
@@ -88,7 +88,7 @@ pub fn set_port(bus: &mut [u64], ports: OptionPorts, number: u8, row: PortRow) -
 
 // The session number that port ids carry is the opening's.
 fn is_session(ports: OptionPorts, session: u64) -> bool
-    ensures { λ r. ⌜ r ≡ isSession ports session ⌝ }
+    ensures { λ r. ⌜ r ≡ ofOpening ports session ⌝ }
 {
     let OptionPorts::Some(p) = ports else {
         return false;

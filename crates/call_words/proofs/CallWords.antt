@@ -14,7 +14,7 @@ use Rattle.words.specs.Records.{tab, part}
 use Rattle.words.specs.Words.{flagOf, optionU64Of}
 use Rattle.words.proofs.Records.{part-length}
 use Rattle.scope.specs.Returned.{completionWords, readOptionError, readCompletion}
-use Rattle.session_words.specs.State.{idAt}
+use Rattle.session_words.specs.State.{readRequestId}
 use Rattle.session.specs.declared.RecoveryKind.the-variants as kind
 use Rattle.calls.specs.Calls.{Call, Open, Place, Device, Port, Endpoints, Reconcile, Move, Acquire, Initialize, Close, Begin, Submit, SubmitPlan, Recover, Reply, ToSubmit, ToPoll, ToRecovery, Change, Cancel, Timeout, Read, Reports, HeldCount, HeldBytes}
 use Rattle.call_words.specs.Parts.{isZero, isFlag, isByte, areZero, byFlag, zeros, requestIdWords, backendCompletionWords, isError, isOptionError, readReading, isCompletion}
@@ -157,7 +157,7 @@ module _ (w : List ℕ) where
       (λ k z. let q = both (isZero w 2) (isError w 3) z in
       rw (k, error-words (after 3) (q .1)) (rw (k, eqb-true (getD w 2 0) 0 (q .0)) at h))
 
-  id-says : (n : ℕ) → getD w 0 0 ≡ n → has w 4 ≡ true → n ∷ requestIdWords (idAt w 1) ≡ w
+  id-says : (n : ℕ) → getD w 0 0 ≡ n → has w 4 ≡ true → n ∷ requestIdWords (readRequestId w 1) ≡ w
   id-says n e t = all 3 n t e
 
   polled : (k : ℕ) → getD w 1 0 ≡ k → has w 12 ≡ true → getD w 0 0 ≡ 12 → 12 ∷ k ∷ tab (after 2) 10 ≡ w
@@ -187,7 +187,7 @@ module _ (w : List ℕ) where
       let h = all 4 17 (p .0) e in
       by-flag (getD w 1 0) (areZero w 2 3) true (p .1) (λ k z. rw k (rw (k, zeros-words (after 2) 3 z) at h)) (λ k z. rw k (rw k at h))
 
-  reset-says : getD w 0 0 ≡ 23 → isReset w ≡ true → Says (Begin (Recover (idAt w 1) (kind.Reset (flagOf (getD w 4 0)))))
+  reset-says : getD w 0 0 ≡ 23 → isReset w ≡ true → Says (Begin (Recover (readRequestId w 1) (kind.Reset (flagOf (getD w 4 0)))))
   unfolding callWords
   reset-says e t = let p = reset-told w t in rw (flag-word (getD w 4 0) (p .1)) (all 4 23 (p .0) e)
 
@@ -261,8 +261,8 @@ module _ (w : List ℕ) where
     changing-says : 13 ≤ n → n ≤ 15 → has w 4 ≡ true → Says (changingOf n w)
     unfolding changingOf callWords
     changing-says l h t =
-        if-by Says (Change (idAt w 1) Cancel) (eqb n 13) _ (λ q. id-says 13 (to 13 q) t) λ n13.
-        if-by Says (Change (idAt w 1) Timeout) (eqb n 14) _ (λ q. id-says 14 (to 14 q) t) λ n14.
+        if-by Says (Change (readRequestId w 1) Cancel) (eqb n 13) _ (λ q. id-says 13 (to 13 q) t) λ n13.
+        if-by Says (Change (readRequestId w 1) Timeout) (eqb n 14) _ (λ q. id-says 14 (to 14 q) t) λ n14.
         id-says 15 (e ∙ omega (arith, eqb-false n 13 n13, eqb-false n 14 n14)) t
 
     count-says : (k : ℕ) → getD w 0 0 ≡ k → has w 1 ≡ true → (k ∷ []) ≡ w

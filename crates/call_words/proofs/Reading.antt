@@ -21,7 +21,7 @@ use Rattle.models.specs.declared.OptionStage.the-variants as stage
 use Rattle.models.specs.declared.TransferType.{TransferType}
 use Rattle.rows.specs.Codec.{setupOf}
 use Rattle.recovery.specs.declared.RecoveryReply.the-variants as recovery
-use Rattle.session_words.specs.State.{deviceAt}
+use Rattle.session_words.specs.State.{readDeviceId}
 use Rattle.scope.specs.Returned.{readError, readOptionError, readCompletion}
 use Rattle.polls.specs.declared.PollReply.the-variants as poll
 use Rattle.call_words.specs.Arguments.{readSpec, readRecoveryReply}
@@ -44,7 +44,7 @@ completion-read x v u e f = rw (e, f)
 
 -- a request from its device, its codes and its words
 pub spec-read : (w : List ℕ) (d : DeviceId) (e x y l a b c f g h : ℕ) (t : TransferType) (i : Direction) (s : OptionSetup)
-    → d ≡ deviceAt w 1 → e ≡ getD w 4 0 → x ≡ getD w 5 0 → t ≡ transferOf x → y ≡ getD w 6 0 → i ≡ directionOf y → l ≡ getD w 7 0
+    → d ≡ readDeviceId w 1 → e ≡ getD w 4 0 → x ≡ getD w 5 0 → t ≡ transferOf x → y ≡ getD w 6 0 → i ≡ directionOf y → l ≡ getD w 7 0
     → a ≡ getD w 8 0 → b ≡ getD w 9 0 → c ≡ getD w 10 0 → f ≡ getD w 11 0 → g ≡ getD w 12 0 → h ≡ getD w 13 0 → s ≡ setupOf a b c f g h
     → record { device = d; endpoint = e % 2 ^ 8; «transfer_type» = t; direction = i; length = l; setup = s } ≡ readSpec w
 unfolding readSpec

@@ -23,7 +23,7 @@ use Rattle.submissions.specs.declared.SubmitReply.the-variants as submit
 use Rattle.scope.specs.Returned.{completionWords, readError, readOptionError, readCompletion}
 use Rattle.recovery.specs.declared.RecoveryReply.{RecoveryReply}
 use Rattle.recovery.specs.declared.RecoveryReply.the-variants as recovery
-use Rattle.session_words.specs.State.{deviceAt, idAt}
+use Rattle.session_words.specs.State.{readDeviceId, readRequestId}
 use Rattle.call_words.specs.Parts.{readPortId, readSetup, readOptionSetup, readProfile, readStage, readStatus}
 
 unfoldable pub readOpening : List ℕ → Opening
@@ -38,7 +38,7 @@ readOpening w = record {
 }
 
 unfoldable pub readSnapshot : List ℕ → DeviceSnapshot
-readSnapshot w = record { id = deviceAt w 1; port = readPortId w 4; state = deviceStateOf (getD w 7 0) }
+readSnapshot w = record { id = readDeviceId w 1; port = readPortId w 4; state = deviceStateOf (getD w 7 0) }
 
 unfoldable pub readPortRow : List ℕ → PortRow
 readPortRow w = record { generation = getD w 2 0; reading = optionU32Of (getD w 3 0) }
@@ -48,7 +48,7 @@ readAcquireReply w = cond (eqb (getD w 1 0) 0) acquire.Acquired (acquire.Failed 
 
 unfoldable pub readSpec : List ℕ → RequestSpec
 readSpec w = record {
-  device = deviceAt w 1;
+  device = readDeviceId w 1;
   endpoint = getD w 4 0 % 2 ^ 8;
   «transfer_type» = transferOf (getD w 5 0);
   direction = directionOf (getD w 6 0);
@@ -58,7 +58,7 @@ readSpec w = record {
 
 unfoldable pub readPlan : List ℕ → ControlPlan
 readPlan w = record {
-  device = deviceAt w 1;
+  device = readDeviceId w 1;
   profile = readProfile (getD w 4 0);
   setup = readSetup w 5;
   «data_stage» = readStage w 10;
@@ -76,7 +76,7 @@ readPollReply w =
     (poll.Completion (readCompletion (drop 2 w))))
 
 unfoldable pub readOptionId : List ℕ → OptionId
-readOptionId w = cond (eqb (getD w 1 0) 0) option.None (option.Some (idAt w 2))
+readOptionId w = cond (eqb (getD w 1 0) 0) option.None (option.Some (readRequestId w 2))
 
 -- 0: whether the endpoint is ready, and an error; 1: the backend's error
 unfoldable pub readRecoveryReply : List ℕ → RecoveryReply

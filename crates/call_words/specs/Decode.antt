@@ -8,7 +8,7 @@ use Rattle.words.specs.Words.{flagOf, optionU64Of}
 use Rattle.session.specs.declared.RecoveryKind.the-variants as kind
 use Rattle.scope.specs.Returned.{readOptionError}
 use Rattle.calls.specs.Calls.{Call, Open, Place, Device, Port, Endpoints, Reconcile, Move, Acquire, Initialize, Close, Begin, Submit, SubmitPlan, Poll, Recover, Reply, ToSubmit, ToPoll, ToRecovery, Change, Cancel, Timeout, Reclaim, Read, Status, Reports, CountReports, CompletedBytes, HeldCount, HeldBytes}
-use Rattle.session_words.specs.State.{idAt}
+use Rattle.session_words.specs.State.{readRequestId}
 use Rattle.call_words.specs.Parts.{readReading}
 use Rattle.call_words.specs.Arguments.{readOpening, readSnapshot, readPortRow, readAcquireReply, readSpec, readPlan, readSubmitReply, readPollReply, readOptionId, readRecoveryReply, readCompleted, readCompletions, readAborted}
 
@@ -38,31 +38,31 @@ submissionOf n w bytes =
 unfoldable pub replyingOf : ℕ → List ℕ → List ℕ → Call
 replyingOf n w bytes =
     Reply (ToSubmit (readSubmitReply w)) if eqb n 10 else
-    Begin (Poll (idAt w 1)) if eqb n 11 else
+    Begin (Poll (readRequestId w 1)) if eqb n 11 else
     Reply (ToPoll (readPollReply w) bytes)
 
 -- 13 to 15
 unfoldable pub changingOf : ℕ → List ℕ → Call
 changingOf n w =
-    Change (idAt w 1) Cancel if eqb n 13 else
-    Change (idAt w 1) Timeout if eqb n 14 else
-    Change (idAt w 1) Reclaim
+    Change (readRequestId w 1) Cancel if eqb n 13 else
+    Change (readRequestId w 1) Timeout if eqb n 14 else
+    Change (readRequestId w 1) Reclaim
 
 -- 16 to 21
 unfoldable pub reportingOf : ℕ → List ℕ → Call
 reportingOf n w =
-    Read (Status (idAt w 1)) if eqb n 16 else
+    Read (Status (readRequestId w 1)) if eqb n 16 else
     Read (Reports (readOptionId w)) if eqb n 17 else
     Read CountReports if eqb n 18 else
-    Read (CompletedBytes (idAt w 1)) if eqb n 19 else
+    Read (CompletedBytes (readRequestId w 1)) if eqb n 19 else
     Read HeldCount if eqb n 20 else
     Read HeldBytes
 
 -- 22 to 24
 unfoldable pub recoveringOf : ℕ → List ℕ → List ℕ → Call
 recoveringOf n w bytes =
-    Begin (Recover (idAt w 1) kind.Abort) if eqb n 22 else
-    Begin (Recover (idAt w 1) (kind.Reset (flagOf (getD w 4 0)))) if eqb n 23 else
+    Begin (Recover (readRequestId w 1) kind.Abort) if eqb n 22 else
+    Begin (Recover (readRequestId w 1) (kind.Reset (flagOf (getD w 4 0)))) if eqb n 23 else
     Reply (ToRecovery (readRecoveryReply w) (readCompleted w) (readCompletions w) (readAborted w) bytes)
 
 unfoldable pub callOf : List ℕ → List ℕ → Call

@@ -29,7 +29,7 @@ ghost use mathlib.Core.Path.{_≡_};
 ghost use Prim.Native.Nat.{_+_, _*_, min};
 ghost use lib.ListN.{getD, take, drop};
 ghost use Rattle.scope.specs.Returned.{completionWords};
-ghost use Rattle.session_words.specs.State.{deviceAt, idAt};
+ghost use Rattle.session_words.specs.State.{readDeviceId, readRequestId};
 ghost use Rattle.call_words.specs.Parts.{readPortId, readSetup, readReading, readProfile, readStage, readStatus};
 ghost use Rattle.call_words.specs.Arguments.{readOpening, readSnapshot, readPortRow, readAcquireReply, readSpec, readPlan, readSubmitReply, readPollReply, readOptionId, readRecoveryReply, readCompleted, readCompletions, readAborted};
 

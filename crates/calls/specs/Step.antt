@@ -23,7 +23,7 @@ use Rattle.polls.specs.Finish.{FinishTo, finishOf}
 use Rattle.reports.specs.Change.{changeOf}
 use Rattle.reports.specs.Status.{statusOf, nextOf, shownCount, completedPart, heldCountOf, heldBytesOf}
 use Rattle.polls.specs.declared.Polled.{Polled}
-use Rattle.recovery.specs.Begin.{beginOf}
+use Rattle.recovery.specs.Begin.{recoverOf}
 use Rattle.recovery.specs.Reply.{RecoveredTo, recoveryReplyOf}
 use Rattle.recovery.specs.declared.Begun.{Begun}
 use Rattle.recovery.specs.declared.RecoveryReply.{RecoveryReply}
@@ -53,17 +53,17 @@ abbrev pub after : Outcome → Bus → Store → List ℕ → After
 after r b store area = record { result = r; bus = b; store = store; area = area }
 
 -- whether each lent slice has the size that the session records
-abbrev pub rowsFitIn : World → Bool
-rowsFitIn w = rowsFit (w .session .«row_count») (w .session .«row_bytes») (length (w .store .words))
+abbrev pub rowsMatch : World → Bool
+rowsMatch w = rowsFit (w .session .«row_count») (w .session .«row_bytes») (length (w .store .words))
 
-abbrev pub areaFitsIn : World → Bool
-areaFitsIn w = areaFits (w .session .«row_count») (w .session .«row_bytes») (length (w .area))
+abbrev pub areaMatches : World → Bool
+areaMatches w = areaFits (w .session .«row_count») (w .session .«row_bytes») (length (w .area))
 
-abbrev pub busFitsIn : World → Bool
-busFitsIn w = busFits (length (w .bus .words))
+abbrev pub busMatches : World → Bool
+busMatches w = busFits (length (w .bus .words))
 
-abbrev pub storeFitsIn : World → Bool
-storeFitsIn w = storeFits (w .session) (length (w .store .words)) (length (w .area)) (length (w .bus .words))
+abbrev pub storeMatches : World → Bool
+storeMatches w = storeFits (w .session) (length (w .store .words)) (length (w .area)) (length (w .bus .words))
 
 -- what each kind of call leaves
 abbrev pub opens : OpenedTo → World → After
@@ -98,39 +98,39 @@ recovers o w = after (outcome (ofRecovery (o .result .answer)) (o .result .sessi
 
 abbrev pub recoversOf : RecoveryReply → List ℕ → List ℕ → List ℕ → List ℕ → World → RecoveredTo
 recoversOf reply tokens words aborted bytes w =
-    recoveryReplyOf (w .session) (rowsFitIn w && areaFitsIn w) reply tokens words aborted bytes (w .store) (w .area)
+    recoveryReplyOf (w .session) (rowsMatch w && areaMatches w) reply tokens words aborted bytes (w .store) (w .area)
 
 -- an answer that leaves all as it is
 abbrev pub reads : Answer → World → After
 reads a w = after (outcome a (w .session)) (w .bus) (w .store) (w .area)
 
 abbrev pub changes : RequestId → rules.Change → World → After
-changes id c w = reports (changeOf (w .session) (rowsFitIn w) id c (w .store)) w
+changes id c w = reports (changeOf (w .session) (rowsMatch w) id c (w .store)) w
 
 abbrev pub closes : CalledTo → World → After
 closes o w = moves (o .result) (o .store) w
 
 unfoldable pub placedOf : Placing → World → VerdictTo
-placedOf (Device d) w = setDeviceOf (w .session) (busFitsIn w) d (w .bus)
-placedOf (Port number row) w = setPortOf (w .session) (busFitsIn w) number row (w .bus)
-placedOf (Endpoints slot list) w = setEndpointsOf (w .session) (busFitsIn w) slot list (w .bus)
-placedOf (Reconcile slot mark) w = setReconcileOf (w .session) (busFitsIn w) slot mark (w .bus)
+placedOf (Device d) w = setDeviceOf (w .session) (busMatches w) d (w .bus)
+placedOf (Port number row) w = setPortOf (w .session) (busMatches w) number row (w .bus)
+placedOf (Endpoints slot list) w = setEndpointsOf (w .session) (busMatches w) slot list (w .bus)
+placedOf (Reconcile slot mark) w = setReconcileOf (w .session) (busMatches w) slot mark (w .bus)
 
 unfoldable pub movedOf : Moving → World → After
 movedOf (Acquire reply) w = moves (acquireOf (w .session) reply) (w .store) w
 movedOf (Initialize reply) w = moves (initializeOf (w .session) reply) (w .store) w
-movedOf (Close fresh reply) w = closes (closeOf (w .session) (rowsFitIn w) fresh reply (w .store)) w
+movedOf (Close fresh reply) w = closes (closeOf (w .session) (rowsMatch w) fresh reply (w .store)) w
 
 unfoldable pub begunOf : Beginning → World → After
 begunOf (Submit q bytes given packets first second) w =
-    submits (submitOf (w .session) (storeFitsIn w) q bytes given packets first second (w .bus) (w .store) (w .area))
-begunOf (SubmitPlan q bytes first) w = plans (submitPlanOf (w .session) (storeFitsIn w) q bytes first (w .bus) (w .store) (w .area))
-begunOf (Poll id) w = polls (pollOf (w .session) (rowsFitIn w) id (w .store .rows)) w
-begunOf (Recover id kind) w = begins (beginOf (w .session) (rowsFitIn w) id kind (w .store .rows)) w
+    submits (submitOf (w .session) (storeMatches w) q bytes given packets first second (w .bus) (w .store) (w .area))
+begunOf (SubmitPlan q bytes first) w = plans (submitPlanOf (w .session) (storeMatches w) q bytes first (w .bus) (w .store) (w .area))
+begunOf (Poll id) w = polls (pollOf (w .session) (rowsMatch w) id (w .store .rows)) w
+begunOf (Recover id kind) w = begins (recoverOf (w .session) (rowsMatch w) id kind (w .store .rows)) w
 
 unfoldable pub repliedOf : Replying → World → After
-repliedOf (ToSubmit reply) w = reports (submitReplyOf (w .session) (rowsFitIn w) reply (w .store)) w
-repliedOf (ToPoll reply bytes) w = finishes (finishOf (w .session) (rowsFitIn w && areaFitsIn w) reply bytes (w .store) (w .area)) w
+repliedOf (ToSubmit reply) w = reports (submitReplyOf (w .session) (rowsMatch w) reply (w .store)) w
+repliedOf (ToPoll reply bytes) w = finishes (finishOf (w .session) (rowsMatch w && areaMatches w) reply bytes (w .store) (w .area)) w
 repliedOf (ToRecovery reply tokens words aborted bytes) w = recovers (recoversOf reply tokens words aborted bytes w) w
 
 -- the ledger's change
@@ -140,12 +140,12 @@ changeBy Timeout = change.Timeout
 changeBy Reclaim = change.Reclaim
 
 unfoldable pub readOf : Reading → World → Answer
-readOf (Status id) w = ofReport (statusOf (w .session) (rowsFitIn w) id (w .store .rows))
-readOf (Reports from) w = ofNext (nextOf (w .session) (rowsFitIn w) from (w .store .rows))
-readOf CountReports w = ofTally (shownCount (w .session) (rowsFitIn w) (w .store .rows))
-readOf (CompletedBytes id) w = ofPart (completedPart (w .session) (rowsFitIn w && areaFitsIn w) id (w .store .rows))
-readOf HeldCount w = ofTally (heldCountOf (rowsFitIn w) (w .store .rows))
-readOf HeldBytes w = ofTally (heldBytesOf (rowsFitIn w) (w .store .rows))
+readOf (Status id) w = ofReport (statusOf (w .session) (rowsMatch w) id (w .store .rows))
+readOf (Reports from) w = ofNext (nextOf (w .session) (rowsMatch w) from (w .store .rows))
+readOf CountReports w = ofTally (shownCount (w .session) (rowsMatch w) (w .store .rows))
+readOf (CompletedBytes id) w = ofPart (completedPart (w .session) (rowsMatch w && areaMatches w) id (w .store .rows))
+readOf HeldCount w = ofTally (heldCountOf (rowsMatch w) (w .store .rows))
+readOf HeldBytes w = ofTally (heldBytesOf (rowsMatch w) (w .store .rows))
 
 unfoldable pub stepOf : Call → World → After
 stepOf (Open o) w = opens (openOf (openFits o (length (w .store .words)) (length (w .area)) (length (w .bus .words))) o (w .store) (w .bus)) w

@@ -17,7 +17,7 @@ use Rattle.calls.specs.Step.{World, world, After, after, stepOf}
 use Rattle.calls.specs.declared.Outcome.{Outcome}
 use Rattle.answer_words.proofs.Room.{lists-put}
 use Rattle.session_words.proofs.Own.{written-same}
-use Rattle.dispatch.specs.Apply.{StepsRows, StepsStore, RunsStore, Ran, ran, runOf, Done, done, wrote, answered, applyOf}
+use Rattle.dispatch.specs.Apply.{StepsRows, StepsStore, RunsStore, Ran, ran, runOf, Done, done, wrote, answered, dispatchOf}
 use Rattle.call_words.specs.Decode.{placingOf, movingOf, submissionOf, replyingOf, changingOf, reportingOf, recoveringOf, callOf}
 use Rattle.dispatch.proofs.Steps.{unlisted, ran-said}
 
@@ -125,8 +125,8 @@ module _ (s call bytes out l s' out' l' area area' : List ℕ) (b b' : Bus) (sto
       ∙ ap wroteBy es
 
   pub apply-done : (t u : Bool) → t ≡ isCall call → not t ≡ false → u ≡ isSession s → not u ≡ false → 32 ≤ length out → 386 ≤ length l
-      → left ≡ wroteBy (sessionOf s) → left ≡ applyOf s b store area call bytes out l
-  unfolding runOf applyOf
+      → left ≡ wroteBy (sessionOf s) → left ≡ dispatchOf s b store area call bytes out l
+  unfolding runOf dispatchOf
   apply-done t u et nt eu nu k k' h =
       let c = callOf call bytes in
       let v = world (sessionOf s) b store area in

@@ -15,14 +15,14 @@ use Rattle.reports.specs.Change.{changeOf}
 use Rattle.reports.specs.declared.Reported.{Reported}
 use Rattle.calls.specs.Answers.{outcome, ofReport}
 use Rattle.calls.specs.Calls.{Changing, Cancel, Timeout, Reclaim, Change}
-use Rattle.session_words.specs.State.{idAt}
+use Rattle.session_words.specs.State.{readRequestId}
 use Rattle.calls.specs.Step.{world, changeBy, stepOf}
 use Rattle.calls.specs.declared.Outcome.{Outcome}
 use Rattle.dispatch.specs.Apply.{StepsRows}
 use Rattle.call_words.specs.Decode.{changingOf}
 use Rattle.dispatch.proofs.Steps.{said, reported}
 
-module _ (n : ℕ) (s : Session) (l k w : List ℕ) (id : RequestId) (x : Reported) (r : Outcome) (ei : id ≡ idAt w 1)
+module _ (n : ℕ) (s : Session) (l k w : List ℕ) (id : RequestId) (x : Reported) (r : Outcome) (ei : id ≡ readRequestId w 1)
     (er : r ≡ outcome (ofReport (x .answer)) (x .session)) where
   abbrev Changes : rules.Change → Type 0
   Changes c = reportedTo x (storeOf k) ≡ changeOf s (rowsFit (s .«row_count») (s .«row_bytes») (length l)) id c (storeOf l)
@@ -30,7 +30,7 @@ module _ (n : ℕ) (s : Session) (l k w : List ℕ) (id : RequestId) (x : Report
   abbrev Steps : Type 0
   Steps = StepsRows r (storeOf k) (changingOf n w) s (storeOf l)
 
-  changed : (c : Changing) → Change (idAt w 1) c ≡ changingOf n w → Changes (changeBy c) → Steps
+  changed : (c : Changing) → Change (readRequestId w 1) c ≡ changingOf n w → Changes (changeBy c) → Steps
   unfolding stepOf storeOf
   changed c e h b area =
       let v = world s b (storeOf l) area in

@@ -13,7 +13,7 @@ use Rattle.session.specs.Sizes.{rowsFit, areaFits}
 use Rattle.session.specs.declared.RecoveryKind.{RecoveryKind}
 use Rattle.session.specs.declared.RecoveryKind.the-variants as kind
 use Rattle.session.specs.declared.Session.{Session}
-use Rattle.recovery.specs.Begin.{beginOf}
+use Rattle.recovery.specs.Begin.{recoverOf}
 use Rattle.recovery.specs.Reply.{RecoveredTo, recoveredTo, recoveryReplyOf}
 use Rattle.recovery.specs.declared.Begun.{Begun}
 use Rattle.recovery.specs.declared.Recovered.{Recovered}
@@ -22,7 +22,7 @@ use Rattle.calls.specs.Answers.{outcome, ofBegin, ofRecovery}
 use Rattle.call_words.specs.Arguments.{readRecoveryReply, readCompleted, readCompletions, readAborted}
 use Rattle.calls.specs.Calls.{Recover, ToRecovery, Call, Begin, Reply}
 use Rattle.answer_words.specs.Lists.{begunLists, recoveredLists, listsOf, putLists}
-use Rattle.session_words.specs.State.{idAt}
+use Rattle.session_words.specs.State.{readRequestId}
 use Rattle.calls.specs.Step.{World, world, after, begins, recovers, begunOf, repliedOf, stepOf}
 use Rattle.calls.specs.declared.Outcome.{Outcome}
 use Rattle.dispatch.specs.Apply.{RunsStore, ran, runOf}
@@ -57,10 +57,10 @@ module _ (s : Session) (rows w bytes area l m : List ℕ) (r : Outcome) where
     unfolding recoveringOf
     replied-run next left n22 n23 h b = ran-said call (recoveringOf n w bytes) (world s b (storeOf rows) area) _ l (search chain depth 20) (h b)
 
-    module _ (id : RequestId) (x : Begun) (ei : id ≡ idAt w 1) (el : m ≡ putLists (begunLists x) l)
+    module _ (id : RequestId) (x : Begun) (ei : id ≡ readRequestId w 1) (el : m ≡ putLists (begunLists x) l)
         (er : r ≡ outcome (ofBegin (x .answer)) (x .session)) where
       abbrev Begins : RecoveryKind → Type 0
-      Begins k = x ≡ beginOf s (rowsFit (s .«row_count») (s .«row_bytes») (length rows)) id k (rowsOf rows)
+      Begins k = x ≡ recoverOf s (rowsFit (s .«row_count») (s .«row_bytes») (length rows)) id k (rowsOf rows)
 
       abbrev Runs : Type 0
       Runs = RunsStore r (storeOf rows) area m (recoveringOf n w bytes) s (storeOf rows) area l
@@ -81,6 +81,6 @@ module _ (s : Session) (rows w bytes area l m : List ℕ) (r : Outcome) where
       unfolding runOf stepOf begunOf listsOf storeOf recoveringOf
       reset-run f preserve n22 e ef ep h b =
           let v = world s b (storeOf rows) area in
-          let c : Begin (Recover id (kind.Reset preserve)) ≡ Begin (Recover (idAt w 1) (kind.Reset (flagOf (getD w 4 0)))) =
-          ap (λ (z : RequestId). Begin (Recover z (kind.Reset preserve))) ei ∙ ap (λ (z : Bool). Begin (Recover (idAt w 1) (kind.Reset z))) (ep ∙ ap flagOf ef) in
+          let c : Begin (Recover id (kind.Reset preserve)) ≡ Begin (Recover (readRequestId w 1) (kind.Reset (flagOf (getD w 4 0)))) =
+          ap (λ (z : RequestId). Begin (Recover z (kind.Reset preserve))) ei ∙ ap (λ (z : Bool). Begin (Recover (readRequestId w 1) (kind.Reset z))) (ep ∙ ap flagOf ef) in
           ran-said (Begin (Recover id (kind.Reset preserve))) (recoveringOf n w bytes) v _ l (search (chain, c) depth 20) (begun _ v h)

@@ -21,7 +21,7 @@ use Rattle.submissions.specs.declared.SubmitReply.{SubmitReply}
 use Rattle.calls.specs.Answers.{outcome, ofReport, ofPoll}
 use Rattle.call_words.specs.Arguments as arguments
 use Rattle.calls.specs.Calls.{Poll, ToSubmit, ToPoll, Begin, Reply}
-use Rattle.session_words.specs.State.{idAt}
+use Rattle.session_words.specs.State.{readRequestId}
 use Rattle.calls.specs.Step.{world, after, polls, finishes, begunOf, repliedOf, stepOf}
 use Rattle.calls.specs.declared.Outcome.{Outcome}
 use Rattle.dispatch.specs.Apply.{StepsStore}
@@ -39,7 +39,7 @@ module _ (n : ℕ) (s : Session) (l w bytes area : List ℕ) (r : Outcome) where
       said (Reply (ToSubmit reply)) (replyingOf n w bytes) v _ (search (chain, ap (λ (z : SubmitReply). Reply (ToSubmit z)) ea) depth 20) (reported r (storeOf k) v x _ er h)
 
   module _ (n10 : n ≡ 10 → ⊥) where
-    pub poll-step : (x : Polled) (id : RequestId) → id ≡ idAt w 1 → n ≡ 11 → r ≡ outcome (ofPoll (x .answer)) (x .session)
+    pub poll-step : (x : Polled) (id : RequestId) → id ≡ readRequestId w 1 → n ≡ 11 → r ≡ outcome (ofPoll (x .answer)) (x .session)
         → x ≡ pollOf s (rowsFit (s .«row_count») (s .«row_bytes») (length l)) id (rowsOf l)
         → StepsStore r (storeOf l) area (replyingOf n w bytes) s (storeOf l) area
     unfolding stepOf begunOf repliedOf storeOf replyingOf

@@ -20,7 +20,7 @@ use Rattle.reports.specs.declared.Tally.{Tally}
 use Rattle.calls.specs.Answers.{outcome, ofReport, ofNext, ofTally, ofPart}
 use Rattle.call_words.specs.Arguments.{readOptionId}
 use Rattle.calls.specs.Calls.{Reading, Status, Reports, CountReports, CompletedBytes, HeldCount, HeldBytes, Read}
-use Rattle.session_words.specs.State.{idAt}
+use Rattle.session_words.specs.State.{readRequestId}
 use Rattle.calls.specs.Step.{world, reads, readOf, stepOf}
 use Rattle.calls.specs.declared.Answer.{Answer}
 use Rattle.dispatch.specs.Apply.{StepsStore}
@@ -41,7 +41,7 @@ module _ (n : ℕ) (s : Session) (l w area : List ℕ) where
       let v = world s b (storeOf l) area in
       said (Read c) (reportingOf n w) v _ e (ap (λ (z : Answer). reads z v) (h b))
 
-  pub status-step : (r : Answer) (x : ReportAnswer) (id : RequestId) → id ≡ idAt w 1 → n ≡ 16 → r ≡ ofReport x → x ≡ statusOf s fits id (rowsOf l) → Steps r
+  pub status-step : (r : Answer) (x : ReportAnswer) (id : RequestId) → id ≡ readRequestId w 1 → n ≡ 16 → r ≡ ofReport x → x ≡ statusOf s fits id (rowsOf l) → Steps r
   unfolding readOf storeOf reportingOf
   status-step r x id ei e er h = by (Status id) r (search (chain, ap (λ (z : RequestId). Read (Status z)) ei) depth 20) (λ b. er ∙ ap ofReport h)
 
@@ -56,7 +56,7 @@ module _ (n : ℕ) (s : Session) (l w area : List ℕ) where
       count-step r x e er h = by CountReports r (search chain depth 20) (λ b. er ∙ ap ofTally h)
 
       module _ (n18 : n ≡ 18 → ⊥) where
-        pub bytes-step : (r : Answer) (x : PartAnswer) (id : RequestId) → id ≡ idAt w 1 → n ≡ 19 → r ≡ ofPart x
+        pub bytes-step : (r : Answer) (x : PartAnswer) (id : RequestId) → id ≡ readRequestId w 1 → n ≡ 19 → r ≡ ofPart x
             → x ≡ completedPart s (fits && areaFits (s .«row_count») (s .«row_bytes») (length area)) id (rowsOf l) → Steps r
         unfolding readOf storeOf reportingOf
         bytes-step r x id ei e er h =

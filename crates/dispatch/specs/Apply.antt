@@ -67,8 +67,8 @@ abbrev pub answered : Call → World → List ℕ → List ℕ → List ℕ → 
 answered c v s out lists = wrote (ran (stepOf c v) (splice 0 (listsOf c v) lists)) s out
 
 -- 1: no call; 2: not a session's own words; 3: too few words for the answer; 4: too few words for lists. Then nothing changes
-unfoldable pub applyOf : List ℕ → Bus → Store → List ℕ → List ℕ → List ℕ → List ℕ → List ℕ → Done
-applyOf s b store area call bytes out lists =
+unfoldable pub dispatchOf : List ℕ → Bus → Store → List ℕ → List ℕ → List ℕ → List ℕ → List ℕ → Done
+dispatchOf s b store area call bytes out lists =
     done 1 (keptOf s) b store area out lists if not (isCall call) else
     done 2 (keptOf s) b store area out lists if not (isSession s) else
     done 3 (keptOf s) b store area out lists if ltb (length out) answerSize else

@@ -30,7 +30,7 @@ ghost use Rattle.session_words.specs.State.{keptOf, sessionOf};
 ghost use Rattle.call_words.specs.Decode.{placingOf, movingOf, submissionOf, replyingOf, changingOf, reportingOf, recoveringOf, callOf};
 ghost use Rattle.call_words.specs.Arguments.{readRecoveryReply, readCompleted, readCompletions, readAborted};
 ghost use Rattle.calls.specs.Calls.{Reply, ToRecovery};
-ghost use Rattle.dispatch.specs.Apply.{StepsRows, StepsStore, RunsStore, ran, runOf, done, wrote, applyOf};
+ghost use Rattle.dispatch.specs.Apply.{StepsRows, StepsStore, RunsStore, ran, runOf, done, wrote, dispatchOf};
 ghost use Rattle.calls.specs.Answers.{outcome};
 
 fn byte_at(w: &[u64], i: usize) -> u8
@@ -313,7 +313,7 @@ pub fn apply(
     out: &mut [u64],
     lists: &mut [u64],
 ) -> u64
-    ensures { λ r. ⌜ done r (keptOf (now (session .exit))) (busOf (now (bus .exit))) (storeOf (now (rows .exit))) (now (area .exit)) (now (out .exit)) (now (lists .exit)) ≡ applyOf (now (session .entry)) (busOf (now (bus .entry))) (storeOf (now (rows .entry))) (now (area .entry)) (now (call .entry)) (now (bytes .entry)) (now (out .entry)) (now (lists .entry)) ⌝ }
+    ensures { λ r. ⌜ done r (keptOf (now (session .exit))) (busOf (now (bus .exit))) (storeOf (now (rows .exit))) (now (area .exit)) (now (out .exit)) (now (lists .exit)) ≡ dispatchOf (now (session .entry)) (busOf (now (bus .entry))) (storeOf (now (rows .entry))) (now (area .entry)) (now (call .entry)) (now (bytes .entry)) (now (out .entry)) (now (lists .entry)) ⌝ }
 {
     if !form::is_call(call) {
         return 1;

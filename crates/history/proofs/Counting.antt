@@ -51,10 +51,10 @@ use Rattle.recovery.specs.declared.BeginAnswer.{BeginAnswer}
 use Rattle.recovery.specs.declared.BeginAnswer.the-variants as begin
 use Rattle.recovery.specs.declared.RecoveryAnswer.{RecoveryAnswer}
 use Rattle.recovery.specs.declared.RecoveryAnswer.the-variants as recovery
-use Rattle.recovery.specs.Begin.{beginOf}
+use Rattle.recovery.specs.Begin.{recoverOf}
 use Rattle.calls.specs.Answers.{ofVerdict, ofSubmit, ofPlan, ofReport, ofPoll, ofNext, ofTally, ofPart, ofBegin, ofRecovery}
 use Rattle.calls.specs.Calls.{Reading, Status, Reports, CountReports, CompletedBytes, HeldCount, HeldBytes, Call, Open, Place, Move, Acquire, Initialize, Close, Begin, Submit, SubmitPlan, Poll, Recover, Reply, ToSubmit, ToPoll, ToRecovery, Change, Read}
-use Rattle.calls.specs.Step.{World, world, stepOf, rowsFitIn, areaFitsIn, storeFitsIn, recoversOf, placedOf, movedOf, begunOf, repliedOf, changeBy, readOf}
+use Rattle.calls.specs.Step.{World, world, stepOf, rowsMatch, areaMatches, storeMatches, recoversOf, placedOf, movedOf, begunOf, repliedOf, changeBy, readOf}
 use Rattle.calls.specs.declared.Answer.{Answer}
 use Rattle.calls.specs.declared.Answer.the-variants as answer
 use Rattle.runs.specs.Run.{Handed, Event, isOpening, leftBy, answerTo, historyOf, Handing, Follows}
@@ -203,12 +203,12 @@ module _ (x : RequestId) where
 
   read-still : (r : Reading) (w : World) (n : ℕ) → n ≡ n + cond (isBegun x (begunId (readOf r w))) 1 0
   unfolding readOf
-  read-still (Status id) w n = report-still (statusOf (w .session) (rowsFitIn w) id (w .store .rows)) n n refl
-  read-still (Reports from) w n = nextReport-still (nextOf (w .session) (rowsFitIn w) from (w .store .rows)) n n refl
-  read-still CountReports w n = tally-still (shownCount (w .session) (rowsFitIn w) (w .store .rows)) n n refl
-  read-still (CompletedBytes id) w n = part-still (completedPart (w .session) (rowsFitIn w && areaFitsIn w) id (w .store .rows)) n n refl
-  read-still HeldCount w n = tally-still (heldCountOf (rowsFitIn w) (w .store .rows)) n n refl
-  read-still HeldBytes w n = tally-still (heldBytesOf (rowsFitIn w) (w .store .rows)) n n refl
+  read-still (Status id) w n = report-still (statusOf (w .session) (rowsMatch w) id (w .store .rows)) n n refl
+  read-still (Reports from) w n = nextReport-still (nextOf (w .session) (rowsMatch w) from (w .store .rows)) n n refl
+  read-still CountReports w n = tally-still (shownCount (w .session) (rowsMatch w) (w .store .rows)) n n refl
+  read-still (CompletedBytes id) w n = part-still (completedPart (w .session) (rowsMatch w && areaMatches w) id (w .store .rows)) n n refl
+  read-still HeldCount w n = tally-still (heldCountOf (rowsMatch w) (w .store .rows)) n n refl
+  read-still HeldBytes w n = tally-still (heldBytesOf (rowsMatch w) (w .store .rows)) n n refl
 
   step-ids : (c : Call) (w : World) (j : Journal) → isOpening c ≡ false
       → number (journalStep c (stepOf c w .result .answer) j .entries) ≡ number (j .entries) + cond (isBegun x (begunId (stepOf c w .result .answer))) 1 0
@@ -218,30 +218,30 @@ module _ (x : RequestId) where
   step-ids (Move (Acquire reply)) w j f = verdict-still (acquireOf (w .session) reply .answer) _ _ refl
   step-ids (Move (Initialize reply)) w j f = verdict-still (initializeOf (w .session) reply .answer) _ _ refl
   step-ids (Move (Close fresh reply)) w j f =
-      let a : Answer = ofVerdict (closeOf (w .session) (rowsFitIn w) fresh reply (w .store) .result .answer) in
-      verdict-still (closeOf (w .session) (rowsFitIn w) fresh reply (w .store) .result .answer) _ _
+      let a : Answer = ofVerdict (closeOf (w .session) (rowsMatch w) fresh reply (w .store) .result .answer) in
+      verdict-still (closeOf (w .session) (rowsMatch w) fresh reply (w .store) .result .answer) _ _
       (let c = closed-ids x (j .entries) in caseB (isPass a) (λ e. rw e (omega (arith, c))) (λ e. rw e))
   step-ids (Begin (Submit q bytes given packets one two)) w j f =
-      begun-ids (begunId (ofSubmit (submitOf (w .session) (storeFitsIn w) q bytes given packets one two (w .bus) (w .store) (w .area) .result .answer))) (q .device) (q .endpoint) (q .length) j
+      begun-ids (begunId (ofSubmit (submitOf (w .session) (storeMatches w) q bytes given packets one two (w .bus) (w .store) (w .area) .result .answer))) (q .device) (q .endpoint) (q .length) j
   step-ids (Begin (SubmitPlan q bytes one)) w j f =
-      begun-ids (begunId (ofPlan (submitPlanOf (w .session) (storeFitsIn w) q bytes one (w .bus) (w .store) (w .area) .result .answer))) (q .device) 0
+      begun-ids (begunId (ofPlan (submitPlanOf (w .session) (storeMatches w) q bytes one (w .bus) (w .store) (w .area) .result .answer))) (q .device) 0
       (stageOf (q .«data_stage») (q .setup .«request_type») .length) j
   step-ids (Begin (Poll id)) w j f =
-      let a : Answer = ofPoll (pollOf (w .session) (rowsFitIn w) id (w .store .rows) .answer) in
-      poll-still (pollOf (w .session) (rowsFitIn w) id (w .store .rows) .answer) _ _ (caseB (isAsked a) (λ e. rw e) (λ e. rw e))
-  step-ids (Begin (Recover id kind)) w j f = begin-ids (beginOf (w .session) (rowsFitIn w) id kind (w .store .rows) .answer) id kind j
+      let a : Answer = ofPoll (pollOf (w .session) (rowsMatch w) id (w .store .rows) .answer) in
+      poll-still (pollOf (w .session) (rowsMatch w) id (w .store .rows) .answer) _ _ (caseB (isAsked a) (λ e. rw e) (λ e. rw e))
+  step-ids (Begin (Recover id kind)) w j f = begin-ids (recoverOf (w .session) (rowsMatch w) id kind (w .store .rows) .answer) id kind j
   step-ids (Reply (ToSubmit reply)) w j f =
-      let a : Answer = ofReport (submitReplyOf (w .session) (rowsFitIn w) reply (w .store) .result .answer) in
-      report-still (submitReplyOf (w .session) (rowsFitIn w) reply (w .store) .result .answer) _ _
+      let a : Answer = ofReport (submitReplyOf (w .session) (rowsMatch w) reply (w .store) .result .answer) in
+      report-still (submitReplyOf (w .session) (rowsMatch w) reply (w .store) .result .answer) _ _
       (caseB (endsBy a) (λ e. rw e (waiting-ids (j .waiting) (acceptedAs reply) (λ y. accepted-id reply y) (j .entries))) (λ e. rw e))
   step-ids (Reply (ToPoll reply bytes)) w j f =
-      let a : Answer = ofReport (finishOf (w .session) (rowsFitIn w && areaFitsIn w) reply bytes (w .store) (w .area) .result .answer) in
-      report-still (finishOf (w .session) (rowsFitIn w && areaFitsIn w) reply bytes (w .store) (w .area) .result .answer) _ _
+      let a : Answer = ofReport (finishOf (w .session) (rowsMatch w && areaMatches w) reply bytes (w .store) (w .area) .result .answer) in
+      report-still (finishOf (w .session) (rowsMatch w && areaMatches w) reply bytes (w .store) (w .area) .result .answer) _ _
       (caseB (endsBy a) (λ e. rw e (polled-ids reply (length bytes) j)) (λ e. rw e))
   step-ids (Reply (ToRecovery reply tokens words aborted bytes)) w j f =
       recovery-still (recoversOf reply tokens words aborted bytes w .result .answer) _ _
       (recovered-ids (ofRecovery (recoversOf reply tokens words aborted bytes w .result .answer)) (returnedOf tokens words) aborted bytes j)
-  step-ids (Change id c) w j f = report-still (changeOf (w .session) (rowsFitIn w) id (changeBy c) (w .store) .result .answer) _ _ refl
+  step-ids (Change id c) w j f = report-still (changeOf (w .session) (rowsMatch w) id (changeBy c) (w .store) .result .answer) _ _ refl
   step-ids (Read r) w j f = read-still r w (number (j .entries))
 
   event-ids : (h : Handed) (c : Call) (w : World) (j : Journal) → Handing h c

@@ -23,7 +23,7 @@ use Rattle.session.specs.declared.InFlight.{InFlight}
 use Rattle.session.specs.declared.InFlight.the-variants as flight
 use Rattle.session.specs.declared.Session.{Session}
 use Rattle.reports.specs.Answers.{effect}
-use Rattle.scope.specs.Scope.{isIn}
+use Rattle.scope.specs.Scope.{isAmong}
 use Rattle.scope.proofs.Scoping.{in-cons}
 use Rattle.runs.specs.Run.{noted}
 use Rattle.runs.proofs.Held.{or-false}
@@ -37,8 +37,8 @@ pub record InvOf (number generation next : ℕ) (waits : InFlight) (rows : List 
   pub led : Led rows (j .entries)
   -- no entry has an id that is still to be given, nor a session number that was never handed over
   pub fresh : (k : ℕ) → next ≤ k → count (isEntry (record { session = number; generation = generation; sequence = k })) (j .entries) ≡ 0
-  pub past : (x : RequestId) → isIn (x .session) seen ≡ false → count (isEntry x) (j .entries) ≡ 0
-  pub here : isIn number seen ≡ true
+  pub past : (x : RequestId) → isAmong (x .session) seen ≡ false → count (isEntry x) (j .entries) ≡ 0
+  pub here : isAmong number seen ≡ true
   pub agree : j .waiting ≡ waits
 
 -- so the controller's state, its revision and the stall may be any
@@ -97,7 +97,7 @@ module _ (s : Session) (rows : List Row) (j : Journal) (seen : List ℕ) (k : In
     led = k .led;
     fresh = k .fresh;
     agree = k .agree;
-    past = λ x e. k .past x (or-false (eqb (x .session) n) (isIn (x .session) seen) (sym (in-cons (x .session) n seen) ∙ e) .1);
+    past = λ x e. k .past x (or-false (eqb (x .session) n) (isAmong (x .session) seen) (sym (in-cons (x .session) n seen) ∙ e) .1);
     here = let h = k .here in in-cons (s .number) n seen ∙ caseB (eqb (s .number) n) (λ e. rw e) (λ e. rw e h);
   }
 
@@ -112,12 +112,12 @@ module _ (s : Session) (rows : List Row) (j : Journal) (seen : List ℕ) (k : In
     agree = k .agree;
   }
 
-  pub closed-anew : (n size : ℕ) → isIn n seen ≡ false → isBusy (s .«in_flight») ≡ false
+  pub closed-anew : (n size : ℕ) → isAmong n seen ≡ false → isBusy (s .«in_flight») ≡ false
       → Inv (closedSession s n) (replicate size emptyRow) (releasedAll j) (n ∷ seen)
   closed-anew n size new b = record {
     led = led-closed rows (j .entries) (replicate size emptyRow) (k .led) (λ w. none-held w size) (λ x. omega (arith, none-at x size));
     fresh = λ i h. closed-ids _ (j .entries) ∙ k .past (record { session = n; generation = 0; sequence = i }) new;
-    past = λ x h. closed-ids x (j .entries) ∙ k .past x (or-false (eqb (x .session) n) (isIn (x .session) seen) (sym (in-cons (x .session) n seen) ∙ h) .1);
+    past = λ x h. closed-ids x (j .entries) ∙ k .past x (or-false (eqb (x .session) n) (isAmong (x .session) seen) (sym (in-cons (x .session) n seen) ∙ h) .1);
     here = let h = eq-eqb n n refl in in-cons n n seen ∙ rw h;
     agree = k .agree ∙ flight-none (s .«in_flight») b;
   }

@@ -22,9 +22,9 @@ use Rattle.session.specs.declared.lifecycle.Opening.{Opening}
 use Rattle.scope.specs.Affected.{affectedOf, tokensOf}
 use Rattle.scope.specs.Returned.{returnedOf}
 use Rattle.scope.specs.Scope.{meant, inScope}
-use Rattle.recovery.specs.Begin.{begunAs, beginOf}
+use Rattle.recovery.specs.Begin.{begunAs, recoverOf}
 use Rattle.recovery.specs.Reports.{idLists}
-use Rattle.recovery.specs.Reply.{RecoveredTo, isWhole, applyAll, reportOf, concludedBy, scopedOf, recoveryReplyOf}
+use Rattle.recovery.specs.Reply.{RecoveredTo, isWhole, applyAll, abortReport, concludedBy, scopedOf, recoveryReplyOf}
 use Rattle.recovery.specs.Entries.{WalkTo}
 use Rattle.recovery.specs.declared.AbortReport.{AbortReport}
 use Rattle.recovery.specs.declared.Begun.{Begun}
@@ -62,7 +62,7 @@ module _ (w : World) (k : Sound w) where
   abbrev Begins : Begun → Type 0
   Begins o = Not 44 (ofBegin (o .answer))
 
-  never-44 : (fits : Bool) (id : RequestId) (q : RecoveryKind) → Begins (beginOf (w .session) fits id q (w .store .rows))
+  never-44 : (fits : Bool) (id : RequestId) (q : RecoveryKind) → Begins (recoverOf (w .session) fits id q (w .store .rows))
   unfolding begunAs
   never-44 fits id q =
       begin-all (w .session) id q (w .store .rows) Begins (λ n e. e)
@@ -95,7 +95,7 @@ module _ (s : Session) (store : Store) (entries : List Entry) (few : count isHel
       let left : WalkTo = applyAll place (quiet .«row_bytes») (returnedOf tokens words) aborted bytes store area in
       concluded (left .verdict)
       (recovered-kept (y .device) (y .endpoint) store entries few k (isWhole o) (quiet .«row_bytes») tokens words aborted bytes area n .1)
-      y o (reportOf y o (length tokens) (length aborted)) (idLists (store .rows) place tokens aborted) (left .store .rows)
+      y o (abortReport y o (length tokens) (length aborted)) (idLists (store .rows) place tokens aborted) (left .store .rows)
 
   never-43 : (fits : Bool) (r : RecoveryReply) → Not 43 (ofRecovery (recoveryReplyOf s fits r tokens words aborted bytes store area .result .answer))
   never-43 fits r =

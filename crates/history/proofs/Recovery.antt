@@ -29,9 +29,9 @@ use Rattle.session.specs.declared.Session.{Session}
 use Rattle.scope.specs.Affected.{affectedOf, tokensOf}
 use Rattle.scope.specs.Scope.{meant, inScope}
 use Rattle.scope.specs.Returned.{returnedOf}
-use Rattle.recovery.specs.Begin.{recoveryOf, begunAs, beginOf}
+use Rattle.recovery.specs.Begin.{recoveryOf, begunAs, recoverOf}
 use Rattle.recovery.specs.Reports.{idLists}
-use Rattle.recovery.specs.Reply.{RecoveredTo, isWhole, restoredBy, resetBy, sessionAfter, refusedAfter, applyAll, reportOf, concludedBy, scopedOf, recoveryReplyOf}
+use Rattle.recovery.specs.Reply.{RecoveredTo, isWhole, restoredBy, resetBy, sessionAfter, refusedAfter, applyAll, abortReport, concludedBy, scopedOf, recoveryReplyOf}
 use Rattle.recovery.specs.declared.AbortReport.{AbortReport}
 use Rattle.recovery.specs.declared.Begun.{Begun}
 use Rattle.recovery.specs.declared.Ids.{Ids}
@@ -108,13 +108,13 @@ module _ (s : Session) (j : Journal) (seen : List ℕ) (store : Store) (k : Inv 
       agree = ap (λ (v : View). flight.Recovery id (v .device) (v .endpoint) q) its-view;
     }
 
-  pub begin-kept : (fits : Bool) (id : RequestId) (q : RecoveryKind) → Begin-kept id q (beginOf s fits id q (store .rows))
+  pub begin-kept : (fits : Bool) (id : RequestId) (q : RecoveryKind) → Begin-kept id q (recoverOf s fits id q (store .rows))
   begin-kept fits id q =
       begin-all s id q (store .rows) (Begin-kept id q) (λ n e. k) (λ i lt hit m. k)
       (λ i lt hit a m. opened id i lt hit (access-held id (rowIn (store .rows) i) hit a) q) fits
 
   -- a start that opens its operation names it
-  pub begin-names : (x : Recovery) (fits : Bool) (id : RequestId) (q : RecoveryKind) → ofBegin (beginOf s fits id q (store .rows) .answer) ≡ answer.Recovering x
+  pub begin-names : (x : Recovery) (fits : Bool) (id : RequestId) (q : RecoveryKind) → ofBegin (recoverOf s fits id q (store .rows) .answer) ≡ answer.Recovering x
       → flight.Recovery (x .target) (x .device) (x .endpoint) (x .kind) ≡ recoveryWaits id q j .waiting
   unfolding begunAs
   begin-names x fits id q =
@@ -174,7 +174,7 @@ module _ (s : Session) (j : Journal) (seen : List ℕ) (store : Store) (k : Inv 
           (applyAll (meant (affectedOf (x .device) (x .endpoint) (store .rows)) (tokensOf (store .rows) (affectedOf (x .device) (x .endpoint) (store .rows)))) (quiet .«row_bytes») (returnedOf tokens words) aborted bytes store area .store .rows)
           (w .0)
           (applyAll (meant (affectedOf (x .device) (x .endpoint) (store .rows)) (tokensOf (store .rows) (affectedOf (x .device) (x .endpoint) (store .rows)))) (quiet .«row_bytes») (returnedOf tokens words) aborted bytes store area .verdict)
-          (w .1) o (reportOf x o (length tokens) (length aborted))
+          (w .1) o (abortReport x o (length tokens) (length aborted))
           (idLists (store .rows) (meant (affectedOf (x .device) (x .endpoint) (store .rows)) (tokensOf (store .rows) (affectedOf (x .device) (x .endpoint) (store .rows)))) tokens aborted)
 
     pub recovery-kept : (fits : Bool) (r : RecoveryReply) → Reply-kept (recoveryReplyOf s fits r tokens words aborted bytes store area)

@@ -89,7 +89,7 @@ use Rattle.scope.specs.Scope.{meant}
 use Rattle.recovery.specs.Begin as recoveryBegin
 use Rattle.recovery.specs.Entries.{WalkTo, rowCompletedBy, testedBy, completeOne, abortedBy, abortOne}
 use Rattle.recovery.specs.Reports.{idLists}
-use Rattle.recovery.specs.Reply.{RecoveredTo, reportOf, applyAll, concludedBy, scopedOf, recoveryReplyOf}
+use Rattle.recovery.specs.Reply.{RecoveredTo, abortReport, applyAll, concludedBy, scopedOf, recoveryReplyOf}
 use Rattle.recovery.specs.declared.AbortReport.{AbortReport}
 use Rattle.recovery.specs.declared.Begun.{Begun}
 use Rattle.recovery.specs.declared.Ids.{Ids}
@@ -98,7 +98,7 @@ use Rattle.recovery.specs.declared.Recovery.{Recovery}
 use Rattle.recovery.specs.declared.RecoveryReply.{RecoveryReply}
 use Rattle.calls.specs.Answers.{ofSubmit, ofPlan, ofRecovery}
 use Rattle.calls.specs.Calls.{Device, Port, Endpoints, Reconcile, Call, Open, Place, Move, Acquire, Initialize, Close, Begin, Submit, SubmitPlan, Poll, Recover, Reply, ToSubmit, ToPoll, ToRecovery, Change, Read}
-use Rattle.calls.specs.Step.{World, After, stepOf, opens, places, moves, closes, submits, plans, reports, polls, finishes, begins, recovers, rowsFitIn, areaFitsIn, storeFitsIn, placedOf, movedOf, begunOf, repliedOf, changeBy}
+use Rattle.calls.specs.Step.{World, After, stepOf, opens, places, moves, closes, submits, plans, reports, polls, finishes, begins, recovers, rowsMatch, areaMatches, storeMatches, placedOf, movedOf, begunOf, repliedOf, changeBy}
 use Rattle.calls.specs.declared.Answer.{Answer}
 use Rattle.calls.specs.declared.Answer.the-variants as answer
 use Rattle.runs.specs.Run.{next}
@@ -497,7 +497,7 @@ module _ (w : World) where
   abbrev Begins : Begun → Type 0
   Begins o = Stays (begins o w)
 
-  begin-stays : (fits : Bool) (id : RequestId) (q : RecoveryKind) → Begins (recoveryBegin.beginOf (w .session) fits id q (w .store .rows))
+  begin-stays : (fits : Bool) (id : RequestId) (q : RecoveryKind) → Begins (recoveryBegin.recoverOf (w .session) fits id q (w .store .rows))
   unfolding recoveryBegin.begunAs
   begin-stays fits id q =
       begin-all (w .session) id q (w .store .rows) Begins (λ n z e. refl) (λ i lt hit m e. refl) (λ i lt hit a m e. absurd (no _ refl e)) fits
@@ -520,7 +520,7 @@ module _ (w : World) where
       let place : ℕ → ℕ = meant (affectedOf (y .device) (y .endpoint) (w .store .rows)) (tokensOf (w .store .rows) (affectedOf (y .device) (y .endpoint) (w .store .rows))) in
       let left : WalkTo = applyAll place (quiet .«row_bytes») (returnedOf tokens words) aborted bytes (w .store) (w .area) in
       concluded (left .verdict) (other-all place (quiet .«row_bytes») (returnedOf tokens words) aborted bytes (w .store) (w .area)) y o
-      (reportOf y o (length tokens) (length aborted)) (idLists (w .store .rows) place tokens aborted) (left .store .rows) _)
+      (abortReport y o (length tokens) (length aborted)) (idLists (w .store .rows) place tokens aborted) (left .store .rows) _)
       fits r
 
 pub refused-untouched : (c : Call) (w : World) → stepOf c w .result .answer ≡ answer.Refused (refusalOf 3) → next (stepOf c w) ≡ w
@@ -532,13 +532,13 @@ refused-untouched (Place (Endpoints slot list)) w = endpoints-stay w _ slot list
 refused-untouched (Place (Reconcile slot mark)) w = mark-stays w _ slot mark
 refused-untouched (Move (Acquire reply)) w = acquire-stays w reply
 refused-untouched (Move (Initialize reply)) w = initialize-stays w reply
-refused-untouched (Move (Close fresh reply)) w = close-stays w (rowsFitIn w) fresh reply
-refused-untouched (Begin (Submit q bytes given packets one two)) w = submit-stays w (storeFitsIn w) q bytes given packets one two
-refused-untouched (Begin (SubmitPlan q bytes one)) w = plan-stays w (storeFitsIn w) q bytes one
-refused-untouched (Begin (Poll id)) w = poll-stays w (rowsFitIn w) id
-refused-untouched (Begin (Recover id kind)) w = begin-stays w (rowsFitIn w) id kind
-refused-untouched (Reply (ToSubmit reply)) w = reply-stays w (rowsFitIn w) reply
-refused-untouched (Reply (ToPoll reply bytes)) w = finish-stays w (rowsFitIn w && areaFitsIn w) reply bytes
-refused-untouched (Reply (ToRecovery reply tokens words aborted bytes)) w = recovery-stays w (rowsFitIn w && areaFitsIn w) reply tokens words aborted bytes
-refused-untouched (Change id c) w = change-stays w (rowsFitIn w) id (changeBy c)
+refused-untouched (Move (Close fresh reply)) w = close-stays w (rowsMatch w) fresh reply
+refused-untouched (Begin (Submit q bytes given packets one two)) w = submit-stays w (storeMatches w) q bytes given packets one two
+refused-untouched (Begin (SubmitPlan q bytes one)) w = plan-stays w (storeMatches w) q bytes one
+refused-untouched (Begin (Poll id)) w = poll-stays w (rowsMatch w) id
+refused-untouched (Begin (Recover id kind)) w = begin-stays w (rowsMatch w) id kind
+refused-untouched (Reply (ToSubmit reply)) w = reply-stays w (rowsMatch w) reply
+refused-untouched (Reply (ToPoll reply bytes)) w = finish-stays w (rowsMatch w && areaMatches w) reply bytes
+refused-untouched (Reply (ToRecovery reply tokens words aborted bytes)) w = recovery-stays w (rowsMatch w && areaMatches w) reply tokens words aborted bytes
+refused-untouched (Change id c) w = change-stays w (rowsMatch w) id (changeBy c)
 refused-untouched (Read r) w = λ e. refl

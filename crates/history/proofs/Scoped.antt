@@ -14,7 +14,7 @@ use Rattle.rows.specs.Store.{Store}
 use Rattle.rows.specs.Table.{isHeld, rowIn, tokenIn}
 use Rattle.rows.specs.declared.Row.{Row}
 use Rattle.scope.specs.Affected.{affectedOf, tokensOf}
-use Rattle.scope.specs.Scope.{slotOf, isIn, meant, inScope}
+use Rattle.scope.specs.Scope.{slotOf, isAmong, meant, inScope}
 use Rattle.scope.specs.Returned.{returnedOf}
 use Rattle.recovery.specs.Reply.{applyAll}
 use Rattle.runs.proofs.Affected.{affected-is-held, meant-affected, meant-below, returned-tokens, slot-in}
@@ -42,7 +42,7 @@ module _ (d : DeviceId) (endpoint : ℕ) (rows : List Row) (entries : List Entry
   own-is : map (λ (v : View). v .token) (affectedViews d endpoint entries) ≡ own
   own-is = ap (map (λ (v : View). v .token)) (sym (affected-same d endpoint rows entries few k)) ∙ map-map (λ (v : View). v .token) (seen d endpoint rows) affected
 
-  module _ (t : ℕ) (e : isIn t own ≡ true) where
+  module _ (t : ℕ) (e : isAmong t own ≡ true) where
     view-at : rowView (rowIn rows (place t)) ≡ view t
     view-at =
         let a : getD (map (seen d endpoint rows) affected) (slotOf own t) (seen d endpoint rows 0) ≡ seen d endpoint rows (place t) = List·getD-map (seen d endpoint rows) affected (slotOf own t) 0 in

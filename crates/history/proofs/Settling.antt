@@ -38,12 +38,12 @@ use Rattle.session.specs.declared.InFlight.the-variants as flight
 use Rattle.session.specs.declared.RecoveryKind.{RecoveryKind}
 use Rattle.session.specs.declared.Session.{Session}
 use Rattle.scope.specs.Affected.{isAffected, affectedOf, tokensOf}
-use Rattle.scope.specs.Scope.{isIn, slotOf, meant, eachOnce, allIn, inScope}
+use Rattle.scope.specs.Scope.{isAmong, slotOf, meant, eachOnce, allIn, inScope}
 use Rattle.scope.specs.Returned.{Returned, returnedOf}
 use Rattle.scope.proofs.Scoping.{in-cons, in-append}
 use Rattle.recovery.specs.Entries.{WalkTo, rowCompletedBy, testedBy, completeOne, abortedBy, abortOne}
 use Rattle.recovery.specs.Reports.{idLists}
-use Rattle.recovery.specs.Reply.{RecoveredTo, isWhole, applyAll, reportOf, concludedBy, scopedOf, recoveryReplyOf}
+use Rattle.recovery.specs.Reply.{RecoveredTo, isWhole, applyAll, abortReport, concludedBy, scopedOf, recoveryReplyOf}
 use Rattle.recovery.specs.declared.AbortReport.{AbortReport}
 use Rattle.recovery.specs.declared.Ids.{Ids}
 use Rattle.recovery.specs.declared.Outcome.{Outcome}
@@ -164,17 +164,17 @@ module _ (place : ℕ → ℕ) where
     elsewhere : (u : ℕ) → eqb t u ≡ false → tokenIn rows (place u) ≡ u → eqb (place u) (place t) ≡ false
     elsewhere u n e = ne-eqb (place u) (place t) (λ z. eqb-false t u n (sym own ∙ ap (tokenIn rows) (sym z) ∙ e))
 
-    far-completions : (es : List Returned) (us : List ℕ) → isIn t (tokensIn es ++ us) ≡ false → Each (Named rows) (tokensIn es ++ us) → (r : Row) → byCompletions es (place t) r ≡ r
+    far-completions : (es : List Returned) (us : List ℕ) → isAmong t (tokensIn es ++ us) ≡ false → Each (Named rows) (tokensIn es ++ us) → (r : Row) → byCompletions es (place t) r ≡ r
     far-completions [] us n a r = refl
     far-completions (e ∷ es) us n a r =
-        let p = or-false (eqb t (e .token)) (isIn t (tokensIn es ++ us)) (sym (in-cons t (e .token) (tokensIn es ++ us)) ∙ n) in
+        let p = or-false (eqb t (e .token)) (isAmong t (tokensIn es ++ us)) (sym (in-cons t (e .token) (tokensIn es ++ us)) ∙ n) in
         let q = elsewhere (e .token) (p .0) (a .0 .1) in
         rw q (far-completions es us (p .1) (a .1) r)
 
-    far-aborts : (ts : List ℕ) → isIn t ts ≡ false → Each (Named rows) ts → (r : Row) → byAborts ts (place t) r ≡ r
+    far-aborts : (ts : List ℕ) → isAmong t ts ≡ false → Each (Named rows) ts → (r : Row) → byAborts ts (place t) r ≡ r
     far-aborts [] n a r = refl
     far-aborts (u ∷ us) n a r =
-        let p = or-false (eqb t u) (isIn t us) (sym (in-cons t u us) ∙ n) in
+        let p = or-false (eqb t u) (isAmong t us) (sym (in-cons t u us) ∙ n) in
         let q = elsewhere u (p .0) (a .0 .1) in
         rw q (far-aborts us (p .1) (a .1) r)
 
@@ -274,7 +274,7 @@ module _ (place : ℕ → ℕ) where
         (λ e. eq-eqb (place t) i (m .1 (eqb-true t (tokenIn rows i) e)) ∙ sym e)
         (λ e. ne-eqb (place t) i (λ z. eqb-false t (tokenIn rows i) e (m .0 z)) ∙ sym e)
 
-    aborts-named : (ts : List ℕ) → Each Meets ts → byAborts ts i (rowIn rows i) ≡ cond (isIn (tokenIn rows i) ts) (withState (rowIn rows i) Aborted) (rowIn rows i)
+    aborts-named : (ts : List ℕ) → Each Meets ts → byAborts ts i (rowIn rows i) ≡ cond (isAmong (tokenIn rows i) ts) (withState (rowIn rows i) Aborted) (rowIn rows i)
     aborts-named [] m = refl
     aborts-named (t ∷ ts) m =
         let e = meet-eqb t (m .0) ∙ turned t (tokenIn rows i) in
@@ -283,15 +283,15 @@ module _ (place : ℕ → ℕ) where
         rw (e, c) (caseB (eqb (tokenIn rows i) t) (λ y. rw y) (λ y. rw y ih))
 
     -- none of them is the row's
-    aborts-off : (ts : List ℕ) → Each Meets ts → isIn (tokenIn rows i) ts ≡ false → (r : Row) → byAborts ts i r ≡ r
+    aborts-off : (ts : List ℕ) → Each Meets ts → isAmong (tokenIn rows i) ts ≡ false → (r : Row) → byAborts ts i r ≡ r
     aborts-off [] m n r = refl
     aborts-off (t ∷ ts) m n r =
-        let p = or-false (eqb (tokenIn rows i) t) (isIn (tokenIn rows i) ts) (sym (in-cons (tokenIn rows i) t ts) ∙ n) in
+        let p = or-false (eqb (tokenIn rows i) t) (isAmong (tokenIn rows i) ts) (sym (in-cons (tokenIn rows i) t ts) ∙ n) in
         let e : eqb (place t) i ≡ false = meet-eqb t (m .0) ∙ turned t (tokenIn rows i) ∙ p .0 in
         rw e (aborts-off ts (m .1) (p .1) r)
 
-    in-last : (t : ℕ) (ts us : List ℕ) → isIn t (ts ++ us) ≡ false → isIn t us ≡ false
-    in-last t ts us e = or-false (isIn t ts) (isIn t us) (sym (in-append t ts us) ∙ e) .1
+    in-last : (t : ℕ) (ts us : List ℕ) → isAmong t (ts ++ us) ≡ false → isAmong t us ≡ false
+    in-last t ts us e = or-false (isAmong t ts) (isAmong t us) (sym (in-append t ts us) ∙ e) .1
 
     row-named : (es : List Returned) (aborted : List ℕ) → Each Meets (tokensIn es ++ aborted) → Distinct (tokensIn es ++ aborted)
         → byAborts aborted i (byCompletions es i (rowIn rows i)) ≡ namedAs es aborted (rowIn rows i)
@@ -302,12 +302,12 @@ module _ (place : ℕ → ℕ) where
         rw q (caseB (eqb (e .token) (tokenIn rows i))
         (λ y.
         let z = eqb-true (e .token) (tokenIn rows i) y in
-        let n : isIn (tokenIn rows i) aborted ≡ false = ap (λ (t : ℕ). isIn t aborted) (sym z) ∙ in-last (e .token) (tokensIn es) aborted (d .0) in
+        let n : isAmong (tokenIn rows i) aborted ≡ false = ap (λ (t : ℕ). isAmong t aborted) (sym z) ∙ in-last (e .token) (tokensIn es) aborted (d .0) in
         rw y (aborts-off aborted (each-last Meets (tokensIn es) aborted (m .1)) n (completedAs e (rowIn rows i))))
         (λ y. rw y ih))
 
 -- a row that the reply names is settled
-settled-named : (es : List Returned) (aborted : List ℕ) (r : Row) → isIn (r .token) (tokensIn es ++ aborted) ≡ true → isSettled (namedAs es aborted r .state) ≡ true
+settled-named : (es : List Returned) (aborted : List ℕ) (r : Row) → isAmong (r .token) (tokensIn es ++ aborted) ≡ true → isSettled (namedAs es aborted r .state) ≡ true
 settled-named [] aborted r e = rw e
 settled-named (c ∷ cs) aborted r e =
     caseB (eqb (c .token) (r .token)) (λ y. rw y)
@@ -325,13 +325,13 @@ module _ (d : DeviceId) (endpoint : ℕ) (rows : List Row) (few : count isHeld r
   abbrev isToken : ℕ → View → ℕ
   isToken t v = cond (eqb t (v .token)) 1 0
 
-  weighed-in : (t : ℕ) (l : List ℕ) → 1 ≤ sumBy (isToken t) (map (seen d endpoint rows) l) → isIn t (tokensOf rows l) ≡ true
+  weighed-in : (t : ℕ) (l : List ℕ) → 1 ≤ sumBy (isToken t) (map (seen d endpoint rows) l) → isAmong t (tokensOf rows l) ≡ true
   weighed-in t [] h = absurd (omega arith)
   weighed-in t (j ∷ js) h =
       in-cons t (tokenIn rows j) (tokensOf rows js)
       ∙ caseB (eqb t (tokenIn rows j)) (λ y. rw y) (λ y. let z : isToken t (seen d endpoint rows j) ≡ 0 = rw y in rw y (weighed-in t js (omega arith)))
 
-  expected : (i : ℕ) → i < length rows → isAffected d endpoint (rowIn rows i) ≡ true → isIn (tokenIn rows i) own ≡ true
+  expected : (i : ℕ) → i < length rows → isAffected d endpoint (rowIn rows i) ≡ true → isAmong (tokenIn rows i) own ≡ true
   expected i h e =
       let t : ℕ = tokenIn rows i in
       let same = eq-eqb t t refl in
@@ -339,22 +339,22 @@ module _ (d : DeviceId) (endpoint : ℕ) (rows : List Row) (few : count isHeld r
       let w : rowW (scoped d endpoint (isToken t)) (rowIn rows i) ≡ 1 = sym (affected-cond d endpoint (rowIn rows i) (isToken t (rowView (rowIn rows i)))) ∙ rw (e, one) in
       weighed-in t (affectedOf d endpoint rows) (omega (arith, affected-weighs d endpoint rows few (isToken t), sum-part (rowW (scoped d endpoint (isToken t))) rows i emptyRow h, w))
 
-  all-in : (l ts : List ℕ) (t : ℕ) → allIn l ts ≡ true → isIn t l ≡ true → isIn t ts ≡ true
+  all-in : (l ts : List ℕ) (t : ℕ) → allIn l ts ≡ true → isAmong t l ≡ true → isAmong t ts ≡ true
   all-in [] ts t a e = absurd (false≢true e)
   all-in (u ∷ us) ts t a e =
-      let p = both (isIn u ts) (allIn us ts) a in
+      let p = both (isAmong u ts) (allIn us ts) a in
       caseB (eqb t u)
-      (λ y. let z = eqb-true t u y in ap (λ (n : ℕ). isIn n ts) z ∙ p .0)
-      (λ y. let q : (eqb t u || isIn t us) ≡ true = sym (in-cons t u us) ∙ e in all-in us ts t (p .1) (or-right (eqb t u) (isIn t us) y q))
+      (λ y. let z = eqb-true t u y in ap (λ (n : ℕ). isAmong n ts) z ∙ p .0)
+      (λ y. let q : (eqb t u || isAmong t us) ≡ true = sym (in-cons t u us) ∙ e in all-in us ts t (p .1) (or-right (eqb t u) (isAmong t us) y q))
 
-  own-token : (t : ℕ) → isIn t own ≡ true → tokenIn rows (place t) ≡ t
+  own-token : (t : ℕ) → isAmong t own ≡ true → tokenIn rows (place t) ≡ t
   own-token t e =
       let a : getD own (slotOf own t) (tokenIn rows 0) ≡ tokenIn rows (place t) = List·getD-map (tokenIn rows) (affectedOf d endpoint rows) (slotOf own t) 0 in
       let b = getD-any own (slotOf own t) (tokenIn rows 0) 0 (ltb-true (slotOf own t) (length own) e) in
       let c = eqb-true t (getD own (slotOf own t) 0) (find-hit (eqb t) own 0 (ltb-true (slotOf own t) (length own) e)) in
       sym a ∙ b ∙ sym c
 
-  named-row : (t : ℕ) → isIn t own ≡ true → Named place rows t
+  named-row : (t : ℕ) → isAmong t own ≡ true → Named place rows t
   named-row t e = (meant-below d endpoint rows t e, own-token t e)
 
   -- ---- every row, after a reply in scope
@@ -372,7 +372,7 @@ module _ (d : DeviceId) (endpoint : ℕ) (rows : List Row) (few : count isHeld r
     distinct : Distinct (tokensIn es ++ aborted)
     distinct = subst Distinct (sym same-tokens) (scope-distinct own true (tokens ++ aborted) scope)
 
-    each-token : (P : ℕ → Type 0) → ((t : ℕ) → isIn t own ≡ true → P t) → Each P (tokensIn es ++ aborted)
+    each-token : (P : ℕ → Type 0) → ((t : ℕ) → isAmong t own ≡ true → P t) → Each P (tokensIn es ++ aborted)
     each-token P h = subst (Each P) (sym same-tokens) (scope-each own true (tokens ++ aborted) scope P h)
 
     -- an affected row, by the tokens that mean it and by its own
@@ -401,7 +401,7 @@ module _ (d : DeviceId) (endpoint : ℕ) (rows : List Row) (few : count isHeld r
           settled = λ i h e.
               ap (λ (r : Row). isSettled (r .state)) (each i h)
               ∙ rw e (settled-named es aborted (rowIn rows i)
-              (ap (isIn (tokenIn rows i)) same-tokens ∙ all-in own (tokens ++ aborted) (tokenIn rows i) all-of-them (expected i h e)));
+              (ap (isAmong (tokenIn rows i)) same-tokens ∙ all-in own (tokens ++ aborted) (tokenIn rows i) all-of-them (expected i h e)));
         }
 
 -- ---- the reply
@@ -437,11 +437,11 @@ module _ (s : Session) (store : Store) (few : count isHeld (store .rows) ≤ 128
 
   concluded-told : (y : Recovery) (o : Outcome) → inScope (isWhole o) (mine y) (tokens ++ aborted) ≡ true → (v : Verdict) (w : WalkTo)
       → w ≡ applyAll (means y) (quiet .«row_bytes») (returnedOf tokens words) aborted bytes store area → w .verdict ≡ v → (ids : Ids)
-      → ofRecovery (concludedBy v quiet y o (reportOf y o (length tokens) (length aborted)) ids (w .store .rows) .answer) ≡ answer.Recovered x → Goal (w .store .rows) x
+      → ofRecovery (concludedBy v quiet y o (abortReport y o (length tokens) (length aborted)) ids (w .store .rows) .answer) ≡ answer.Recovered x → Goal (w .store .rows) x
   unfolding concludedBy
   concluded-told y o sc (verdict.Refused r) w ew ev ids e = refuses r (w .store .rows) e
   concluded-told y o sc verdict.Pass w ew ev ids e =
-      let q : reportOf y o (length tokens) (length aborted) ≡ x = cc in
+      let q : abortReport y o (length tokens) (length aborted) ≡ x = cc in
       subst (Goal (w .store .rows)) q
       (λ ready fine different.
       let whole = whole-is (o .«restart_ready») (hasError (o .error)) ready fine in
@@ -471,11 +471,11 @@ module _ (s : Session) (store : Store) (tokens words aborted bytes area : List �
   Same y = (y .target ≡ x .target) × (y .device ≡ x .device) × (y .endpoint ≡ x .endpoint)
 
   concluded-same : (y : Recovery) (o : Outcome) (v : Verdict) (n m : ℕ) (ids : Ids) (rows : List Row)
-      → ofRecovery (concludedBy v idle y o (reportOf y o n m) ids rows .answer) ≡ answer.Recovered x → Same y
+      → ofRecovery (concludedBy v idle y o (abortReport y o n m) ids rows .answer) ≡ answer.Recovered x → Same y
   unfolding concludedBy
   concluded-same y o (verdict.Refused r) n m ids rows e = no-report r x (Same y) e
   concluded-same y o verdict.Pass n m ids rows e =
-      let q : reportOf y o n m ≡ x = cc in
+      let q : abortReport y o n m ≡ x = cc in
       (ap (λ (z : AbortReport). z .target) q, ap (λ (z : AbortReport). z .device) q, ap (λ (z : AbortReport). z .endpoint) q)
 
   abbrev Waited : InFlight → Type 0

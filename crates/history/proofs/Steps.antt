@@ -32,10 +32,10 @@ use Rattle.session.specs.declared.lifecycle.AcquireReply.{AcquireReply}
 use Rattle.session.specs.declared.lifecycle.AcquireReply.the-variants as acquire
 use Rattle.reports.specs.Answers.{ReportedTo, reportedTo}
 use Rattle.reports.specs.Change.{reportedBy, changeOf}
-use Rattle.scope.specs.Scope.{isIn}
+use Rattle.scope.specs.Scope.{isAmong}
 use Rattle.calls.specs.Answers.{ofVerdict}
 use Rattle.calls.specs.Calls.{Changing, Cancel, Timeout, Reclaim, Call, Open, Place, Move, Acquire, Initialize, Close, Begin, Submit, SubmitPlan, Poll, Recover, Reply, ToSubmit, ToPoll, ToRecovery, Change, Read}
-use Rattle.calls.specs.Step.{World, After, rowsFitIn, areaFitsIn, storeFitsIn, movedOf, begunOf, repliedOf, changeBy, stepOf}
+use Rattle.calls.specs.Step.{World, After, rowsMatch, areaMatches, storeMatches, movedOf, begunOf, repliedOf, changeBy, stepOf}
 use Rattle.runs.specs.Run.{isOpening, numberOf, isNew, noted}
 use Rattle.runs.specs.Sound.{Sound}
 use Rattle.runs.proofs.Held.{unheld-row}
@@ -123,7 +123,7 @@ module _ (s : Session) (j : Journal) (seen : List ℕ) (store : Store) (k : Inv 
       go : isBusy (s .«in_flight») ≡ false → (n : OptionU64) → isNew n seen ≡ true → (x : OptionError) → Close-kept n (freshBy n s x store)
       go y u64.None new x = k
       go y (u64.Some n) new (error.Some e) = seen-more (marked s) (store .rows) j seen (marks s (store .rows) j seen k) (u64.Some n)
-      go y (u64.Some n) new error.None = closed-anew s (store .rows) j seen k n (length (store .rows)) (not-true (isIn n seen) new) y
+      go y (u64.Some n) new error.None = closed-anew s (store .rows) j seen k n (length (store .rows)) (not-true (isAmong n seen) new) y
 
 -- ---- any call
 abbrev pub Kept : Call → Journal → List ℕ → After → Type 0
@@ -136,15 +136,15 @@ step-kept (Open o) w sound j seen k first new = absurd (true≢false first)
 step-kept (Place p) w sound j seen k first new = k
 step-kept (Move (Acquire reply)) w sound j seen k first new = acquire-kept (w .session) j seen (w .store) k reply
 step-kept (Move (Initialize reply)) w sound j seen k first new = initialize-kept (w .session) j seen (w .store) k reply
-step-kept (Move (Close fresh reply)) w sound j seen k first new = close-kept (w .session) j seen (w .store) k (closed-unheld w sound) (rowsFitIn w) fresh reply new
+step-kept (Move (Close fresh reply)) w sound j seen k first new = close-kept (w .session) j seen (w .store) k (closed-unheld w sound) (rowsMatch w) fresh reply new
 step-kept (Begin (Submit q bytes packed packets one two)) w sound j seen k first new =
-    submit-kept (w .session) j seen (w .store) k (w .bus) (w .area) (storeFitsIn w) q bytes packed packets one two
-step-kept (Begin (SubmitPlan q bytes one)) w sound j seen k first new = plan-kept (w .session) j seen (w .store) k (w .bus) (w .area) (storeFitsIn w) q bytes one
-step-kept (Begin (Poll id)) w sound j seen k first new = poll-kept w sound j seen k (rowsFitIn w) id
-step-kept (Begin (Recover id kind)) w sound j seen k first new = begin-kept (w .session) j seen (w .store) k (rowsFitIn w) id kind
-step-kept (Reply (ToSubmit reply)) w sound j seen k first new = reply-kept w sound j seen k (rowsFitIn w) reply
-step-kept (Reply (ToPoll reply bytes)) w sound j seen k first new = finish-kept w sound j seen k (rowsFitIn w && areaFitsIn w) reply bytes (w .area)
+    submit-kept (w .session) j seen (w .store) k (w .bus) (w .area) (storeMatches w) q bytes packed packets one two
+step-kept (Begin (SubmitPlan q bytes one)) w sound j seen k first new = plan-kept (w .session) j seen (w .store) k (w .bus) (w .area) (storeMatches w) q bytes one
+step-kept (Begin (Poll id)) w sound j seen k first new = poll-kept w sound j seen k (rowsMatch w) id
+step-kept (Begin (Recover id kind)) w sound j seen k first new = begin-kept (w .session) j seen (w .store) k (rowsMatch w) id kind
+step-kept (Reply (ToSubmit reply)) w sound j seen k first new = reply-kept w sound j seen k (rowsMatch w) reply
+step-kept (Reply (ToPoll reply bytes)) w sound j seen k first new = finish-kept w sound j seen k (rowsMatch w && areaMatches w) reply bytes (w .area)
 step-kept (Reply (ToRecovery reply tokens words aborted bytes)) w sound j seen k first new =
-    recovery-kept (w .session) j seen (w .store) k (sound .held) tokens words aborted bytes (w .area) (rowsFitIn w && areaFitsIn w) reply
-step-kept (Change id c) w sound j seen k first new = change-kept (w .session) j seen (w .store) k (rowsFitIn w) id (changeBy c) (change-stays c)
+    recovery-kept (w .session) j seen (w .store) k (sound .held) tokens words aborted bytes (w .area) (rowsMatch w && areaMatches w) reply
+step-kept (Change id c) w sound j seen k first new = change-kept (w .session) j seen (w .store) k (rowsMatch w) id (changeBy c) (change-stays c)
 step-kept (Read r) w sound j seen k first new = k

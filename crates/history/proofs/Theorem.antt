@@ -39,7 +39,7 @@ use Rattle.recovery.specs.declared.Recovery.{Recovery}
 use Rattle.recovery.specs.declared.RecoveryReply.{RecoveryReply}
 use Rattle.calls.specs.Answers.{ofOpened, ofReport}
 use Rattle.calls.specs.Calls.{Call, Open, Begin, Recover, Change, Reclaim}
-use Rattle.calls.specs.Step.{World, world, rowsFitIn, begunOf, repliedOf, stepOf}
+use Rattle.calls.specs.Step.{World, world, rowsMatch, begunOf, repliedOf, stepOf}
 use Rattle.calls.specs.declared.Answer.{Answer}
 use Rattle.calls.specs.declared.Answer.the-variants as answer
 use Rattle.runs.specs.Run.{Handed, Event, next, answerTo, leftBy, endOf, historyOf, Handing, Follows, numberOf, isNew, noted, Fresh}
@@ -175,7 +175,7 @@ reclaim-told w x r entries k =
     (λ idle i lt hit.
     if-by (λ (t : Step). Told (reportedTo (reportedBy (applyBy t i (w .store) .answer) (w .session)) (applyBy t i (w .store) .store))) _ _ _ (λ y e. refuses e)
     (λ y e. unheld-once (w .store .rows) entries k x i lt hit (unheld-row (rowIn (w .store .rows) i) y)))
-    (rowsFitIn w)
+    (rowsMatch w)
   where
     Told : ReportedTo → Type 0
     Told o = ofReport (o .result .answer) ≡ answer.Report r → releasesOf x entries ≡ 1

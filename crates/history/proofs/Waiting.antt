@@ -24,13 +24,13 @@ use Rattle.polls.specs.Finish.{finishIn, finishOf}
 use Rattle.session.specs.Start.{guarded, readyOf}
 use Rattle.submissions.specs.Submit.{submitBy, submitOf, planBy, submitPlanOf}
 use Rattle.submissions.specs.Reply.{submitReplyIn, submitReplyOf}
-use Rattle.recovery.specs.Begin.{beginOf}
+use Rattle.recovery.specs.Begin.{recoverOf}
 use Rattle.recovery.specs.Reply.{RecoveredTo, recoveryReplyOf}
 use Rattle.recovery.specs.declared.Recovery.{Recovery}
 use Rattle.recovery.specs.declared.RecoveryReply.{RecoveryReply}
 use Rattle.calls.specs.Answers.{ofRecovery}
 use Rattle.calls.specs.Calls.{Call, Open, Place, Device, Port, Endpoints, Reconcile, Move, Acquire, Initialize, Close, Begin, Submit, SubmitPlan, Poll, Recover, Reply, ToSubmit, ToPoll, ToRecovery, Change, Read}
-use Rattle.calls.specs.Step.{World, After, world, stepOf, places, moves, closes, submits, plans, reports, polls, finishes, begins, recovers, rowsFitIn, areaFitsIn, placedOf, movedOf, begunOf, repliedOf}
+use Rattle.calls.specs.Step.{World, After, world, stepOf, places, moves, closes, submits, plans, reports, polls, finishes, begins, recovers, rowsMatch, areaMatches, placedOf, movedOf, begunOf, repliedOf}
 use Rattle.calls.specs.declared.Answer.the-variants as answer
 use Rattle.runs.specs.Run.{Handed, Event, next, leftBy, endOf, answerTo, historyOf, isOpening, Handing, Follows, Fresh}
 use Rattle.runs.proofs.Ways.{recovery-all}
@@ -65,7 +65,7 @@ module _ (w : World) (entries : List Entry) (few : count isHeld (w .store .rows)
 
   pub stays : (c : Call) → isOpening c ≡ false
       → ((r : RecoveryReply) (tokens words aborted bytes : List ℕ) → c ≡ Reply (ToRecovery r tokens words aborted bytes) → endsBy (stepOf c w .result .answer) ≡ false) → Same (stepOf c w)
-  unfolding stepOf placedOf movedOf begunOf repliedOf setDeviceOf setPortOf setEndpointsOf setReconcileOf placed guarded acquireOf initializeOf closeOf submitOf submitPlanOf submitBy planBy readyOf submitReplyOf submitReplyIn pollOf finishOf finishIn beginOf changeOf
+  unfolding stepOf placedOf movedOf begunOf repliedOf setDeviceOf setPortOf setEndpointsOf setReconcileOf placed guarded acquireOf initializeOf closeOf submitOf submitPlanOf submitBy planBy readyOf submitReplyOf submitReplyIn pollOf finishOf finishIn recoverOf changeOf
   stays (Open o) f n = absurd (true≢false f)
   stays (Place (Device d)) f n = refused-1 (λ o. Same (places o w)) _ _ refl
   stays (Place (Port number row)) f n = refused-1 (λ o. Same (places o w)) _ _ refl
@@ -79,8 +79,8 @@ module _ (w : World) (entries : List Entry) (few : count isHeld (w .store .rows)
   stays (Begin (SubmitPlan q bytes first)) f n = refused-1 (λ v. Same (plans (planBy v (w .session) q bytes first (w .bus) (w .store) (w .area)))) _ _ refl
   stays (Begin (Poll id)) f n = refused-1 (λ o. Same (polls o w)) _ _ refl
   stays (Begin (Recover id kind)) f n = refused-1 (λ o. Same (begins o w)) _ _ refl
-  stays (Reply (ToSubmit reply)) f n = subst (λ (g : InFlight). Same (reports (submitReplyIn g (rowsFitIn w) reply (w .session) (w .store)) w)) (sym own) refl
-  stays (Reply (ToPoll reply bytes)) f n = subst (λ (g : InFlight). Same (finishes (finishIn g (w .session) (rowsFitIn w && areaFitsIn w) reply bytes (w .store) (w .area)) w)) (sym own) refl
+  stays (Reply (ToSubmit reply)) f n = subst (λ (g : InFlight). Same (reports (submitReplyIn g (rowsMatch w) reply (w .session) (w .store)) w)) (sym own) refl
+  stays (Reply (ToPoll reply bytes)) f n = subst (λ (g : InFlight). Same (finishes (finishIn g (w .session) (rowsMatch w && areaMatches w) reply bytes (w .store) (w .area)) w)) (sym own) refl
   stays (Reply (ToRecovery r tokens words aborted bytes)) f n = reply-same r tokens words aborted bytes _ (n r tokens words aborted bytes refl)
   stays (Change id c) f n = refused-1 (λ o. Same (reports o w)) _ _ refl
   stays (Read r) f n = refl
@@ -148,9 +148,9 @@ module _ (o : Opening) (w : World) (pass : stepOf (Open o) w .result .answer ≡
       let one = by-handed h (Begin (Recover id q)) mid (λ y v. y ≡ answer.Recovering x → (v .store ≡ mid .store) × InFlightIs v x) (follows-at before more e follows)
       (λ first bus area y.
       let v = world (mid .session) bus (mid .store) area in
-      let agree = subst (λ (c : Bool). (cond c (recoveryWaits id q j) j) .waiting ≡ beginOf (mid .session) (rowsFitIn v) id q (mid .store .rows) .session .«in_flight») (ap isRecovering y)
-      (begin-kept (mid .session) j (run .0) (mid .store) (run .1) (rowsFitIn v) id q .agree) in
-      (refl, sym (begin-names (mid .session) j (run .0) (mid .store) (run .1) x (rowsFitIn v) id q y ∙ agree)))
+      let agree = subst (λ (c : Bool). (cond c (recoveryWaits id q j) j) .waiting ≡ recoverOf (mid .session) (rowsMatch v) id q (mid .store .rows) .session .«in_flight») (ap isRecovering y)
+      (begin-kept (mid .session) j (run .0) (mid .store) (run .1) (rowsMatch v) id q .agree) in
+      (refl, sym (begin-names (mid .session) j (run .0) (mid .store) (run .1) x (rowsMatch v) id q y ∙ agree)))
       (λ y. let z : _≡_ {A = ℕ} 0 1 = cc in absurd (omega arith)) a in
       let rest = waits-on more (leftBy h (Begin (Recover id q)) mid) (j .entries)
       (subst (λ (s : Store). count isHeld (s .rows) ≤ 128) (sym (one .0)) (sound-run o w before pass (follows-front before (e ∷ more) follows) .held)) (subst (λ (s : Store). Led (s .rows) (j .entries)) (sym (one .0)) (run .1 .led)) x (one .1)

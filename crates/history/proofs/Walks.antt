@@ -26,7 +26,7 @@ use Rattle.rules.specs.Rules.{changeRow, completed, whilePending, abortConfirme
 use Rattle.checks.specs.Completion.{testCompletion}
 use Rattle.checks.specs.declared.completion.CompletionTest.{CompletionTest}
 use Rattle.checks.specs.declared.completion.CompletionTest.the-variants as test
-use Rattle.scope.specs.Scope.{isIn}
+use Rattle.scope.specs.Scope.{isAmong}
 use Rattle.scope.specs.Returned.{Returned}
 use Rattle.scope.proofs.Scoping.{in-cons}
 use Rattle.recovery.specs.Entries.{WalkTo, rowCompletedBy, testedBy, completeOne, abortedBy, abortOne}
@@ -72,12 +72,12 @@ module _ (place : ℕ → ℕ) (view : ℕ → View) where
   apart rows t u a b e =
       sym (b .token) ∙ ap (λ (v : View). v .token) (sym (b .is) ∙ ap (λ (i : ℕ). rowView (rowIn rows i)) e ∙ a .is) ∙ a .token
 
-  ready-after : (rows : List Row) (t : ℕ) (r : Row) → Ready rows t → (ts : List ℕ) → isIn t ts ≡ false → AllReady rows ts → AllReady (set rows (place t) r) ts
+  ready-after : (rows : List Row) (t : ℕ) (r : Row) → Ready rows t → (ts : List ℕ) → isAmong t ts ≡ false → AllReady rows ts → AllReady (set rows (place t) r) ts
   ready-after rows t r a [] n k = tt
   ready-after rows t r a (u ∷ us) n k =
       let c = in-cons t u us in
-      let q : (eqb t u || isIn t us) ≡ false = sym c ∙ n in
-      let p = or-false (eqb t u) (isIn t us) q in
+      let q : (eqb t u || isAmong t us) ≡ false = sym c ∙ n in
+      let p = or-false (eqb t u) (isAmong t us) q in
       let far : place u ≡ place t → ⊥ = λ e. true≢false (sym (eq-eqb t u (sym (apart rows t u a (k .0) e))) ∙ p .0) in
       let same : rowIn (set rows (place t) r) (place u) ≡ rowIn rows (place u) = getD-set-other rows (place t) (place u) r emptyRow far in (
         record {

@@ -29,7 +29,7 @@ use Rattle.reports.specs.declared.OptionId.{OptionId}
 use Rattle.reports.specs.declared.OptionId.the-variants as option
 use Rattle.scope.specs.Affected.{isAffected}
 use Rattle.scope.specs.Returned.{Returned, returnedOf}
-use Rattle.scope.specs.Scope.{isIn}
+use Rattle.scope.specs.Scope.{isAmong}
 use Rattle.recovery.specs.declared.AbortReport.{AbortReport}
 use Rattle.recovery.specs.declared.Recovery.{Recovery}
 use Rattle.recovery.specs.declared.RecoveryReply.{RecoveryReply}
@@ -121,7 +121,7 @@ completedAs c r =
 
 -- as the reply names the row's token: by a completion, as aborted, or not at all
 abbrev pub namedAs : List Returned → List ℕ → Row → Row
-namedAs [] aborted r = cond (isIn (r .token) aborted) (withState r Aborted) r
+namedAs [] aborted r = cond (isAmong (r .token) aborted) (withState r Aborted) r
 namedAs (c ∷ cs) aborted r = cond (eqb (c .token) (r .token)) (completedAs c r) (namedAs cs aborted r)
 
 -- an affected row as the reply names it, every other unchanged
@@ -143,7 +143,7 @@ pub record Recovered (d : DeviceId) (endpoint : ℕ) (tokens words aborted : Lis
   -- every row, whole
   pub rows-are : rows′ ≡ map (recoveredAs d endpoint (returnedOf tokens words) aborted) rows
   -- the reply names each affected token
-  pub named : (i : ℕ) → i < length rows → isAffected d endpoint (rowIn rows i) ≡ true → isIn (tokenIn rows i) (tokens ++ aborted) ≡ true
+  pub named : (i : ℕ) → i < length rows → isAffected d endpoint (rowIn rows i) ≡ true → isAmong (tokenIn rows i) (tokens ++ aborted) ≡ true
   -- so each affected request is Completed or Aborted
   pub settled : (i : ℕ) → i < length rows → isAffected d endpoint (rowIn rows i) ≡ true → isSettled (rowIn rows′ i .state) ≡ true
 

@@ -25,7 +25,7 @@ use Rattle.session.specs.declared.RecoveryKind.{RecoveryKind}
 use Rattle.session.specs.declared.Session.{Session}
 use Rattle.session.proofs.Guarding.{guard-stop, guard-on}
 use Rattle.scope.specs.Affected.{affectedOf, tokensOf}
-use Rattle.recovery.specs.Begin.{beginRefused, recoveryOf, begunAs, beginRow, beginBy, beginOf}
+use Rattle.recovery.specs.Begin.{beginRefused, recoveryOf, begunAs, beginRow, recoverBy, recoverOf}
 use Rattle.recovery.specs.declared.Recovery.{Recovery}
 use Rattle.recovery.specs.declared.BeginAnswer.the-variants as begin
 use Rattle.recovery.specs.declared.Begun.{Begun}
@@ -60,15 +60,15 @@ module _ (s : Session) (r : Row) (id : RequestId) (k : RecoveryKind) (rows : Lis
     row-on q n eq e = passes Begun _ _ _ _ (rw eb at t) (passes Begun _ _ _ _ (rw em at n) (rw eq at e))
 
 module _ (s : Session) (fits : Bool) (id : RequestId) (k : RecoveryKind) (rows : List Row) (x : Begun) (v : Verdict) (ev : v ≡ readyOf s fits) where
-  pub begin-stop : (r : Refusal) → v ≡ verdict.Refused r → x ≡ beginRefused s r → x ≡ beginOf s fits id k rows
-  unfolding beginOf
+  pub begin-stop : (r : Refusal) → v ≡ verdict.Refused r → x ≡ beginRefused s r → x ≡ recoverOf s fits id k rows
+  unfolding recoverOf
   begin-stop r e ex = guard-stop Begun (beginRefused s) _ s fits x v ev r e ex
 
   module _ (np : v ≡ verdict.Pass) (g : Found) (eg : g ≡ foundIn (isAt id) rows) where
-    pub begin-40 : g ≡ found.Nothing → x ≡ beginRefused s (refusalOf 40) → x ≡ beginOf s fits id k rows
-    unfolding beginOf beginBy
+    pub begin-40 : g ≡ found.Nothing → x ≡ beginRefused s (refusalOf 40) → x ≡ recoverOf s fits id k rows
+    unfolding recoverOf recoverBy
     begin-40 h e = guard-on Begun _ _ s fits x v ev np (e ∙ rw (sym eg ∙ h))
 
-    pub begin-on : (i : ℕ) (r : Row) → g ≡ found.At i → r ≡ getD rows i emptyRow → x ≡ beginRow s r id k rows → x ≡ beginOf s fits id k rows
-    unfolding beginOf beginBy
+    pub begin-on : (i : ℕ) (r : Row) → g ≡ found.At i → r ≡ getD rows i emptyRow → x ≡ beginRow s r id k rows → x ≡ recoverOf s fits id k rows
+    unfolding recoverOf recoverBy
     begin-on i r h er e = guard-on Begun _ _ s fits x v ev np (e ∙ rw (sym eg ∙ h, er))

@@ -24,7 +24,7 @@ use Rattle.rows.specs.Table.{rowsOf, isUncertain}
 use Rattle.rows.specs.Store.{Store, storeOf}
 use Rattle.rows.specs.declared.Row.{Row}
 use Rattle.checks.specs.Completion.{hasError}
-use Rattle.session.specs.Session.{withState, withFlight, withStall, marked}
+use Rattle.session.specs.Session.{withController, withFlight, withStall, marked}
 use Rattle.session.specs.declared.InFlight.{InFlight}
 use Rattle.session.specs.declared.InFlight.the-variants as flight
 use Rattle.session.specs.declared.OptionStall.{OptionStall}
@@ -44,7 +44,7 @@ use Rattle.chain.proofs.Listed.{listed-take}
 use Rattle.session.specs.Sizes.{rowsFit, areaFits}
 use Rattle.session.proofs.Sized.{rows-of-fit, fit-area}
 use borrow.Author.Tests.{not-false}
-use Rattle.recovery.specs.Reply.{RecoveredTo, recoveredTo, recoveryRefused, isWhole, isRevision, restoredBy, resetBy, sessionAfter, refusedAfter, abortsAfter, applyAll, reportOf, concludedBy, settledOf, scopedOf, doneOf, replyBy, replySized, replyIn, recoveryReplyOf}
+use Rattle.recovery.specs.Reply.{RecoveredTo, recoveredTo, recoveryRefused, isWhole, isRevision, restoredBy, resetBy, sessionAfter, refusedAfter, abortsAfter, applyAll, abortReport, concludedBy, settledOf, scopedOf, doneOf, replyBy, replySized, replyIn, recoveryReplyOf}
 use Rattle.recovery.specs.declared.AbortReport.{AbortReport}
 use Rattle.recovery.specs.declared.Ids.{Ids}
 use Rattle.recovery.specs.declared.Outcome.{Outcome}
@@ -80,7 +80,7 @@ module _ (q : OptionStall) (s : Session) (d : DeviceId) (endpoint : ℕ) (certai
   restored-none e = et ∙ rw e
 
   module _ (note : RecoverableStall) (e : q ≡ stall.Some note) (b : Bool) (eb : b ≡ matching s note d endpoint certain) where
-    pub restored-on : (x : Session) → b ≡ true → x ≡ withState t Initialized (s .«recovery_revision») → x ≡ restoredBy q s d endpoint certain
+    pub restored-on : (x : Session) → b ≡ true → x ≡ withController t Initialized (s .«recovery_revision») → x ≡ restoredBy q s d endpoint certain
     unfolding restoredBy
     restored-on x y ex = rw e (takes Session _ (matching s note d endpoint certain) _ _ (sym eb ∙ y) (rw et at ex))
 
@@ -144,7 +144,7 @@ module _ (v : Verdict) (idle : Session) (x : Recovery) (o : Outcome) (report : A
   conclude-on next e en = rw (e, en)
 
 pub settled-is : (idle : Session) (x : Recovery) (o : Outcome) (place : ℕ → ℕ) (tokens words aborted bytes : List ℕ) (store : Store) (area : List ℕ) (ids : Ids) (report : AbortReport)
-    (v : Verdict) (w₁ area₁ : List ℕ) (y : Recovered) → ids ≡ idLists (store .rows) place tokens aborted → report ≡ reportOf x o (length tokens) (length aborted)
+    (v : Verdict) (w₁ area₁ : List ℕ) (y : Recovered) → ids ≡ idLists (store .rows) place tokens aborted → report ≡ abortReport x o (length tokens) (length aborted)
     → walkTo v (storeOf w₁) area₁ ≡ applyAll place (idle .«row_bytes») (returnedOf tokens words) aborted bytes store area
     → y ≡ concludedBy v idle x o report ids (rowsOf w₁)
     → recoveredTo y (storeOf w₁) area₁ ≡ settledOf idle x o place tokens words aborted bytes store area

@@ -46,10 +46,10 @@ beginRow s r id kind rows =
     begunAs s (recoveryOf id r kind) rows
 
 -- 40
-unfoldable pub beginBy : Found → Session → RequestId → RecoveryKind → List Row → Begun
-beginBy found.Nothing s id kind rows = beginRefused s (refusalOf 40)
-beginBy (found.At i) s id kind rows = beginRow s (getD rows i emptyRow) id kind rows
+unfoldable pub recoverBy : Found → Session → RequestId → RecoveryKind → List Row → Begun
+recoverBy found.Nothing s id kind rows = beginRefused s (refusalOf 40)
+recoverBy (found.At i) s id kind rows = beginRow s (getD rows i emptyRow) id kind rows
 
 -- 1, 3
-unfoldable pub beginOf : Session → Bool → RequestId → RecoveryKind → List Row → Begun
-beginOf s fits id kind rows = guarded s fits (beginRefused s) (beginBy (foundIn (isAt id) rows) s id kind rows)
+unfoldable pub recoverOf : Session → Bool → RequestId → RecoveryKind → List Row → Begun
+recoverOf s fits id kind rows = guarded s fits (beginRefused s) (recoverBy (foundIn (isAt id) rows) s id kind rows)

@@ -19,7 +19,7 @@ use Rattle.rows.specs.Table.{isUncertain}
 use Rattle.rows.specs.Store.{Store}
 use Rattle.rows.specs.declared.Row.{Row}
 use Rattle.checks.specs.Completion.{hasError}
-use Rattle.session.specs.Session.{withState, withFlight, withStall, marked}
+use Rattle.session.specs.Session.{withController, withFlight, withStall, marked}
 use Rattle.session.specs.declared.InFlight.{InFlight}
 use Rattle.session.specs.declared.InFlight.the-variants as flight
 use Rattle.session.specs.declared.OptionStall.{OptionStall}
@@ -68,7 +68,7 @@ isRevision (u64.Some m) n = eqb m n
 unfoldable pub restoredBy : OptionStall → Session → DeviceId → ℕ → Bool → Session
 restoredBy stall.None s d endpoint certain = withStall s stall.None
 restoredBy (stall.Some note) s d endpoint certain =
-    withState (withStall s stall.None) Initialized (s .«recovery_revision»)
+    withController (withStall s stall.None) Initialized (s .«recovery_revision»)
     if sameDevice (note .device) d && eqb (note .endpoint) endpoint && certain && isRevision (s .«recovery_revision») (note .revision) else
     withStall s stall.None
 
@@ -95,8 +95,8 @@ unfoldable pub applyAll : (ℕ → ℕ) → ℕ → List Returned → List ℕ �
 applyAll place room es aborted bytes store area =
     abortsAfter (completeAll place room es bytes store area .verdict) (completeAll place room es bytes store area) place aborted
 
-abbrev pub reportOf : Recovery → Outcome → ℕ → ℕ → AbortReport
-reportOf x o n m = record {
+abbrev pub abortReport : Recovery → Outcome → ℕ → ℕ → AbortReport
+abortReport x o n m = record {
   target = x .target;
   device = x .device;
   endpoint = x .endpoint;
@@ -117,7 +117,7 @@ abbrev pub settledOf : Session → Recovery → Outcome → (ℕ → ℕ) → Li
 settledOf idle x o place tokens words aborted bytes store area =
     let w = applyAll place (idle .«row_bytes») (returnedOf tokens words) aborted bytes store area in
     recoveredTo
-    (concludedBy (w .verdict) idle x o (reportOf x o (length tokens) (length aborted)) (idLists (store .rows) place tokens aborted) (w .store .rows))
+    (concludedBy (w .verdict) idle x o (abortReport x o (length tokens) (length aborted)) (idLists (store .rows) place tokens aborted) (w .store .rows))
     (w .store) (w .area)
 
 -- the tokens are in scope

@@ -17,7 +17,7 @@ ghost use mathlib.Core.Path.{_≡_};
 ghost use Rattle.models.specs.Refusals.{refusalOf};
 ghost use Rattle.session.specs.declared.RecoveryKind.the-variants as RecoveryKind;
 ghost use Rattle.session.specs.Lent.{rowsIn, rowsFitIn};
-ghost use Rattle.recovery.specs.Begin.{beginRefused, recoveryOf, begunAs, beginRow, beginOf};
+ghost use Rattle.recovery.specs.Begin.{beginRefused, recoveryOf, begunAs, beginRow, recoverOf};
 
 fn refused(session: Session, refusal: Refusal) -> Begun
     ensures { λ r. ⌜ r ≡ beginRefused session refusal ⌝ }
@@ -85,7 +85,7 @@ fn begin_row(session: Session, rows: &[u64], row: Row, id: RequestId, kind: Reco
 
 // 1, 3, 40, then by the row.
 fn begin_recovery(session: Session, rows: &[u64], id: RequestId, kind: RecoveryKind) -> Begun
-    ensures { λ r. ⌜ r ≡ beginOf session (rowsFitIn session rows) id kind (rowsIn rows) ⌝ }
+    ensures { λ r. ⌜ r ≡ recoverOf session (rowsFitIn session rows) id kind (rowsIn rows) ⌝ }
 {
     let verdict = start::rows_ready(session, rows.len());
     match verdict {
@@ -102,7 +102,7 @@ fn begin_recovery(session: Session, rows: &[u64], id: RequestId, kind: RecoveryK
 }
 
 pub fn abort_request(session: Session, rows: &[u64], target: RequestId) -> Begun
-    ensures { λ r. ⌜ r ≡ beginOf session (rowsFitIn session rows) target RecoveryKind.Abort (rowsIn rows) ⌝ }
+    ensures { λ r. ⌜ r ≡ recoverOf session (rowsFitIn session rows) target RecoveryKind.Abort (rowsIn rows) ⌝ }
 {
     begin_recovery(session, rows, target, RecoveryKind::Abort)
 }
@@ -113,7 +113,7 @@ pub fn reset_endpoint_request(
     target: RequestId,
     preserve: bool,
 ) -> Begun
-    ensures { λ r. ⌜ r ≡ beginOf session (rowsFitIn session rows) target (RecoveryKind.Reset preserve) (rowsIn rows) ⌝ }
+    ensures { λ r. ⌜ r ≡ recoverOf session (rowsFitIn session rows) target (RecoveryKind.Reset preserve) (rowsIn rows) ⌝ }
 {
     begin_recovery(session, rows, target, RecoveryKind::Reset(preserve))
 }

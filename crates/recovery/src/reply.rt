@@ -40,7 +40,7 @@ ghost use Rattle.recovery.specs.Entries.{itself, walkTo};
 ghost use Rattle.recovery.specs.Places.{Below, Sized, Places};
 ghost use Rattle.recovery.specs.declared.RecoveryReply.the-variants as RecoveryReply;
 ghost use Rattle.recovery.specs.Reports.{noId, idsOf, idLists};
-ghost use Rattle.recovery.specs.Reply.{recoveredTo, recoveryRefused, isWhole, isRevision, restoredBy, resetBy, sessionAfter, refusedAfter, applyAll, reportOf, concludedBy, settledOf, scopedOf, doneOf, replyBy, replySized, recoveryReplyOf};
+ghost use Rattle.recovery.specs.Reply.{recoveredTo, recoveryRefused, isWhole, isRevision, restoredBy, resetBy, sessionAfter, refusedAfter, applyAll, abortReport, concludedBy, settledOf, scopedOf, doneOf, replyBy, replySized, recoveryReplyOf};
 
 fn no_id() -> RequestId
     ensures { λ r. ⌜ r ≡ noId ⌝ }
@@ -160,7 +160,7 @@ fn refused_after(idle: Session, refusal: Refusal) -> Session
 }
 
 fn report_of(recovery: Recovery, outcome: Outcome, completed: u64, aborted: u64) -> AbortReport
-    ensures { λ r. ⌜ r ≡ reportOf recovery outcome completed aborted ⌝ }
+    ensures { λ r. ⌜ r ≡ abortReport recovery outcome completed aborted ⌝ }
 {
     let target = recovery.target;
     let device = recovery.device;

@@ -31,7 +31,7 @@ use Rattle.session.specs.Sizes.{rowsFit, areaFits}
 use Rattle.session.specs.declared.InFlight.{InFlight}
 use Rattle.session.specs.declared.InFlight.the-variants as flight
 use Rattle.session.specs.declared.Session.{Session}
-use Rattle.reports.specs.Status.{isSubmitting, shownAt, statusBy, statusOf, isShown, comesAfter, beats, better, bestFrom, nextOf, shownCount, completedLength, part, partBy, completedPart, partOf, partNumber, bytesOf, heldCountOf, heldBytesOf}
+use Rattle.reports.specs.Status.{isSubmitting, shownAt, statusBy, statusOf, isShown, comesAfter, beats, better, bestFrom, nextOf, shownCount, completedLength, bytesPart, partBy, completedPart, partOf, partNumber, bytesOf, heldCountOf, heldBytesOf}
 use Rattle.reports.specs.declared.OptionId.{OptionId}
 use Rattle.reports.specs.declared.OptionId.the-variants as option
 use Rattle.reports.specs.declared.Part.{Part}
@@ -207,11 +207,11 @@ module _ (s : Session) (p q : Bool) (id : RequestId) (rows : List Row) (a b : Bo
     part-none r e er = passes PartAnswer _ _ _ _ (rw (ea, eb) at t) (rw (sym eg ∙ e, er))
 
     pub part-at : (i len n : ℕ) (row : Row) → g ≡ found.At i → row ≡ getD rows i emptyRow → len ≡ completedLength (row .state) → n ≡ min len (s .«row_bytes»)
-        → bytes.Part (part (i * s .«row_bytes») n) ≡ completedPart s (p && q) id rows
+        → bytes.Part (bytesPart (i * s .«row_bytes») n) ≡ completedPart s (p && q) id rows
     unfolding completedPart partBy
     part-at i len n row e er el en = passes PartAnswer _ _ _ _ (rw (ea, eb) at t) (rw (sym eg ∙ e, en, el, er))
 
-pub part-empty : (a : PartAnswer) (r : Refusal) → a ≡ bytes.Refused r → part 0 0 ≡ partOf a
+pub part-empty : (a : PartAnswer) (r : Refusal) → a ≡ bytes.Refused r → bytesPart 0 0 ≡ partOf a
 part-empty a r e = rw e
 
 -- it lies inside the area

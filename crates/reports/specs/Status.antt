@@ -88,13 +88,13 @@ completedLength (Completed actual code cancel) = actual
 completedLength (Failed error code quiescent) = 0
 completedLength Aborted = 0
 
-abbrev pub part : ℕ → ℕ → Part
-part start length = record { start = start; length = length }
+abbrev pub bytesPart : ℕ → ℕ → Part
+bytesPart start length = record { start = start; length = length }
 
 -- 40; the first actual-length bytes of the id's row, cut at its end, and none unless it is Completed now
 unfoldable pub partBy : Found → ℕ → List Row → PartAnswer
 partBy found.Nothing room rows = bytes.Refused (refusalOf 40)
-partBy (found.At i) room rows = bytes.Part (part (i * room) (min (completedLength (getD rows i emptyRow .state)) room))
+partBy (found.At i) room rows = bytes.Part (bytesPart (i * room) (min (completedLength (getD rows i emptyRow .state)) room))
 
 -- 3
 unfoldable pub completedPart : Session → Bool → RequestId → List Row → PartAnswer
@@ -104,7 +104,7 @@ completedPart s fits id rows =
 
 -- the lent form: no bytes where it is refused, and the refusal's number, or 0
 abbrev pub partOf : PartAnswer → Part
-partOf (bytes.Refused r) = part 0 0
+partOf (bytes.Refused r) = bytesPart 0 0
 partOf (bytes.Part p) = p
 
 abbrev pub partNumber : PartAnswer → ℕ

@@ -7,7 +7,7 @@ use lib.ListN.{length, getD, set, take, drop, replicate, length-replicate, drop-
 use lib.Seq.{getD-append-add, take-all}
 use Rattle.words.specs.Records.{splice, part}
 use Rattle.words.proofs.Records.{length-tab, getD-tab, set-tab, tab-all, part-getD, part-all, zero-at}
-use Rattle.rows.specs.Codec.{rowOf, metadataOf, recordOf, statusWords}
+use Rattle.rows.specs.Codec.{rowOf, readMetadata, recordOf, statusWords}
 use Rattle.rows.specs.Table.{recordWords, rowWords, rowCount, recordAt, wordsAt, putWords, putRow, rowsOf, emptyRow, rowAt, wordAt}
 use Rattle.rows.specs.Store.{storeOf, putIn, emptied}
 use Rattle.rows.specs.declared.Row.{Row}
@@ -100,7 +100,7 @@ put-row l m x i at z w r h ea hz d hw em ex =
 
 -- every word 0: every row free
 free-row : (n w i : ℕ) → i < n → n * rowWords ≤ w → rowOf (wordsAt n (replicate w 0) i) ≡ emptyRow
-unfolding rowOf metadataOf wordsAt emptyRow
+unfolding rowOf readMetadata wordsAt emptyRow
 free-row n w i h room =
     let z = zero-at w in
     let zeros : List ℕ = replicate w 0 in
@@ -126,5 +126,5 @@ cleared l m e =
 
 -- the free row's words
 pub empty-is : rowOf (0 ∷ 0 ∷ replicate recordWords 0) ≡ emptyRow
-unfolding rowOf metadataOf emptyRow
+unfolding rowOf readMetadata emptyRow
 empty-is = refl

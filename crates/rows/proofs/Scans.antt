@@ -13,7 +13,7 @@ use Rattle.words.specs.Words.{flagOf}
 use Rattle.models.specs.Requests.{deviceMayAccess, isUncertainFailure}
 use Rattle.models.specs.declared.DeviceId.{DeviceId}
 use Rattle.models.specs.declared.RequestId.{RequestId}
-use Rattle.rows.specs.Codec.{rowOf, metadataOf, kindOf, kindBy}
+use Rattle.rows.specs.Codec.{rowOf, readMetadata, stateByKind, kindBy}
 use Rattle.rows.specs.Table.{wordsAt, wordAt, rowsOf, rowCount, emptyRow, rowAt, idIn, tokenIn, isHeld, isUncertain}
 use Rattle.rows.specs.declared.Row.{Row}
 use Rattle.rows.proofs.Placed.{row-is}
@@ -32,17 +32,17 @@ meta-word : (w : List ℕ) (k : ℕ) → k < 13 → getD (take 13 (drop 4 w)) k 
 meta-word w k h = getD-take 13 (drop 4 w) k 0 h ∙ getD-drop 4 w k 0
 
 pub length-is : (l : List ℕ) (i w : ℕ) → i < length (rowsOf l) → w ≡ wordAt l i 10 → w ≡ rowAt l i .metadata .«requested_length»
-unfolding rowOf metadataOf
+unfolding rowOf readMetadata
 length-is l i w h e = e ∙ sym (meta-word (wordsAt (rowCount l) l i) 6 (omega arith)) ∙ ap (λ (r : Row). r .metadata .«requested_length») (row-is l i h)
 
 pub endpoint-is : (l : List ℕ) (i w : ℕ) → i < length (rowsOf l) → w ≡ wordAt l i 7 → w % 256 ≡ rowAt l i .metadata .endpoint
-unfolding rowOf metadataOf
+unfolding rowOf readMetadata
 endpoint-is l i w h e =
     ap (λ (n : ℕ). n % 256) (e ∙ sym (meta-word (wordsAt (rowCount l) l i) 3 (omega arith))) ∙ ap (λ (r : Row). r .metadata .endpoint) (row-is l i h)
 
 pub device-is : (l : List ℕ) (i s g p : ℕ) → i < length (rowsOf l) → s ≡ wordAt l i 4 → g ≡ wordAt l i 5 → p ≡ wordAt l i 6
     → _≡_ {A = DeviceId} (record { session = s; generation = g; slot = p % 256 }) (rowAt l i .metadata .device)
-unfolding rowOf metadataOf
+unfolding rowOf readMetadata
 device-is l i s g p h es eg ep =
     let m = meta-word (wordsAt (rowCount l) l i) in
     rw (es, eg, ep, ← m 0 (omega arith), ← m 1 (omega arith), ← m 2 (omega arith)) (ap (λ (r : Row). r .metadata .device) (row-is l i h))
@@ -73,7 +73,7 @@ module _ (l : List ℕ) (i n : ℕ) (en : n ≡ length (rowsOf l)) (h : n ≤ i)
   token-out = sym (ap (λ (r : Row). r .token) outside)
 
 -- a status is a kind where it is not 0, and odd where the row is held
-held-kind : (t r a b d e f : ℕ) → (not (eqb t 0) && deviceMayAccess (kindOf (kindBy t r) a b d e f)) ≡ eqb (t % 2) 1
+held-kind : (t r a b d e f : ℕ) → (not (eqb t 0) && deviceMayAccess (stateByKind (kindBy t r) a b d e f)) ≡ eqb (t % 2) 1
 held-kind zero r a b d e f = refl
 held-kind (suc zero) r a b d e f = refl
 held-kind (suc (suc zero)) r a b d e f = refl
@@ -82,7 +82,7 @@ held-kind (suc (suc (suc t))) r a b d e f =
     rw (ne-eqb k 0 (λ z. omega arith), le-ltb k 2 (omega arith), ne-eqb k 2 (λ z. omega arith))
     (caseB (eqb (k % 2) 1) (λ y. rw y) (λ y. rw y (caseB (eqb k 4) (λ z. rw z) (λ z. rw z))))
 
-uncertain-kind : (t r a b d e f : ℕ) → (not (eqb t 0) && isUncertainFailure (kindOf (kindBy t r) a b d e f)) ≡ (eqb (t % 2) 1 && not (eqb t 1))
+uncertain-kind : (t r a b d e f : ℕ) → (not (eqb t 0) && isUncertainFailure (stateByKind (kindBy t r) a b d e f)) ≡ (eqb (t % 2) 1 && not (eqb t 1))
 uncertain-kind zero r a b d e f = refl
 uncertain-kind (suc zero) r a b d e f = refl
 uncertain-kind (suc (suc zero)) r a b d e f = refl

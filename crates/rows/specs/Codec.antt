@@ -27,8 +27,8 @@ abbrev pub setupWords : OptionSetup → SetupWords
 setupWords setup.None = record { present = 0; «request_type» = 0; request = 0; value = 0; index = 0; length = 0 }
 setupWords (setup.Some p) = record { present = 1; «request_type» = p .«request_type»; request = p .request; value = p .value; index = p .index; length = p .length }
 
-unfoldable pub metadataOf : List ℕ → RequestMetadata
-metadataOf w = record {
+unfoldable pub readMetadata : List ℕ → RequestMetadata
+readMetadata w = record {
   device = record { session = getD w 0 0; generation = getD w 1 0; slot = getD w 2 0 % 2 ^ 8 };
   endpoint = getD w 3 0 % 2 ^ 8;
   «transfer_type» = transferOf (getD w 4 0);
@@ -77,8 +77,8 @@ kindWord (Failed x code quiescent) = cond quiescent 4 3
 kindWord Aborted = 6
 
 -- a row's state by its kind and its words. Of the other kinds 0 says what 1 says, an odd one what 3 says, an even one what 6 says
-abbrev pub kindOf : ℕ → ℕ → ℕ → ℕ → ℕ → ℕ → RequestState
-kindOf k a b d e f =
+abbrev pub stateByKind : ℕ → ℕ → ℕ → ℕ → ℕ → ℕ → RequestState
+stateByKind k a b d e f =
     cond (ltb k 2) (Pending (flagOf a) (flagOf b))
     (cond (eqb k 2) (Completed a (b % 2 ^ 32) (flagOf d))
     (cond (eqb (k % 2) 1) (Failed (errorOf a b d e) (optionU32Of f) false)
@@ -90,16 +90,16 @@ kindOf k a b d e f =
 abbrev pub kindBy : ℕ → ℕ → ℕ
 kindBy status rest = cond (eqb status 0) rest status
 
-abbrev pub statusOf : Bool → ℕ → ℕ
-statusOf used kind = cond used kind 0
+abbrev pub rowStatus : Bool → ℕ → ℕ
+rowStatus used kind = cond used kind 0
 
 abbrev pub restOf : Bool → ℕ → ℕ
 restOf used kind = cond used 0 (cond (eqb kind 1) 0 kind)
 
 -- a row's words of a state are a report's, without the tag and the third, which a Completed state has as its fourth
-abbrev pub statusBy : Bool → ℕ → StateWords → StatusWords
-statusBy used kind w = record {
-  status = statusOf used kind;
+abbrev pub rowStatusWords : Bool → ℕ → StateWords → StatusWords
+rowStatusWords used kind w = record {
+  status = rowStatus used kind;
   rest = restOf used kind;
   a = w .a;
   b = w .b;
@@ -109,18 +109,18 @@ statusBy used kind w = record {
 }
 
 abbrev pub statusWords : Bool → RequestState → StatusWords
-statusWords used s = statusBy used (kindWord s) (stateWords s)
+statusWords used s = rowStatusWords used (kindWord s) (stateWords s)
 
 -- a row's words: the two that stand in columns (sequence, status), then its record
 unfoldable pub rowOf : List ℕ → Row
 rowOf w = record {
   used = flagOf (getD w 1 0);
   id = record { session = getD w 2 0; generation = getD w 3 0; sequence = getD w 0 0 };
-  metadata = metadataOf (take 13 (drop 4 w));
+  metadata = readMetadata (take 13 (drop 4 w));
   token = getD w 17 0;
   «logical_cancel» = flagOf (getD w 18 0);
   «timed_out» = flagOf (getD w 19 0);
-  state = kindOf (kindBy (getD w 1 0) (getD w 22 0)) (getD w 20 0) (getD w 21 0) (getD w 23 0) (getD w 24 0) (getD w 25 0);
+  state = stateByKind (kindBy (getD w 1 0) (getD w 22 0)) (getD w 20 0) (getD w 21 0) (getD w 23 0) (getD w 24 0) (getD w 25 0);
 }
 
 abbrev pub setupTail : SetupWords → List ℕ → List ℕ

@@ -15,7 +15,7 @@ ghost use mathlib.Core.Bool.{cond};
 ghost use lib.Dec.{eqb};
 ghost use lib.ListN.{length};
 ghost use Rattle.words.specs.Words.{flagOf, optionU32Of};
-ghost use Rattle.rows.specs.Codec.{setupOf, setupWords, metadataOf, stateOf, shortWords, failedWords, stateWords, errorOf, kindWord, kindOf, kindBy, statusBy, statusWords, rowOf, recordOf};
+ghost use Rattle.rows.specs.Codec.{setupOf, setupWords, readMetadata, stateOf, shortWords, failedWords, stateWords, errorOf, kindWord, stateByKind, kindBy, rowStatusWords, statusWords, rowOf, recordOf};
 ghost use Rattle.models.specs.declared.RequestState.the-variants as RequestState;
 
 // The kinds of a row's state: odd, where the row is held.
@@ -110,7 +110,7 @@ pub fn to_setup(
 // The metadata that the words of a record from its third on say.
 fn to_metadata(w: &[u64]) -> RequestMetadata
     requires { ⌜ length (now w) ≡ 13 ⌝ }
-    ensures { λ r. ⌜ r ≡ metadataOf (now (w .entry)) ⌝ }
+    ensures { λ r. ⌜ r ≡ readMetadata (now (w .entry)) ⌝ }
 {
     let device = DeviceId {
         session: w[0],
@@ -242,7 +242,7 @@ fn to_failed(a: u64, b: u64, d: u64, e: u64, f: u64, quiescent: bool) -> Request
 }
 
 fn to_state(kind: u64, a: u64, b: u64, d: u64, e: u64, f: u64) -> RequestState
-    ensures { λ r. ⌜ r ≡ kindOf kind a b d e f ⌝ }
+    ensures { λ r. ⌜ r ≡ stateByKind kind a b d e f ⌝ }
 {
     if kind < COMPLETED {
         return RequestState::Pending {
@@ -287,7 +287,7 @@ fn fourth(kind: u64, c: u64, d: u64) -> u64
 }
 
 fn status_by(used: bool, kind: u64, w: StateWords) -> StatusWords
-    ensures { λ r. ⌜ r ≡ statusBy used kind w ⌝ }
+    ensures { λ r. ⌜ r ≡ rowStatusWords used kind w ⌝ }
 {
     let d = fourth(kind, w.c, w.d);
     if used {
@@ -313,7 +313,7 @@ fn status_by(used: bool, kind: u64, w: StateWords) -> StatusWords
 }
 
 pub(crate) fn status_words(used: bool, s: RequestState) -> StatusWords
-    ensures { λ r. ⌜ (flagOf (r .status) ≡ used) × (kindOf (kindBy (r .status) (r .rest)) (r .a) (r .b) (r .d) (r .e) (r .f) ≡ s) × (r ≡ statusWords used s) ⌝ }
+    ensures { λ r. ⌜ (flagOf (r .status) ≡ used) × (stateByKind (kindBy (r .status) (r .rest)) (r .a) (r .b) (r .d) (r .e) (r .f) ≡ s) × (r ≡ statusWords used s) ⌝ }
 {
     let w = state_words(s);
     let kind = kind_word(s);
@@ -355,7 +355,7 @@ pub(crate) fn decode(sequence: u64, status: u64, w: &[u64]) -> Row
 
 // The record of a row whose SETUP has the words p and whose state the words s.
 pub(crate) fn encode(r: Row, p: SetupWords, s: StatusWords) -> [u64; 24]
-    requires { ⌜ (setupOf (p .present) (p .«request_type») (p .request) (p .value) (p .index) (p .length) ≡ r .metadata .setup) × (p ≡ setupWords (r .metadata .setup)) × (flagOf (s .status) ≡ r .used) × (kindOf (kindBy (s .status) (s .rest)) (s .a) (s .b) (s .d) (s .e) (s .f) ≡ r .state) × (s ≡ statusWords (r .used) (r .state)) ⌝ }
+    requires { ⌜ (setupOf (p .present) (p .«request_type») (p .request) (p .value) (p .index) (p .length) ≡ r .metadata .setup) × (p ≡ setupWords (r .metadata .setup)) × (flagOf (s .status) ≡ r .used) × (stateByKind (kindBy (s .status) (s .rest)) (s .a) (s .b) (s .d) (s .e) (s .f) ≡ r .state) × (s ≡ statusWords (r .used) (r .state)) ⌝ }
     ensures { λ w. ⌜ (rowOf (r .id .sequence ∷ s .status ∷ w) ≡ r) × (w ≡ recordOf r) ⌝ }
 {
     let m = r.metadata;

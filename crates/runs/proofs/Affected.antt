@@ -14,7 +14,7 @@ use Rattle.models.specs.declared.DeviceId.{DeviceId}
 use Rattle.rows.specs.Table.{isHeld, rowIn, idIn, tokenIn}
 use Rattle.rows.specs.declared.Row.{Row}
 use Rattle.scope.specs.Affected.{isAffected, comesBefore, insertRow, joined, affectedUpTo, affectedOf, tokensOf}
-use Rattle.scope.specs.Scope.{slotOf, isIn, meant}
+use Rattle.scope.specs.Scope.{slotOf, isAmong, meant}
 use Rattle.scope.specs.Returned.{Returned, returnedAt, returnedOf}
 use Rattle.scope.proofs.Affecting.{affected-bounded}
 
@@ -53,7 +53,7 @@ module _ (d : DeviceId) (endpoint : ℕ) (rows : List Row) where
   affected-held = up-to-held (length rows)
 
   -- the row that an expected token means is affected
-  module _ (t : ℕ) (e : isIn t (tokensOf rows (affectedOf d endpoint rows)) ≡ true) where
+  module _ (t : ℕ) (e : isAmong t (tokensOf rows (affectedOf d endpoint rows)) ≡ true) where
     pub slot-in : slotOf (tokensOf rows (affectedOf d endpoint rows)) t < length (affectedOf d endpoint rows)
     slot-in = omega (arith, ltb-true (slotOf (tokensOf rows (affectedOf d endpoint rows)) t) (length (tokensOf rows (affectedOf d endpoint rows))) e, length-map (affectedOf d endpoint rows) (tokenIn rows))
 

@@ -27,7 +27,7 @@ use Rattle.rules.specs.declared.Step.{Step}
 use Rattle.rules.specs.declared.Step.the-variants as step
 use Rattle.checks.specs.declared.completion.CompletionTest.{CompletionTest}
 use Rattle.checks.specs.declared.completion.CompletionTest.the-variants as test
-use Rattle.session.specs.Session.{withState, withFlight, withStall, marked}
+use Rattle.session.specs.Session.{withController, withFlight, withStall, marked}
 use Rattle.session.specs.declared.InFlight.{InFlight}
 use Rattle.session.specs.declared.InFlight.the-variants as flight
 use Rattle.session.specs.declared.OptionStall.{OptionStall}
@@ -36,12 +36,12 @@ use Rattle.session.specs.declared.RecoveryKind.{RecoveryKind}
 use Rattle.session.specs.declared.RecoveryKind.the-variants as kind
 use Rattle.session.specs.declared.Session.{Session}
 use Rattle.scope.specs.Affected.{affectedOf, tokensOf}
-use Rattle.scope.specs.Scope.{isIn, meant, inScope}
+use Rattle.scope.specs.Scope.{isAmong, meant, inScope}
 use Rattle.scope.specs.Returned.{Returned, returnedOf}
-use Rattle.recovery.specs.Begin.{begunAs, beginOf}
+use Rattle.recovery.specs.Begin.{begunAs, recoverOf}
 use Rattle.recovery.specs.Entries.{WalkTo, storedAt, rowCompletedBy, testedBy, completeOne, abortedBy, abortOne}
 use Rattle.recovery.specs.Reports.{idLists}
-use Rattle.recovery.specs.Reply.{RecoveredTo, isWhole, isRevision, restoredBy, resetBy, sessionAfter, refusedAfter, applyAll, reportOf, concludedBy, scopedOf, recoveryReplyOf}
+use Rattle.recovery.specs.Reply.{RecoveredTo, isWhole, isRevision, restoredBy, resetBy, sessionAfter, refusedAfter, applyAll, abortReport, concludedBy, scopedOf, recoveryReplyOf}
 use Rattle.recovery.specs.declared.AbortReport.{AbortReport}
 use Rattle.recovery.specs.declared.Begun.{Begun}
 use Rattle.recovery.specs.declared.Ids.{Ids}
@@ -68,7 +68,7 @@ leads-then a b c p q = record { sound = q .sound; fitted = λ z. q .fitted (p .f
 abbrev pub BegunSound : World → Begun → Type 0
 BegunSound w o = Leads w (world (o .session) (w .bus) (w .store) (w .area))
 
-pub begin-sound : (w : World) → Sound w → (fits : Bool) (id : RequestId) (q : RecoveryKind) → BegunSound w (beginOf (w .session) fits id q (w .store .rows))
+pub begin-sound : (w : World) → Sound w → (fits : Bool) (id : RequestId) (q : RecoveryKind) → BegunSound w (recoverOf (w .session) fits id q (w .store .rows))
 unfolding begunAs
 begin-sound w k fits id q =
     begin-all (w .session) id q (w .store .rows) (BegunSound w) (λ n e. kept w k) (λ i h e m. kept w k)
@@ -173,7 +173,7 @@ module _ (v : World) (k : Sound v) (idle : Idle (v .session)) where
   marked-after = moved-idle v k (marked (v .session)) (marked-moves (v .session)) (v .bus) (v .area) (marked-idle (v .session) idle)
 
   -- Initialized again: no row is Failed and not quiescent
-  restored-after : count isUncertain (v .store .rows) ≡ 0 → (revision : OptionU64) → After (withState (withStall (v .session) stall.None) Initialized revision)
+  restored-after : count isUncertain (v .store .rows) ≡ 0 → (revision : OptionU64) → After (withController (withStall (v .session) stall.None) Initialized revision)
   restored-after z revision = record {
     sound = record {
       sizes = k .sizes;
@@ -224,7 +224,7 @@ module _ (d : DeviceId) (endpoint : ℕ) (rows : List Row) where
   abbrev own : List ℕ
   own = tokensOf rows (affectedOf d endpoint rows)
 
-  meant-used : (t : ℕ) → isIn t own ≡ true → Used (meant (affectedOf d endpoint rows) own) rows t
+  meant-used : (t : ℕ) → isAmong t own ≡ true → Used (meant (affectedOf d endpoint rows) own) rows t
   meant-used t e = (
     meant-below d endpoint rows t e,
     held-used (rowIn rows (meant (affectedOf d endpoint rows) own t)) (affected-is-held d endpoint rows _ (meant-affected d endpoint rows t e)),
@@ -259,7 +259,7 @@ module _ (w : World) (k : Sound w) (tokens words aborted bytes : List ℕ) where
       let o′ : WalkTo = applyAll (meant affected mine) (quiet .«row_bytes») (returnedOf tokens words) aborted bytes (w .store) (w .area) in
       let after : World = world quiet (w .bus) (o′ .store) (o′ .area) in
       leads-then w still _ stilled
-      (leads-then still after _ a (concluded-after after (a .sound) refl (o′ .verdict) x o (reportOf x o (length tokens) (length aborted)) (idLists (w .store .rows) (meant affected mine) tokens aborted)))
+      (leads-then still after _ a (concluded-after after (a .sound) refl (o′ .verdict) x o (abortReport x o (length tokens) (length aborted)) (idLists (w .store .rows) (meant affected mine) tokens aborted)))
 
   pub recovery-sound : (fits : Bool) (r : RecoveryReply) → RecoveredSound (recoveryReplyOf (w .session) fits r tokens words aborted bytes (w .store) (w .area))
   recovery-sound fits r =

@@ -16,7 +16,7 @@ use Rattle.session.specs.Sizes.{sized, rowsFit, openFits}
 use Rattle.session.specs.declared.lifecycle.Opening.{Opening}
 use Rattle.session.proofs.Sized.{fit-rows}
 use Rattle.calls.specs.Calls.{Call, Open, Place, Move, Acquire, Initialize, Close, Begin, Submit, SubmitPlan, Poll, Recover, Reply, ToSubmit, ToPoll, ToRecovery, Change, Read}
-use Rattle.calls.specs.Step.{World, world, opens, rowsFitIn, areaFitsIn, storeFitsIn, movedOf, begunOf, repliedOf, changeBy, stepOf}
+use Rattle.calls.specs.Step.{World, world, opens, rowsMatch, areaMatches, storeMatches, movedOf, begunOf, repliedOf, changeBy, stepOf}
 use Rattle.calls.specs.declared.Answer.the-variants as answer
 use Rattle.runs.specs.Run.{Handed, Event, next, leftBy, endOf, isOpening, Handing, Follows}
 use Rattle.runs.specs.Sound.{Sound, Fitted}
@@ -77,15 +77,15 @@ leads (Open o) w k e = absurd (true≢false e)
 leads (Place p) w k e = same w k _ (w .area)
 leads (Move (Acquire reply)) w k e = acquire-sound w k reply
 leads (Move (Initialize reply)) w k e = initialize-sound w k reply
-leads (Move (Close fresh reply)) w k e = close-sound w k (rowsFitIn w) fresh reply
-leads (Begin (Submit q bytes given packets first second)) w k e = submit-sound w k (storeFitsIn w) q bytes given packets first second
-leads (Begin (SubmitPlan q bytes first)) w k e = plan-sound w k (storeFitsIn w) q bytes first
-leads (Begin (Poll id)) w k e = poll-sound w k id (rowsFitIn w)
-leads (Begin (Recover id kind)) w k e = begin-sound w k (rowsFitIn w) id kind
-leads (Reply (ToSubmit reply)) w k e = reply-sound w k (rowsFitIn w) reply
-leads (Reply (ToPoll reply bytes)) w k e = finish-sound w k reply bytes (rowsFitIn w && areaFitsIn w)
-leads (Reply (ToRecovery reply tokens words aborted bytes)) w k e = recovery-sound w k tokens words aborted bytes (rowsFitIn w && areaFitsIn w) reply
-leads (Change id c) w k e = change-sound w k (rowsFitIn w) id (changeBy c) (λ r. change-step r c)
+leads (Move (Close fresh reply)) w k e = close-sound w k (rowsMatch w) fresh reply
+leads (Begin (Submit q bytes given packets first second)) w k e = submit-sound w k (storeMatches w) q bytes given packets first second
+leads (Begin (SubmitPlan q bytes first)) w k e = plan-sound w k (storeMatches w) q bytes first
+leads (Begin (Poll id)) w k e = poll-sound w k id (rowsMatch w)
+leads (Begin (Recover id kind)) w k e = begin-sound w k (rowsMatch w) id kind
+leads (Reply (ToSubmit reply)) w k e = reply-sound w k (rowsMatch w) reply
+leads (Reply (ToPoll reply bytes)) w k e = finish-sound w k reply bytes (rowsMatch w && areaMatches w)
+leads (Reply (ToRecovery reply tokens words aborted bytes)) w k e = recovery-sound w k tokens words aborted bytes (rowsMatch w && areaMatches w) reply
+leads (Change id c) w k e = change-sound w k (rowsMatch w) id (changeBy c) (λ r. change-step r c)
 leads (Read r) w k e = kept w k
 
 pub left-leads : (h : Handed) (c : Call) (w : World) → Sound w → Handing h c → Leads w (leftBy h c w)

@@ -7,7 +7,7 @@ use borrow.Author.Tests.{eq-eqb, eqb-true, not-true}
 use lib.Dec.{eqb}
 use Rattle.chain.proofs.Chain.{caseB, both}
 use Rattle.scope.specs.Returned.{Returned}
-use Rattle.scope.specs.Scope.{isIn, eachOnce, allIn, inScope}
+use Rattle.scope.specs.Scope.{isAmong, eachOnce, allIn, inScope}
 use Rattle.scope.proofs.Scoping.{in-cons}
 
 abbrev pub tokensIn : List Returned → List ℕ
@@ -19,7 +19,7 @@ Each P (t ∷ ts) = P t × Each P ts
 
 abbrev pub Distinct : List ℕ → Type 0
 Distinct [] = Unit {0}
-Distinct (t ∷ ts) = (isIn t ts ≡ false) × Distinct ts
+Distinct (t ∷ ts) = (isAmong t ts ≡ false) × Distinct ts
 
 pub each-first : (P : ℕ → Type 0) (ts us : List ℕ) → Each P (ts ++ us) → Each P ts
 each-first P [] us a = tt
@@ -40,29 +40,29 @@ and3 false b c e = absurd (false≢true e)
 
 -- ---- in scope: each is expected, and came not before
 module _ (own : List ℕ) where
-  each-own : (P : ℕ → Type 0) → ((t : ℕ) → isIn t own ≡ true → P t) → (ts l : List ℕ) → eachOnce own l ts ≡ true → Each P ts
+  each-own : (P : ℕ → Type 0) → ((t : ℕ) → isAmong t own ≡ true → P t) → (ts l : List ℕ) → eachOnce own l ts ≡ true → Each P ts
   each-own P h [] l e = tt
   each-own P h (t ∷ ts) l e =
-      let p = and3 (isIn t own) (not (isIn t l)) (eachOnce own (t ∷ l) ts) e in
+      let p = and3 (isAmong t own) (not (isAmong t l)) (eachOnce own (t ∷ l) ts) e in
       (h t (p .0), each-own P h ts (t ∷ l) (p .2))
 
-  apart : (ts l : List ℕ) (u : ℕ) → eachOnce own l ts ≡ true → isIn u l ≡ true → isIn u ts ≡ false
+  apart : (ts l : List ℕ) (u : ℕ) → eachOnce own l ts ≡ true → isAmong u l ≡ true → isAmong u ts ≡ false
   apart [] l u e i = refl
   apart (t ∷ ts) l u e i =
-      let p = and3 (isIn t own) (not (isIn t l)) (eachOnce own (t ∷ l) ts) e in
+      let p = and3 (isAmong t own) (not (isAmong t l)) (eachOnce own (t ∷ l) ts) e in
       let n : eqb u t ≡ false = caseB (eqb u t)
-      (λ y. let z = eqb-true u t y in absurd (true≢false (sym i ∙ ap (λ (x : ℕ). isIn x l) z ∙ not-true (isIn t l) (p .1))))
+      (λ y. let z = eqb-true u t y in absurd (true≢false (sym i ∙ ap (λ (x : ℕ). isAmong x l) z ∙ not-true (isAmong t l) (p .1))))
       (λ y. y) in
-      let later : isIn u (t ∷ l) ≡ true = in-cons u t l ∙ rw (n, i) in
+      let later : isAmong u (t ∷ l) ≡ true = in-cons u t l ∙ rw (n, i) in
       in-cons u t ts ∙ rw n (apart ts (t ∷ l) u (p .2) later)
 
-  self-in : (t : ℕ) (l : List ℕ) → isIn t (t ∷ l) ≡ true
+  self-in : (t : ℕ) (l : List ℕ) → isAmong t (t ∷ l) ≡ true
   self-in t l = let s = eq-eqb t t refl in in-cons t t l ∙ rw s
 
   each-apart : (ts l : List ℕ) → eachOnce own l ts ≡ true → Distinct ts
   each-apart [] l e = tt
   each-apart (t ∷ ts) l e =
-      let p = and3 (isIn t own) (not (isIn t l)) (eachOnce own (t ∷ l) ts) e in
+      let p = and3 (isAmong t own) (not (isAmong t l)) (eachOnce own (t ∷ l) ts) e in
       (apart ts (t ∷ l) t (p .2) (self-in t l), each-apart ts (t ∷ l) (p .2))
 
   module _ (whole : Bool) (ts : List ℕ) (scope : inScope whole own ts ≡ true) where
@@ -70,7 +70,7 @@ module _ (own : List ℕ) where
     unfolding inScope
     once = both (eachOnce own [] ts) (not whole || allIn own ts) scope .0
 
-    pub scope-each : (P : ℕ → Type 0) → ((t : ℕ) → isIn t own ≡ true → P t) → Each P ts
+    pub scope-each : (P : ℕ → Type 0) → ((t : ℕ) → isAmong t own ≡ true → P t) → Each P ts
     scope-each P h = each-own P h ts [] once
 
     pub scope-distinct : Distinct ts

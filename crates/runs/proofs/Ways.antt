@@ -41,7 +41,7 @@ use Rattle.submissions.specs.Reply.{submitReplyBy, submitReplyIn, submitReplyOf
 use Rattle.submissions.specs.declared.SubmitReply.{SubmitReply}
 use Rattle.scope.specs.Affected.{affectedOf, tokensOf}
 use Rattle.scope.specs.Scope.{inScope}
-use Rattle.recovery.specs.Begin.{beginRefused, recoveryOf, begunAs, beginRow, beginBy, beginOf}
+use Rattle.recovery.specs.Begin.{beginRefused, recoveryOf, begunAs, beginRow, recoverBy, recoverOf}
 use Rattle.recovery.specs.Reply.{RecoveredTo, recoveredTo, recoveryRefused, isWhole, scopedOf, doneOf, replyBy, replySized, replyIn, recoveryReplyOf}
 use Rattle.recovery.specs.declared.Begun.{Begun}
 use Rattle.recovery.specs.declared.Outcome.{Outcome}
@@ -94,12 +94,12 @@ module _ (s : Session) (id : RequestId) (q : RecoveryKind) (rows : List Row) (P 
     (may-not : (i : ℕ) → i < length rows → isAt id (rowIn rows i) ≡ true → mayRecover (s .state) ≡ false → P (beginRefused s (refusalOf 44)))
     (go : (i : ℕ) → i < length rows → isAt id (rowIn rows i) ≡ true → deviceMayAccess (rowIn rows i .state) ≡ true → mayRecover (s .state) ≡ true
     → P (begunAs s (recoveryOf id (rowIn rows i) q) rows)) where
-  pub begin-all : (fits : Bool) → P (beginOf s fits id q rows)
-  unfolding beginOf guarded beginBy beginRow
+  pub begin-all : (fits : Bool) → P (recoverOf s fits id q rows)
+  unfolding recoverOf guarded recoverBy beginRow
   begin-all fits =
       if-by P _ _ _ (λ e. no 1 refl)
       (λ e. if-by P _ _ _ (λ y. no 3 refl)
-      (λ y. found-all id rows (λ (f : Found). P (beginBy f s id q rows)) (no 40 refl)
+      (λ y. found-all id rows (λ (f : Found). P (recoverBy f s id q rows)) (no 40 refl)
       (λ i h u. if-by P _ _ _ (λ a. no 43 refl)
       (λ a. if-by P _ _ _ (λ m. may-not i h u (not-true (mayRecover (s .state)) m))
       (λ m. go i h u (not-false (deviceMayAccess (rowIn rows i .state)) a) (not-false (mayRecover (s .state)) m))))))

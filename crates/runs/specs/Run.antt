@@ -7,7 +7,7 @@ use Rattle.words.specs.declared.OptionU64.{OptionU64}
 use Rattle.words.specs.declared.OptionU64.the-variants as u64
 use Rattle.models.specs.Refusals.{refusalOf}
 use Rattle.bus.specs.Tables.{Bus}
-use Rattle.scope.specs.Scope.{isIn}
+use Rattle.scope.specs.Scope.{isAmong}
 use Rattle.calls.specs.Calls.{Call, Open, Place, Move, Acquire, Initialize, Close, Begin, Reply, Change, Read}
 use Rattle.calls.specs.Step.{World, After, world, stepOf}
 use Rattle.calls.specs.declared.Answer.{Answer}
@@ -89,7 +89,7 @@ numberOf (Read r) = u64.None
 
 abbrev pub isNew : OptionU64 → List ℕ → Bool
 isNew u64.None seen = true
-isNew (u64.Some n) seen = not (isIn n seen)
+isNew (u64.Some n) seen = not (isAmong n seen)
 
 abbrev pub noted : OptionU64 → List ℕ → List ℕ
 noted u64.None seen = seen

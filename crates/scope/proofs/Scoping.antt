@@ -13,7 +13,7 @@ use Rattle.chain.specs.Chain.{_if_else_}
 use Rattle.chain.specs.Lists.{only, count, find}
 use Rattle.chain.proofs.Chain.{caseB, takes, passes, both, and3}
 use Rattle.chain.proofs.Lists.{sum-eq, sum-pair, count-pos, count-most, find-on, find-here, find-hit}
-use Rattle.scope.specs.Scope.{slotOf, isIn, eachOnce, allIn, inScope, MarkedTo, markedTo, markOf}
+use Rattle.scope.specs.Scope.{slotOf, isAmong, eachOnce, allIn, inScope, MarkedTo, markedTo, markOf}
 
 -- ---- the search for a token
 module _ (l : List ℕ) (t n k : ℕ) (e : n ≡ length l) (h : k ≤ find (eqb t) l) (lt : k < n) where
@@ -36,46 +36,46 @@ module _ (own l : List ℕ) (m₀ : List Bool) (n : ℕ) (m : List Bool) (k j : 
   next = rw (drop-cons l k 0 (omega arith)) at h
 
   pub mark-far : length own ≤ j → markedTo false m ≡ markOf own l m₀
-  mark-far o = takes MarkedTo _ (not (isIn (getD l k 0) own)) _ _ (ap not (le-ltb (slotOf own (getD l k 0)) (length own) (omega arith))) refl ∙ next
+  mark-far o = takes MarkedTo _ (not (isAmong (getD l k 0) own)) _ _ (ap not (le-ltb (slotOf own (getD l k 0)) (length own) (omega arith))) refl ∙ next
 
   module _ (i : j < length own) where
-    found : not (isIn (getD l k 0) own) ≡ false
+    found : not (isAmong (getD l k 0) own) ≡ false
     found = ap not (lt-ltb (slotOf own (getD l k 0)) (length own) (omega arith))
 
     pub mark-twice : getD m j false ≡ true → markedTo false m ≡ markOf own l m₀
-    mark-twice t = passes MarkedTo _ (not (isIn (getD l k 0) own)) _ _ found (takes MarkedTo _ _ _ _ (rw ej at t) refl) ∙ next
+    mark-twice t = passes MarkedTo _ (not (isAmong (getD l k 0) own)) _ _ found (takes MarkedTo _ _ _ _ (rw ej at t) refl) ∙ next
 
     pub mark-on : getD m j false ≡ false → markOf own (drop (k + 1) l) (set m j true) ≡ markOf own l m₀
-    mark-on t = rw (add-one, ej) (passes MarkedTo _ (not (isIn (getD l k 0) own)) _ _ found (passes MarkedTo _ _ _ _ (rw ej at t) refl) ∙ next)
+    mark-on t = rw (add-one, ej) (passes MarkedTo _ (not (isAmong (getD l k 0) own)) _ _ found (passes MarkedTo _ _ _ _ (rw ej at t) refl) ∙ next)
 
 pub mark-end : (own l : List ℕ) (m₀ : List Bool) (n : ℕ) (m : List Bool) (k : ℕ) → n ≡ length l → n ≤ k → markOf own (drop k l) m ≡ markOf own l m₀
     → markedTo true m ≡ markOf own l m₀
 mark-end own l m₀ n m k e o h = let q : length l ≤ k = omega arith in let z : drop k l ≡ [] = drop-of-length-le l q in rw z at h
 
 -- ---- membership
-pub in-cons : (u t : ℕ) (l : List ℕ) → isIn u (t ∷ l) ≡ (eqb u t || isIn u l)
+pub in-cons : (u t : ℕ) (l : List ℕ) → isAmong u (t ∷ l) ≡ (eqb u t || isAmong u l)
 in-cons u t l = caseB (eqb u t)
     (λ e. rw e (lt-ltb 0 (suc (length l)) (omega arith)))
-    (λ e. rw e (caseB (isIn u l)
+    (λ e. rw e (caseB (isAmong u l)
     (λ y. rw y (lt-ltb (suc (find (eqb u) l)) (suc (length l)) (omega (arith, ltb-true (find (eqb u) l) (length l) y))))
     (λ y. rw y (le-ltb (suc (find (eqb u) l)) (suc (length l)) (omega (arith, ltb-false (find (eqb u) l) (length l) y))))))
 
-pub in-append : (t : ℕ) (a b : List ℕ) → isIn t (a ++ b) ≡ (isIn t a || isIn t b)
+pub in-append : (t : ℕ) (a b : List ℕ) → isAmong t (a ++ b) ≡ (isAmong t a || isAmong t b)
 in-append t [] b = refl
-in-append t (x ∷ a) b = in-cons t x (a ++ b) ∙ ap (λ (z : Bool). eqb t x || z) (in-append t a b) ∙ sym (or-assoc (eqb t x) (isIn t a) (isIn t b))
-    ∙ ap (λ (z : Bool). z || isIn t b) (sym (in-cons t x a))
+in-append t (x ∷ a) b = in-cons t x (a ++ b) ∙ ap (λ (z : Bool). eqb t x || z) (in-append t a b) ∙ sym (or-assoc (eqb t x) (isAmong t a) (isAmong t b))
+    ∙ ap (λ (z : Bool). z || isAmong t b) (sym (in-cons t x a))
 
 -- ---- the marks are the tokens that came
-own-at : (own : List ℕ) (t : ℕ) → isIn t own ≡ true → t ≡ getD own (slotOf own t) 0
+own-at : (own : List ℕ) (t : ℕ) → isAmong t own ≡ true → t ≡ getD own (slotOf own t) 0
 own-at own t e = eqb-true t (getD own (slotOf own t) 0) (find-hit (eqb t) own 0 (ltb-true (slotOf own t) (length own) e))
 
-pub slot-apart : (own : List ℕ) (t u : ℕ) → isIn t own ≡ true → isIn u own ≡ true → eqb u t ≡ false → slotOf own u ≡ slotOf own t → ⊥
+pub slot-apart : (own : List ℕ) (t u : ℕ) → isAmong t own ≡ true → isAmong u own ≡ true → eqb u t ≡ false → slotOf own u ≡ slotOf own t → ⊥
 slot-apart own t u a b n e = eqb-false u t n (own-at own u b ∙ ap (λ (i : ℕ). getD own i 0) e ∙ sym (own-at own t a))
 
 abbrev Marks : List ℕ → List ℕ → List Bool → Type 0
-Marks own seen m = (t : ℕ) → isIn t own ≡ true → getD m (slotOf own t) false ≡ isIn t seen
+Marks own seen m = (t : ℕ) → isAmong t own ≡ true → getD m (slotOf own t) false ≡ isAmong t seen
 
-marks-on : (own seen : List ℕ) (m : List Bool) (t : ℕ) → length own ≤ length m → isIn t own ≡ true → Marks own seen m → Marks own (t ∷ seen) (set m (slotOf own t) true)
+marks-on : (own seen : List ℕ) (m : List Bool) (t : ℕ) → length own ≤ length m → isAmong t own ≡ true → Marks own seen m → Marks own (t ∷ seen) (set m (slotOf own t) true)
 marks-on own seen m t h i k u j =
     let q = in-cons u t seen in
     caseB (eqb u t)
@@ -86,8 +86,8 @@ marks-on own seen m t h i k u j =
 pub mark-each : (own l seen : List ℕ) (m : List Bool) → length own ≤ length m → Marks own seen m → markOf own l m .ok ≡ eachOnce own seen l
 unfolding _if_else_
 mark-each own [] seen m h k = refl
-mark-each own (t ∷ ts) seen m h k = caseB (isIn t own)
-    (λ e. let q = k t e in rw (e, q) (caseB (isIn t seen)
+mark-each own (t ∷ ts) seen m h k = caseB (isAmong t own)
+    (λ e. let q = k t e in rw (e, q) (caseB (isAmong t seen)
     (λ y. rw y)
     (λ y. rw y (mark-each own ts (t ∷ seen) (set m (slotOf own t) true) (omega (arith, length-set m (slotOf own t) true)) (marks-on own seen m t h e k)))))
     (λ e. rw e)
@@ -95,7 +95,7 @@ mark-each own (t ∷ ts) seen m h k = caseB (isIn t own)
 mark-append : (own a b : List ℕ) (m m₁ : List Bool) → markOf own a m ≡ markedTo true m₁ → markOf own (a ++ b) m ≡ markOf own b m₁
 unfolding _if_else_
 mark-append own [] b m m₁ = λ e. ap (markOf own b) (ap (λ (x : MarkedTo). x .marks) e)
-mark-append own (t ∷ a) b m m₁ = caseB (isIn t own)
+mark-append own (t ∷ a) b m m₁ = caseB (isAmong t own)
     (λ i. rw i (caseB (getD m (slotOf own t) false)
     (λ y. rw y λ e. let z : _≡_ {A = Bool} false true = ap (λ (x : MarkedTo). x .ok) e in absurd (false≢true z))
     (λ y. rw y λ e. mark-append own a b (set m (slotOf own t) true) m₁ e)))
@@ -104,7 +104,7 @@ mark-append own (t ∷ a) b m m₁ = caseB (isIn t own)
 mark-stop : (own a b : List ℕ) (m : List Bool) → markOf own a m .ok ≡ false → markOf own (a ++ b) m .ok ≡ false
 unfolding _if_else_
 mark-stop own [] b m = λ e. absurd (true≢false e)
-mark-stop own (t ∷ a) b m = caseB (isIn t own)
+mark-stop own (t ∷ a) b m = caseB (isAmong t own)
     (λ i. rw i (caseB (getD m (slotOf own t) false)
     (λ y. rw y λ e. refl)
     (λ y. rw y λ e. mark-stop own a b (set m (slotOf own t) true) e)))
@@ -112,31 +112,31 @@ mark-stop own (t ∷ a) b m = caseB (isIn t own)
 
 -- ---- as many as there are: all of them
 abbrev hits : List ℕ → List ℕ → ℕ
-hits own l = count (λ (u : ℕ). isIn u l) own
+hits own l = count (λ (u : ℕ). isAmong u l) own
 
-hits-more : (own l : List ℕ) (t : ℕ) → isIn t own ≡ true → isIn t l ≡ false → hits own l + 1 ≤ hits own (t ∷ l)
+hits-more : (own l : List ℕ) (t : ℕ) → isAmong t own ≡ true → isAmong t l ≡ false → hits own l + 1 ≤ hits own (t ∷ l)
 hits-more own l t i n =
     omega (
       arith,
-      sum-pair (only (λ (u : ℕ). isIn u l) (λ x. 1)) (only (eqb t) (λ x. 1)) (only (λ (u : ℕ). isIn u (t ∷ l)) (λ x. 1)) own one,
+      sum-pair (only (λ (u : ℕ). isAmong u l) (λ x. 1)) (only (eqb t) (λ x. 1)) (only (λ (u : ℕ). isAmong u (t ∷ l)) (λ x. 1)) own one,
       count-pos (eqb t) own (slotOf own t) 0 (ltb-true (slotOf own t) (length own) i) (find-hit (eqb t) own 0 (ltb-true (slotOf own t) (length own) i)),
     )
   where
-    one : (u : ℕ) → only (λ (x : ℕ). isIn x l) (λ x. 1) u + only (eqb t) (λ x. 1) u ≤ only (λ (x : ℕ). isIn x (t ∷ l)) (λ x. 1) u
+    one : (u : ℕ) → only (λ (x : ℕ). isAmong x l) (λ x. 1) u + only (eqb t) (λ x. 1) u ≤ only (λ (x : ℕ). isAmong x (t ∷ l)) (λ x. 1) u
     one u = let c = in-cons u t l in caseB (eqb t u)
-        (λ e. let z = eqb-true t u e in let m : isIn u l ≡ false = rw z at n in let y = eq-eqb u t (sym z) in rw (e, c, m, y) (omega arith))
+        (λ e. let z = eqb-true t u e in let m : isAmong u l ≡ false = rw z at n in let y = eq-eqb u t (sym z) in rw (e, c, m, y) (omega arith))
         (λ e. let y = ne-eqb u t (λ z. eqb-false t u e (sym z)) in rw (e, c, y) (omega arith))
 
 abbrev either : List ℕ → List ℕ → ℕ → Bool
-either seen l u = isIn u seen || isIn u l
+either seen l u = isAmong u seen || isAmong u l
 
 hits-each : (own l seen : List ℕ) → eachOnce own seen l ≡ true → hits own seen + length l ≤ count (either seen l) own
-hits-each own [] seen e = omega (arith, sum-eq (only (λ (u : ℕ). isIn u seen) (λ x. 1)) (only (either seen []) (λ x. 1)) own (λ u. caseB (isIn u seen) (λ y. rw y) (λ y. rw y)))
+hits-each own [] seen e = omega (arith, sum-eq (only (λ (u : ℕ). isAmong u seen) (λ x. 1)) (only (either seen []) (λ x. 1)) own (λ u. caseB (isAmong u seen) (λ y. rw y) (λ y. rw y)))
 hits-each own (t ∷ ts) seen e =
-    let p = and3 (isIn t own) (not (isIn t seen)) (eachOnce own (t ∷ seen) ts) e in
+    let p = and3 (isAmong t own) (not (isAmong t seen)) (eachOnce own (t ∷ seen) ts) e in
     omega (
       arith,
-      hits-more own seen t (p .0) (not-true (isIn t seen) (p .1)),
+      hits-more own seen t (p .0) (not-true (isAmong t seen) (p .1)),
       hits-each own ts (t ∷ seen) (p .2),
       sum-eq (only (either (t ∷ seen) ts) (λ x. 1)) (only (either seen (t ∷ ts)) (λ x. 1)) own (λ u. ap (λ (b : Bool). cond {A = ℕ} b 1 0) (swap u)),
     )
@@ -147,13 +147,13 @@ hits-each own (t ∷ ts) seen e =
     flip false b c = refl
 
     swap : (u : ℕ) → either (t ∷ seen) ts u ≡ either seen (t ∷ ts) u
-    swap u = ap (λ (b : Bool). b || isIn u ts) (in-cons u t seen) ∙ flip (eqb u t) (isIn u seen) (isIn u ts) ∙ ap (λ (b : Bool). isIn u seen || b) (sym (in-cons u t ts))
+    swap u = ap (λ (b : Bool). b || isAmong u ts) (in-cons u t seen) ∙ flip (eqb u t) (isAmong u seen) (isAmong u ts) ∙ ap (λ (b : Bool). isAmong u seen || b) (sym (in-cons u t ts))
 
 full-in : (own l : List ℕ) → length own ≤ hits own l → allIn own l ≡ true
 full-in [] l = λ h. refl
-full-in (x ∷ own) l = caseB (isIn x l)
+full-in (x ∷ own) l = caseB (isAmong x l)
     (λ e. rw e λ h. full-in own l (omega arith))
-    (λ e. rw e λ h. absurd (omega (arith, count-most (λ (u : ℕ). isIn u l) own)))
+    (λ e. rw e λ h. absurd (omega (arith, count-most (λ (u : ℕ). isAmong u l) own)))
 
 full-each : (own l : List ℕ) → eachOnce own [] l ≡ true → length own ≤ length l → allIn own l ≡ true
 full-each own l e h = full-in own l (omega (arith, hits-each own l [] e))
@@ -209,7 +209,7 @@ abbrev pub Covering : List ℕ → List ℕ → ℕ → ℕ → Type 0
 Covering own l n k = (n ≡ length own) × (k ≤ n) × (allIn (drop k own) l ≡ allIn own l)
 
 module _ (own l : List ℕ) (n k : ℕ) (e : n ≡ length own) (h : allIn (drop k own) l ≡ allIn own l) where
-  module _ (lt : k < n) (x : Bool) (ex : x ≡ isIn (getD own k 0) l) where
+  module _ (lt : k < n) (x : Bool) (ex : x ≡ isAmong (getD own k 0) l) where
     cover-next : (x && allIn (drop (suc k) own) l) ≡ allIn own l
     cover-next = rw ex (rw (drop-cons own k 0 (omega arith)) at h)
 
@@ -222,14 +222,14 @@ module _ (own l : List ℕ) (n k : ℕ) (e : n ≡ length own) (h : allIn (drop 
   pub cover-end : n ≤ k → true ≡ allIn own l
   cover-end o = let q : length own ≤ k = omega arith in let z : drop k own ≡ [] = drop-of-length-le own q in rw z at h
 
-module _ (t : ℕ) (a b : List ℕ) (x : Bool) (ex : x ≡ isIn t a) where
-  pub came-first : x ≡ true → true ≡ isIn t (a ++ b)
+module _ (t : ℕ) (a b : List ℕ) (x : Bool) (ex : x ≡ isAmong t a) where
+  pub came-first : x ≡ true → true ≡ isAmong t (a ++ b)
   came-first e = sym (in-append t a b ∙ rw (← ex, e))
 
-  pub came-second : (y : Bool) → x ≡ false → y ≡ isIn t b → y ≡ isIn t (a ++ b)
+  pub came-second : (y : Bool) → x ≡ false → y ≡ isAmong t b → y ≡ isAmong t (a ++ b)
   came-second y e ey = sym (in-append t a b ∙ rw (← ex, e, ← ey))
 
-pub in-is : (t : ℕ) (l : List ℕ) (k : ℕ) → k ≡ slotOf l t → ltb k (length l) ≡ isIn t l
+pub in-is : (t : ℕ) (l : List ℕ) (k : ℕ) → k ≡ slotOf l t → ltb k (length l) ≡ isAmong t l
 in-is t l k e = rw e
 
 module _ (own tokens aborted : ℕ) where

@@ -4,7 +4,7 @@ ghost use Prim.Native.Nat.{_+_, _≤_};
 ghost use lib.Dec.{leb};
 ghost use mathlib.Core.List.{_++_};
 ghost use lib.ListN.{length};
-ghost use Rattle.scope.specs.Scope.{slotOf, isIn, allIn, inScope, markedTo, markOf};
+ghost use Rattle.scope.specs.Scope.{slotOf, isAmong, allIn, inScope, markedTo, markOf};
 
 // The place of the first that has the token; as many as there are where none has it.
 pub fn slot_of(own: &[u64], token: u64) -> usize
@@ -22,7 +22,7 @@ pub fn slot_of(own: &[u64], token: u64) -> usize
 }
 
 fn contains(list: &[u64], token: u64) -> bool
-    ensures { λ r. ⌜ r ≡ isIn token (now (list .entry)) ⌝ }
+    ensures { λ r. ⌜ r ≡ isAmong token (now (list .entry)) ⌝ }
 {
     slot_of(list, token) < list.len()
 }
@@ -49,7 +49,7 @@ fn mark_all(own: &[u64], list: &[u64], marks: &mut [bool]) -> bool
 }
 
 fn came_back(tokens: &[u64], aborted: &[u64], token: u64) -> bool
-    ensures { λ r. ⌜ r ≡ isIn token (now (tokens .entry) ++ now (aborted .entry)) ⌝ }
+    ensures { λ r. ⌜ r ≡ isAmong token (now (tokens .entry) ++ now (aborted .entry)) ⌝ }
 {
     let completed = contains(tokens, token);
     if completed {

@@ -17,7 +17,7 @@ use Rattle.models.specs.declared.Verdict.the-variants as verdict
 use Rattle.rows.specs.Store.{Store, emptied}
 use Rattle.bus.specs.Tables.{Bus, cleared}
 use Rattle.bus.specs.Ports.{VerdictTo, verdictTo}
-use Rattle.session.specs.Session.{isClosed, raised, withState, marked}
+use Rattle.session.specs.Session.{isClosed, raised, withController, marked}
 use Rattle.session.specs.Lifecycle.{callRefused, passed, newSession, openedTo, OpenedTo, openOf, acquiredBy, initializedBy, closedSession, calledTo, CalledTo, closedBy, freshBy, closeOf}
 use Rattle.session.specs.Place.{placed}
 use Rattle.session.specs.Start.{readyOf}
@@ -42,13 +42,13 @@ module _ (f fits : Bool) (ef : f ≡ fits) (o : Opening) (s : Store) (b : Bus) w
 
 -- the backend's reply to acquire, initialise and close
 module _ (s : Session) (x : Called) where
-  pub acquired-pass : (reply : AcquireReply) (next : Session) → reply ≡ acquire.Acquired → next ≡ withState s AcquiredUnknown (s .«recovery_revision»)
+  pub acquired-pass : (reply : AcquireReply) (next : Session) → reply ≡ acquire.Acquired → next ≡ withController s AcquiredUnknown (s .«recovery_revision»)
       → x ≡ passed next → x ≡ acquiredBy reply s
   unfolding acquiredBy
   acquired-pass reply next e en ex = ex ∙ rw (e, en)
 
   module _ (reply : AcquireReply) (e : OperationError) (retained : Bool) (r : Refusal) (er : reply ≡ acquire.Failed e retained) (ee : r ≡ fromBackend 45 e) where
-    pub acquired-kept : (v : OptionU64) (next : Session) → retained ≡ true → v ≡ raised (s .«recovery_revision») → next ≡ withState s RecoveryRequired v
+    pub acquired-kept : (v : OptionU64) (next : Session) → retained ≡ true → v ≡ raised (s .«recovery_revision») → next ≡ withController s RecoveryRequired v
         → x ≡ callRefused next r → x ≡ acquiredBy reply s
     unfolding acquiredBy
     acquired-kept v next t ev en ex = rw er (takes Called _ _ _ _ t (ex ∙ rw (en, ev, ee)))
@@ -58,7 +58,7 @@ module _ (s : Session) (x : Called) where
     acquired-left t ex = rw er (passes Called _ _ _ _ t (ex ∙ rw ee))
 
   module _ (reply : OptionError) where
-    pub initialized-pass : (next : Session) → reply ≡ error.None → next ≡ withState s Initialized (s .«recovery_revision») → x ≡ passed next
+    pub initialized-pass : (next : Session) → reply ≡ error.None → next ≡ withController s Initialized (s .«recovery_revision») → x ≡ passed next
         → x ≡ initializedBy reply s
     unfolding initializedBy
     initialized-pass next e en ex = ex ∙ rw (e, en)

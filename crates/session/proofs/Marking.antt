@@ -7,7 +7,7 @@ use Rattle.chain.proofs.Chain.{takes, passes, through}
 use Rattle.words.specs.declared.OptionU64.{OptionU64}
 use Rattle.words.specs.declared.OptionU64.the-variants as u64
 use Rattle.models.specs.declared.ControllerState.the-variants.{Closed, RecoveryRequired}
-use Rattle.session.specs.Session.{isClosed, raised, withState, marked}
+use Rattle.session.specs.Session.{isClosed, raised, withController, marked}
 use Rattle.session.specs.declared.Session.{Session}
 
 -- none stays none, and past the greatest number there is none
@@ -36,7 +36,7 @@ module _ (s : Session) (b : Bool) (e : b ≡ isClosed (s .state)) where
   unfolding marked
   mark-closed t = takes Session _ _ _ _ (through b _ true e t) refl
 
-  pub mark-open : (v : OptionU64) (next : Session) → b ≡ false → v ≡ raised (s .«recovery_revision») → next ≡ withState s RecoveryRequired v
+  pub mark-open : (v : OptionU64) (next : Session) → b ≡ false → v ≡ raised (s .«recovery_revision») → next ≡ withController s RecoveryRequired v
       → next ≡ marked s
   unfolding marked
   mark-open v next t ev en = passes Session _ _ _ _ (through b _ false e t) (en ∙ rw ev)

@@ -15,7 +15,7 @@ use Rattle.models.specs.declared.Refusal.{Refusal}
 use Rattle.models.specs.declared.Verdict.the-variants as verdict
 use Rattle.rows.specs.Store.{Store, emptied}
 use Rattle.bus.specs.Tables.{Bus, cleared}
-use Rattle.session.specs.Session.{isClosed, isAcquired, isBusy, raised, withState, marked}
+use Rattle.session.specs.Session.{isClosed, isAcquired, isBusy, raised, withController, marked}
 use Rattle.session.specs.Start.{guarded}
 use Rattle.session.specs.declared.Called.{Called}
 use Rattle.session.specs.declared.Session.{Session}
@@ -66,9 +66,9 @@ openOf fits o s b = openedTo (opened.Refused (refusalOf 3)) s b if not fits else
 
 -- a failed acquire stays Closed unless the reply says retained: then RecoveryRequired, revision raised
 unfoldable pub acquiredBy : AcquireReply → Session → Called
-acquiredBy acquire.Acquired s = passed (withState s AcquiredUnknown (s .«recovery_revision»))
+acquiredBy acquire.Acquired s = passed (withController s AcquiredUnknown (s .«recovery_revision»))
 acquiredBy (acquire.Failed e retained) s =
-    callRefused (withState s RecoveryRequired (raised (s .«recovery_revision»))) (fromBackend 45 e) if retained else
+    callRefused (withController s RecoveryRequired (raised (s .«recovery_revision»))) (fromBackend 45 e) if retained else
     callRefused s (fromBackend 45 e)
 
 unfoldable pub acquireOf : Session → AcquireReply → Called
@@ -79,7 +79,7 @@ acquireOf s reply =
 
 -- a failed initialise marks
 unfoldable pub initializedBy : OptionError → Session → Called
-initializedBy error.None s = passed (withState s Initialized (s .«recovery_revision»))
+initializedBy error.None s = passed (withController s Initialized (s .«recovery_revision»))
 initializedBy (error.Some e) s = callRefused (marked s) (fromBackend 45 e)
 
 unfoldable pub initializeOf : Session → OptionError → Called

@@ -53,8 +53,8 @@ unfoldable pub raised : OptionU64 → OptionU64
 raised u64.None = u64.None
 raised (u64.Some n) = u64.None if eqb n (2 ^ 64 - 1) else u64.Some (n + 1)
 
-abbrev pub withState : Session → ControllerState → OptionU64 → Session
-withState s state revision = record {
+abbrev pub withController : Session → ControllerState → OptionU64 → Session
+withController s state revision = record {
   number = s .number;
   generation = s .generation;
   «next_sequence» = s .«next_sequence»;
@@ -112,4 +112,4 @@ spent s next id = record {
 
 -- a recovery mark, unless Closed, sets RecoveryRequired and raises the revision
 unfoldable pub marked : Session → Session
-marked s = s if isClosed (s .state) else withState s RecoveryRequired (raised (s .«recovery_revision»))
+marked s = s if isClosed (s .state) else withController s RecoveryRequired (raised (s .«recovery_revision»))

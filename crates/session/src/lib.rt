@@ -6,7 +6,7 @@ use models::RequestId;
 use models::Verdict;
 use words::OptionU64;
 ghost use mathlib.Core.Path.{_≡_};
-ghost use Rattle.session.specs.Session.{isClosed, isAcquired, isInitialized, mayRecover, isBusy, raised, withState, withFlight, withStall, spent, marked};
+ghost use Rattle.session.specs.Session.{isClosed, isAcquired, isInitialized, mayRecover, isBusy, raised, withController, withFlight, withStall, spent, marked};
 
 pub mod lifecycle;
 pub mod place;
@@ -132,7 +132,7 @@ fn raise(revision: OptionU64) -> OptionU64
 }
 
 pub fn with_state(session: Session, state: ControllerState, recovery_revision: OptionU64) -> Session
-    ensures { λ r. ⌜ r ≡ withState session state «recovery_revision» ⌝ }
+    ensures { λ r. ⌜ r ≡ withController session state «recovery_revision» ⌝ }
 {
     Session {
         state,

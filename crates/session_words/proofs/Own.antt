@@ -13,7 +13,7 @@ use Rattle.chain.proofs.Chain.{caseB, both, if-all}
 use Rattle.words.specs.Words.{optionU64Words}
 use Rattle.words.proofs.Options.{low}
 use Rattle.models.specs.Codes.{controllerOf, controllerWord}
-use Rattle.session_words.specs.State.{sessionSize, portsWords, portsIn, revisionIn, stallWords, stallIn, kindOf, kindWord, flightWords, flightIn, portsTail, revisionTail, stallTail, flightTail, sessionOf, sessionWords, standsAt, portsStand, revisionStands, stallStands, flightStands, isSession, Kept, keptOf, keptAs}
+use Rattle.session_words.specs.State.{sessionSize, portsWords, portsIn, revisionIn, stallWords, stallIn, readKind, recoveryWord, flightWords, flightIn, portsTail, revisionTail, stallTail, flightTail, sessionOf, sessionWords, standsAt, portsStand, revisionStands, stallStands, flightStands, isSession, Kept, keptOf, keptAs}
 
 -- ---- words in a list
 and-true : (a : Bool) → (a && true) ≡ a
@@ -56,7 +56,7 @@ byte-same x =
     caseB (ltb x 256) (λ e. rw e (eq-eqb x (x % 256) (sym (low 8 (ltb-true x 256 e)))))
     (λ e. rw e (ne-eqb x (x % 256) (λ q. omega (arith, ltb-false x 256 e))))
 
-kind-same : (k : ℕ) → eqb k (kindWord (kindOf k)) ≡ ltb k 3
+kind-same : (k : ℕ) → eqb k (recoveryWord (readKind k)) ≡ ltb k 3
 kind-same zero = refl
 kind-same (suc zero) = refl
 kind-same (suc (suc zero)) = refl

@@ -25,28 +25,28 @@ use Rattle.session.specs.declared.OptionStall.the-variants as stall
 use Rattle.session.specs.declared.RecoverableStall.{RecoverableStall}
 use Rattle.session.specs.declared.RecoveryKind.{RecoveryKind}
 use Rattle.session.specs.declared.Session.{Session}
-use Rattle.session_words.specs.State.{portsOf, portsWords, deviceOf, requestOf, stallOf, stallWords, kindOf, flightOf, deviceAt, idAt, portsIn, stallIn, flightIn, recoveryFlight, flightWords, sessionOf, sessionWords, portsTail, revisionTail, stallTail, flightTail, Kept, keptOf, keptAs}
+use Rattle.session_words.specs.State.{readPorts, portsWords, deviceOf, requestOf, readStall, stallWords, readKind, readFlight, readDeviceId, readRequestId, portsIn, stallIn, flightIn, recoveryFlight, flightWords, sessionOf, sessionWords, portsTail, revisionTail, stallTail, flightTail, Kept, keptOf, keptAs}
 use Rattle.session_words.specs.declared.state.FlightWords.{FlightWords}
 use Rattle.session_words.specs.declared.state.PortsWords.{PortsWords}
 use Rattle.session_words.specs.declared.state.StallWords.{StallWords}
 
-pub ports-back : (p : Ports) → p .count < 2 ^ 8 → portsOf 1 (p .session) (p .count) ≡ ports.Some p
+pub ports-back : (p : Ports) → p .count < 2 ^ 8 → readPorts 1 (p .session) (p .count) ≡ ports.Some p
 ports-back p h = simp (low 8 h)
 
 pub stall-back : (x : RecoverableStall) → x .device .slot < 2 ^ 8 → x .endpoint < 2 ^ 8
-    → stallOf 1 (x .revision) (deviceOf (x .device .session) (x .device .generation) (x .device .slot)) (x .endpoint) ≡ stall.Some x
+    → readStall 1 (x .revision) (deviceOf (x .device .session) (x .device .generation) (x .device .slot)) (x .endpoint) ≡ stall.Some x
 stall-back x h k = simp (low 8 h, low 8 k)
 
 -- what is in flight, from its words
 abbrev flightBy : FlightWords → InFlight
 flightBy f =
-    flightOf (f .tag) (requestOf (f .session) (f .generation) (f .sequence)) (deviceOf (f .«device_session») (f .«device_generation») (f .slot)) (f .endpoint)
+    readFlight (f .tag) (requestOf (f .session) (f .generation) (f .sequence)) (deviceOf (f .«device_session») (f .«device_generation») (f .slot)) (f .endpoint)
     (f .kind)
 
 pub recovery-back : (id : RequestId) (d : DeviceId) (e : ℕ) (k : RecoveryKind) (f : FlightWords) → d .slot < 2 ^ 8 → e < 2 ^ 8
-    → f ≡ recoveryFlight id d e k → kindOf (f .kind) ≡ k → flightBy f ≡ flight.Recovery id d e k
+    → f ≡ recoveryFlight id d e k → readKind (f .kind) ≡ k → flightBy f ≡ flight.Recovery id d e k
 recovery-back id d e k f h g ef ek =
-    let z : kindOf (recoveryFlight id d e k .kind) ≡ k = ap (λ (x : FlightWords). kindOf (x .kind)) (sym ef) ∙ ek in
+    let z : readKind (recoveryFlight id d e k .kind) ≡ k = ap (λ (x : FlightWords). readKind (x .kind)) (sym ef) ∙ ek in
     rw ef (simp (low 8 h, low 8 g, z))
 
 -- a session's words, and the session that they say
@@ -56,9 +56,9 @@ module _ (s : Session) (p : PortsWords) (c : ℕ) (r : OptionWords) (x : StallWo
       s .number ∷ s .generation ∷ s .«next_sequence»
       ∷ portsTail p (c ∷ revisionTail r (stallTail x (flightTail f (s .«row_count» ∷ s .«row_bytes» ∷ []))))
 
-  pub session-back : portsOf (p .present) (p .session) (p .count) ≡ s .ports → controllerOf c ≡ s .state
+  pub session-back : readPorts (p .present) (p .session) (p .count) ≡ s .ports → controllerOf c ≡ s .state
       → optionU64Of (r .present) (r .value) ≡ s .«recovery_revision»
-      → stallOf (x .present) (x .revision) (deviceOf (x .session) (x .generation) (x .slot)) (x .endpoint) ≡ s .«recoverable_stall»
+      → readStall (x .present) (x .revision) (deviceOf (x .session) (x .generation) (x .slot)) (x .endpoint) ≡ s .«recoverable_stall»
       → flightBy f ≡ s .«in_flight» → sessionOf wordsBy ≡ s
   unfolding sessionOf
   session-back ep ec er ex ef = simp (ep, ec, er, ex, ef)
@@ -73,7 +73,7 @@ module _ (l : List ℕ) (tag : ℕ) (et : tag ≡ getD l 15 0) where
   pub flight-nothing : tag ≡ 0 → flight.Nothing ≡ flightIn l
   flight-nothing e = simp (sym et, eq-eqb tag 0 e)
 
-  module _ (some : tag ≡ 0 → ⊥) (id : RequestId) (ei : id ≡ idAt l 16) where
+  module _ (some : tag ≡ 0 → ⊥) (id : RequestId) (ei : id ≡ readRequestId l 16) where
     pub flight-submission : tag ≡ 1 → flight.Submission id ≡ flightIn l
     flight-submission e = simp (sym et, ne-eqb tag 0 some, eq-eqb tag 1 e, ei)
 
@@ -81,7 +81,7 @@ module _ (l : List ℕ) (tag : ℕ) (et : tag ≡ getD l 15 0) where
       pub flight-poll : tag ≡ 2 → flight.Poll id ≡ flightIn l
       flight-poll e = simp (sym et, ne-eqb tag 0 some, ne-eqb tag 1 other, eq-eqb tag 2 e, ei)
 
-      pub flight-recovery : (d : DeviceId) (e w : ℕ) (k : RecoveryKind) → (tag ≡ 2 → ⊥) → d ≡ deviceAt l 19 → e ≡ getD l 22 0 → k ≡ kindOf w
+      pub flight-recovery : (d : DeviceId) (e w : ℕ) (k : RecoveryKind) → (tag ≡ 2 → ⊥) → d ≡ readDeviceId l 19 → e ≡ getD l 22 0 → k ≡ readKind w
           → w ≡ getD l 23 0 → flight.Recovery id d (e % 2 ^ 8) k ≡ flightIn l
       flight-recovery d e w k h ed ee ek ew =
           simp (sym et, ne-eqb tag 0 some, ne-eqb tag 1 other, ne-eqb tag 2 h, ei, ed, ee, ek, ew)

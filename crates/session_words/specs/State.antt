@@ -28,8 +28,8 @@ use Rattle.session_words.specs.declared.state.StallWords.{StallWords}
 abbrev pub sessionSize : ℕ
 sessionSize = 26
 
-abbrev pub portsOf : ℕ → ℕ → ℕ → OptionPorts
-portsOf present session count = cond (eqb present 0) ports.None (ports.Some (record { session = session; count = count % 2 ^ 8 }))
+abbrev pub readPorts : ℕ → ℕ → ℕ → OptionPorts
+readPorts present session count = cond (eqb present 0) ports.None (ports.Some (record { session = session; count = count % 2 ^ 8 }))
 
 abbrev pub portsWords : OptionPorts → PortsWords
 portsWords ports.None = record { present = 0; session = 0; count = 0 }
@@ -42,14 +42,14 @@ abbrev pub requestOf : ℕ → ℕ → ℕ → RequestId
 requestOf session generation sequence = record { session = session; generation = generation; sequence = sequence }
 
 -- the device and the request from word `at` on
-abbrev pub deviceAt : List ℕ → ℕ → DeviceId
-deviceAt w at = deviceOf (getD w at 0) (getD w (at + 1) 0) (getD w (at + 2) 0)
+abbrev pub readDeviceId : List ℕ → ℕ → DeviceId
+readDeviceId w at = deviceOf (getD w at 0) (getD w (at + 1) 0) (getD w (at + 2) 0)
 
-abbrev pub idAt : List ℕ → ℕ → RequestId
-idAt w at = requestOf (getD w at 0) (getD w (at + 1) 0) (getD w (at + 2) 0)
+abbrev pub readRequestId : List ℕ → ℕ → RequestId
+readRequestId w at = requestOf (getD w at 0) (getD w (at + 1) 0) (getD w (at + 2) 0)
 
-abbrev pub stallOf : ℕ → ℕ → DeviceId → ℕ → OptionStall
-stallOf present revision device endpoint =
+abbrev pub readStall : ℕ → ℕ → DeviceId → ℕ → OptionStall
+readStall present revision device endpoint =
     cond (eqb present 0) stall.None (stall.Some (record { revision = revision; device = device; endpoint = endpoint % 2 ^ 8 }))
 
 abbrev pub stallWords : OptionStall → StallWords
@@ -64,20 +64,20 @@ stallWords (stall.Some x) = record {
 }
 
 -- 0 abort, 1 reset, any other a reset that preserves the data toggle
-abbrev pub kindOf : ℕ → RecoveryKind
-kindOf w = cond (eqb w 0) kind.Abort (kind.Reset (flagOf (w - 1)))
+abbrev pub readKind : ℕ → RecoveryKind
+readKind w = cond (eqb w 0) kind.Abort (kind.Reset (flagOf (w - 1)))
 
-abbrev pub kindWord : RecoveryKind → ℕ
-kindWord kind.Abort = 0
-kindWord (kind.Reset preserve) = 1 + flagWord preserve
+abbrev pub recoveryWord : RecoveryKind → ℕ
+recoveryWord kind.Abort = 0
+recoveryWord (kind.Reset preserve) = 1 + flagWord preserve
 
 -- tags: 0 nothing, 1 a submission, 2 a poll, any other a recovery
-abbrev pub flightOf : ℕ → RequestId → DeviceId → ℕ → ℕ → InFlight
-flightOf tag id device endpoint k =
+abbrev pub readFlight : ℕ → RequestId → DeviceId → ℕ → ℕ → InFlight
+readFlight tag id device endpoint k =
     cond (eqb tag 0) flight.Nothing
     (cond (eqb tag 1) (flight.Submission id)
     (cond (eqb tag 2) (flight.Poll id)
-    (flight.Recovery id device (endpoint % 2 ^ 8) (kindOf k))))
+    (flight.Recovery id device (endpoint % 2 ^ 8) (readKind k))))
 
 abbrev pub idFlight : ℕ → RequestId → FlightWords
 idFlight tag id = record {
@@ -102,7 +102,7 @@ recoveryFlight id device endpoint k = record {
   «device_generation» = device .generation;
   slot = device .slot;
   endpoint = endpoint;
-  kind = kindWord k;
+  kind = recoveryWord k;
 }
 
 abbrev pub flightWords : InFlight → FlightWords
@@ -113,16 +113,16 @@ flightWords (flight.Recovery id device endpoint k) = recoveryFlight id device en
 
 -- the ports, the revision, the stall and what is in flight of a session's words
 abbrev pub portsIn : List ℕ → OptionPorts
-portsIn w = portsOf (getD w 3 0) (getD w 4 0) (getD w 5 0)
+portsIn w = readPorts (getD w 3 0) (getD w 4 0) (getD w 5 0)
 
 abbrev pub revisionIn : List ℕ → OptionU64
 revisionIn w = optionU64Of (getD w 7 0) (getD w 8 0)
 
 abbrev pub stallIn : List ℕ → OptionStall
-stallIn w = stallOf (getD w 9 0) (getD w 10 0) (deviceAt w 11) (getD w 14 0)
+stallIn w = readStall (getD w 9 0) (getD w 10 0) (readDeviceId w 11) (getD w 14 0)
 
 abbrev pub flightIn : List ℕ → InFlight
-flightIn w = flightOf (getD w 15 0) (idAt w 16) (deviceAt w 19) (getD w 22 0) (getD w 23 0)
+flightIn w = readFlight (getD w 15 0) (readRequestId w 16) (readDeviceId w 19) (getD w 22 0) (getD w 23 0)
 
 unfoldable pub sessionOf : List ℕ → Session
 sessionOf w = record {

@@ -13,7 +13,7 @@ use words::slices;
 use words::slices::word_at;
 ghost use mathlib.Core.Path.{_≡_};
 ghost use mathlib.Core.List.{[], _∷_};
-ghost use Rattle.session_words.specs.State.{deviceAt, idAt, portsOf, portsIn, portsWords, deviceOf, requestOf, stallOf, stallIn, stallWords, kindOf, kindWord, flightOf, flightIn, idFlight, recoveryFlight, flightWords, sessionOf, sessionWords, standsAt, portsStand, revisionStands, stallStands, flightStands, isSession, keptOf, keptAs};
+ghost use Rattle.session_words.specs.State.{readDeviceId, readRequestId, readPorts, portsIn, portsWords, deviceOf, requestOf, readStall, stallIn, stallWords, readKind, recoveryWord, readFlight, flightIn, idFlight, recoveryFlight, flightWords, sessionOf, sessionWords, standsAt, portsStand, revisionStands, stallStands, flightStands, isSession, keptOf, keptAs};
 
 // How many words a session has.
 pub const WORDS: usize = 26;
@@ -47,7 +47,7 @@ pub struct FlightWords {
 }
 
 pub fn device_at(w: &[u64], at: u8) -> DeviceId
-    ensures { λ r. ⌜ r ≡ deviceAt (now (w .entry)) at ⌝ }
+    ensures { λ r. ⌜ r ≡ readDeviceId (now (w .entry)) at ⌝ }
 {
     let i = at as usize;
     DeviceId {
@@ -58,7 +58,7 @@ pub fn device_at(w: &[u64], at: u8) -> DeviceId
 }
 
 pub fn id_at(w: &[u64], at: u8) -> RequestId
-    ensures { λ r. ⌜ r ≡ idAt (now (w .entry)) at ⌝ }
+    ensures { λ r. ⌜ r ≡ readRequestId (now (w .entry)) at ⌝ }
 {
     let i = at as usize;
     RequestId {
@@ -82,7 +82,7 @@ fn to_ports(w: &[u64]) -> OptionPorts
 }
 
 fn ports_words(ports: OptionPorts) -> PortsWords
-    ensures { λ r. ⌜ (portsOf (r .present) (r .session) (r .count) ≡ ports) × (r ≡ portsWords ports) ⌝ }
+    ensures { λ r. ⌜ (readPorts (r .present) (r .session) (r .count) ≡ ports) × (r ≡ portsWords ports) ⌝ }
 {
     match ports {
         OptionPorts::None => PortsWords {
@@ -113,7 +113,7 @@ fn to_stall(w: &[u64]) -> OptionStall
 }
 
 fn stall_words(stall: OptionStall) -> StallWords
-    ensures { λ r. ⌜ (stallOf (r .present) (r .revision) (deviceOf (r .session) (r .generation) (r .slot)) (r .endpoint) ≡ stall) × (r ≡ stallWords stall) ⌝ }
+    ensures { λ r. ⌜ (readStall (r .present) (r .revision) (deviceOf (r .session) (r .generation) (r .slot)) (r .endpoint) ≡ stall) × (r ≡ stallWords stall) ⌝ }
 {
     match stall {
         OptionStall::None => StallWords {
@@ -136,7 +136,7 @@ fn stall_words(stall: OptionStall) -> StallWords
 }
 
 fn to_kind(w: u64) -> RecoveryKind
-    ensures { λ r. ⌜ r ≡ kindOf w ⌝ }
+    ensures { λ r. ⌜ r ≡ readKind w ⌝ }
 {
     if w == 0 {
         return RecoveryKind::Abort;
@@ -145,7 +145,7 @@ fn to_kind(w: u64) -> RecoveryKind
 }
 
 pub fn kind_word(kind: RecoveryKind) -> u64
-    ensures { λ r. ⌜ (kindOf r ≡ kind) × (r ≡ kindWord kind) ⌝ }
+    ensures { λ r. ⌜ (readKind r ≡ kind) × (r ≡ recoveryWord kind) ⌝ }
 {
     match kind {
         RecoveryKind::Abort => 0,
@@ -194,7 +194,7 @@ fn id_flight(tag: u64, id: RequestId) -> FlightWords
 }
 
 fn recovery_flight(id: RequestId, device: DeviceId, endpoint: u8, kind: RecoveryKind) -> FlightWords
-    ensures { λ r. ⌜ (kindOf (r .kind) ≡ kind) × (r ≡ recoveryFlight id device endpoint kind) ⌝ }
+    ensures { λ r. ⌜ (readKind (r .kind) ≡ kind) × (r ≡ recoveryFlight id device endpoint kind) ⌝ }
 {
     FlightWords {
         tag: 3,
@@ -210,7 +210,7 @@ fn recovery_flight(id: RequestId, device: DeviceId, endpoint: u8, kind: Recovery
 }
 
 fn flight_words(flight: InFlight) -> FlightWords
-    ensures { λ r. ⌜ (flightOf (r .tag) (requestOf (r .session) (r .generation) (r .sequence)) (deviceOf (r .«device_session») (r .«device_generation») (r .slot)) (r .endpoint) (r .kind) ≡ flight) × (r ≡ flightWords flight) ⌝ }
+    ensures { λ r. ⌜ (readFlight (r .tag) (requestOf (r .session) (r .generation) (r .sequence)) (deviceOf (r .«device_session») (r .«device_generation») (r .slot)) (r .endpoint) (r .kind) ≡ flight) × (r ≡ flightWords flight) ⌝ }
 {
     match flight {
         InFlight::Nothing => id_flight(

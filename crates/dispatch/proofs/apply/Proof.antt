@@ -1,12 +1,12 @@
 use Rattle.chain.proofs.Chain.{chain}
-use Rattle.dispatch.specs.Apply.{applyOf}
+use Rattle.dispatch.specs.Apply.{dispatchOf}
 use Rattle.dispatch.proofs.Applying.{apply-done}
 use borrow.Author.Needs.{needs}
 use Rattle.dispatch.proofs.apply.Statement.{statement}
 use Rattle.dispatch.proofs.apply.Tie as tie
 
 pub apply-spec : {M : Type 1} → statement M
-unfolding applyOf
+unfolding dispatchOf
 apply-spec =
     tie.close
     (tie.spec
