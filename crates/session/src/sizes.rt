@@ -34,5 +34,5 @@ pub fn area_fits(row_count: u64, row_bytes: u64, bytes: usize) -> bool
 pub fn bus_fits(words: usize) -> bool
     ensures { λ r. ⌜ r ≡ busFits words ⌝ }
 {
-    words == 10750
+    words == bus::WORDS
 }

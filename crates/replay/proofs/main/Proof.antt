@@ -13,7 +13,7 @@ main-spec =
     (λ c. sym (length-replicate {0} {A = ℕ} 2097153 0))
     (λ c. sym (length-replicate {0} {A = ℕ} 26 0))
     (λ c. sym (length-replicate {0} {A = ℕ} 10750 0))
-    (λ c. sym (length-replicate {0} {A = ℕ} 4320 0))
+    (λ c. sym (length-replicate {0} {A = ℕ} 4160 0))
     (λ c. sym (length-replicate {0} {A = ℕ} 655360 0))
     (λ c κs. search needs)
     (λ c. search needs))
