@@ -22,11 +22,12 @@ use Rattle.submissions.specs.declared.Submission.{Submission}
 use Rattle.models.specs.declared.OperationError.{OperationError}
 use Rattle.models.specs.declared.OptionError.{OptionError}
 use Rattle.models.specs.declared.OptionError.the-variants as error
+use Rattle.scope.specs.Returned.{optionErrorWords}
 use Rattle.recovery.specs.declared.AbortReport.{AbortReport}
 use Rattle.recovery.specs.declared.Recovery.{Recovery}
 use Rattle.session_words.specs.State.{recoveryWord}
 use Rattle.calls.specs.declared.Answer.{Answer}
-use Rattle.answer_words.specs.Encode.{refusalWords, idTail, metadataTail, begunWords, stageTail, planWords, stateTail, reportWords, recoveringWords, optionErrorWords, recoveredWords, answerWords, written}
+use Rattle.answer_words.specs.Encode.{refusalWords, idTail, metadataTail, begunWords, stageTail, planWords, stateTail, reportWords, recoveringWords, recoveredWords, answerWords, written}
 
 pub refusal-exact : (r : Refusal) (c o k : ℕ) → c ≡ categoryWord (r .error .category) → o ≡ optionI32Word (r .error .«os_code»)
     → k ≡ optionU32Word (r .error .«completion_code») → 0 ∷ r .number ∷ c ∷ r .error .message ∷ o ∷ k ∷ [] ≡ refusalWords r
@@ -75,12 +76,10 @@ unfolding recoveringWords
 recovering-exact x k e = rw e
 
 pub no-error-exact : (o : OptionError) → o ≡ error.None → 0 ∷ 0 ∷ 0 ∷ 0 ∷ 0 ∷ [] ≡ optionErrorWords o
-unfolding optionErrorWords
 no-error-exact o e = rw e
 
 pub some-error-exact : (o : OptionError) (x : OperationError) (c n k : ℕ) → o ≡ error.Some x → c ≡ categoryWord (x .category)
     → n ≡ optionI32Word (x .«os_code») → k ≡ optionU32Word (x .«completion_code») → 1 ∷ c ∷ x .message ∷ n ∷ k ∷ [] ≡ optionErrorWords o
-unfolding optionErrorWords
 some-error-exact o x c n k e ec en ek = rw (e, ec, en, ek)
 
 -- the first five of a list, one by one
@@ -88,7 +87,6 @@ abbrev fiveBy : List ℕ → List ℕ
 fiveBy l = getD l 0 0 ∷ getD l 1 0 ∷ getD l 2 0 ∷ getD l 3 0 ∷ getD l 4 0 ∷ []
 
 five-exact : (o : OptionError) → fiveBy (optionErrorWords o) ≡ optionErrorWords o
-unfolding optionErrorWords
 five-exact error.None = refl
 five-exact (error.Some x) = refl
 

@@ -1,10 +1,9 @@
 -- An answer's words tell it whole, and so do the 32 words of `out`. Assumes nothing.
-use Prim.Native.Nat.{ℕ, _+_, _-_, _<_, _≤_, _^_}
+use Prim.Native.Nat.{ℕ, _+_, _-_, _<_, _≤_}
 use mathlib.Core.Bool.{Bool, true, false}
 use mathlib.Core.List.{List, [], _++_}
 use mathlib.Core.Path.{_≡_, refl, sym, ap, _∙_}
 use mathlib.Core.Logic.{⊎-elim}
-use lib.IntN.{ℤ, pos, negsuc}
 use lib.ListN.{length, getD, take, drop, replicate, length-replicate, getD-replicate, List·getD-append, List·getD-eq-default}
 use lib.Seq.{getD-take, getD-drop, getD-append-add}
 use native.Mathlib.Omega.{arith}
@@ -12,22 +11,15 @@ use borrow.Author.Tests.{le-ltb}
 use Rattle.chain.specs.Chain.{_if_else_}
 use Rattle.chain.proofs.Chain.{passes}
 use Rattle.words.specs.Records.{tab, splice}
-use Rattle.words.specs.Words.{flagWord, flagOf, optionU32Word, optionU32Of, optionI32Word, optionI32Of, signedWord, signedOf}
-use Rattle.words.specs.declared.OptionI32.{OptionI32}
-use Rattle.words.specs.declared.OptionI32.the-variants as i32
+use Rattle.words.specs.Words.{flagWord, flagOf, optionU32Word, optionU32Of}
 use Rattle.words.specs.declared.OptionU32.{OptionU32}
 use Rattle.words.specs.declared.OptionU32.the-variants as u32
 use Rattle.words.proofs.Options.{low, flag-back, option-u32-back}
 use Rattle.words.proofs.Records.{tab-same, le-or-lt}
-use Rattle.words.proofs.Signed as signed
-use Rattle.models.specs.Codes.{categoryOf, categoryWord, transferOf, transferWord, directionOf, directionWord}
+use Rattle.words.proofs.Signed.{option-i32-says}
 use Rattle.models.specs.declared.ControlProfile.{ControlProfile}
-use Rattle.models.specs.declared.ControlProfile.the-variants as profile
 use Rattle.models.specs.declared.DeviceId.{DeviceId}
 use Rattle.models.specs.declared.Direction.{Direction}
-use Rattle.models.specs.declared.Direction.the-variants as direction
-use Rattle.models.specs.declared.ErrorCategory.{ErrorCategory}
-use Rattle.models.specs.declared.ErrorCategory.the-variants as category
 use Rattle.models.specs.declared.OperationError.{OperationError}
 use Rattle.models.specs.declared.OptionError.{OptionError}
 use Rattle.models.specs.declared.OptionError.the-variants as error
@@ -38,12 +30,12 @@ use Rattle.models.specs.declared.RequestReport.{RequestReport}
 use Rattle.models.specs.declared.RequestState.{RequestState}
 use Rattle.models.specs.declared.RequestState.the-variants as state
 use Rattle.models.specs.declared.Refusal.{Refusal}
-use Rattle.models.specs.declared.TransferType.{TransferType}
-use Rattle.models.specs.declared.TransferType.the-variants as transfer
+use Rattle.models.proofs.Enums.{category-back, transfer-back, direction-back, profile-back}
 use Rattle.standards.specs.Setup.{setupBytes}
-use Rattle.rows.specs.Codec.{setupOf, setupWords, readMetadata, errorOf, stateOf, stateWords}
+use Rattle.rows.specs.Codec.{setupOf, setupWords, readMetadata, stateOf, stateWords}
 use Rattle.rows.specs.declared.codec.SetupWords.{SetupWords}
 use Rattle.rows.specs.declared.codec.StateWords.{StateWords}
+use Rattle.scope.specs.Returned.{readError, errorWords, readOptionError, optionErrorWords}
 use Rattle.session.specs.declared.RecoveryKind.{RecoveryKind}
 use Rattle.session.specs.declared.RecoveryKind.the-variants as kind
 use Rattle.session_words.specs.State.{deviceOf, readKind, recoveryWord}
@@ -53,33 +45,10 @@ use Rattle.recovery.specs.declared.AbortReport.{AbortReport}
 use Rattle.recovery.specs.declared.Recovery.{Recovery}
 use Rattle.calls.specs.declared.Answer.{Answer}
 use Rattle.calls.specs.declared.Answer.the-variants as answer
-use Rattle.answer_words.specs.Encode.{answerSize, refusalWords, metadataTail, begunWords, profileWord, planWords, reportWords, recoveringWords, optionErrorWords, recoveredWords, answerWords, written}
-use Rattle.answer_words.specs.Read.{profileOf, optionErrorOf, readAnswer, IsI32, I32Fits, U32Fits, ErrorFits, OptionErrorFits, DeviceFits, SetupFits, MetadataFits, StateFits, AnswerFits}
+use Rattle.answer_words.specs.Encode.{answerSize, refusalWords, metadataTail, begunWords, planWords, reportWords, recoveringWords, recoveredWords, answerWords, written}
+use Rattle.answer_words.specs.Read.{readAnswer, U32Fits, ErrorFits, OptionErrorFits, DeviceFits, SetupFits, MetadataFits, StateFits, AnswerFits}
 
 -- ---- what a value's word says is the value
-category-back : (c : ErrorCategory) → categoryOf (categoryWord c) ≡ c
-category-back category.Validation = refl
-category-back category.Unsupported = refl
-category-back category.OperatingSystem = refl
-category-back category.Controller = refl
-category-back category.Timeout = refl
-category-back category.Disconnect = refl
-category-back category.RecoveryRequired = refl
-
-transfer-back : (t : TransferType) → transferOf (transferWord t) ≡ t
-transfer-back transfer.Control = refl
-transfer-back transfer.Bulk = refl
-transfer-back transfer.Interrupt = refl
-transfer-back transfer.Isochronous = refl
-
-direction-back : (d : Direction) → directionOf (directionWord d) ≡ d
-direction-back direction.In = refl
-direction-back direction.Out = refl
-
-profile-back : (p : ControlProfile) → profileOf (profileWord p) ≡ p
-profile-back profile.Compliant = refl
-profile-back profile.DeviceCompatibility = refl
-
 kind-back : (k : RecoveryKind) → readKind (recoveryWord k) ≡ k
 kind-back kind.Abort = refl
 kind-back (kind.Reset true) = refl
@@ -89,22 +58,11 @@ u32-back : (o : OptionU32) → U32Fits o → optionU32Of (optionU32Word o) ≡ o
 u32-back u32.None h = refl
 u32-back (u32.Some v) h = option-u32-back v h
 
-signed-back : (v : ℤ) → IsI32 v → (signedOf (signedWord v) ≡ v) × (signedWord v < 2 ^ 32)
-unfolding signedWord
-signed-back (pos n) h = (signed.low n h, omega arith)
-signed-back (negsuc n) h = (signed.high n h, omega arith)
-
-i32-back : (o : OptionI32) → I32Fits o → optionI32Of (optionI32Word o) ≡ o
-i32-back i32.None h = sym (signed.option-none 0 refl)
-i32-back (i32.Some v) h = let b = signed-back v h in signed.option-back (signedWord v) v (b .1) (b .0)
-
-error-back : (e : OperationError) → ErrorFits e
-    → errorOf (categoryWord (e .category)) (e .message) (optionI32Word (e .«os_code»)) (optionU32Word (e .«completion_code»)) ≡ e
+error-back : (e : OperationError) → ErrorFits e → readError (errorWords e) 0 ≡ e
 error-back e (m, o, c) =
-    rw (category-back (e .category), low 16 m, i32-back (e .«os_code») o, u32-back (e .«completion_code») c)
+    rw (category-back (e .category), low 16 m, option-i32-says (e .«os_code») o, u32-back (e .«completion_code») c)
 
-option-error-back : (o : OptionError) → OptionErrorFits o → optionErrorOf (optionErrorWords o) ≡ o
-unfolding optionErrorOf optionErrorWords
+option-error-back : (o : OptionError) → OptionErrorFits o → readOptionError (optionErrorWords o) 0 ≡ o
 option-error-back error.None h = refl
 option-error-back (error.Some e) h = ap error.Some (error-back e h)
 
@@ -174,7 +132,7 @@ recovering-back x h =
     λ i. answer.Recovering (record { target = x .target; device = e1 i; endpoint = x .endpoint; kind = e2 i })
 
 recovered-back : (x : AbortReport) → DeviceFits (x .device) → OptionErrorFits (x .error) → readAnswer (recoveredWords x) ≡ answer.Recovered x
-unfolding readAnswer recoveredWords optionErrorOf _if_else_
+unfolding readAnswer recoveredWords _if_else_
 recovered-back x h k =
     let e1 = device-back (x .device) h in
     let e2 = flag-back (x .«restart_ready») in
@@ -209,7 +167,6 @@ answer-told a b h k e = sym (answer-back a h) ∙ ap readAnswer e ∙ answer-bac
 
 -- ---- in `out`
 option-error-many : (o : OptionError) → length (optionErrorWords o) ≡ 5
-unfolding optionErrorWords
 option-error-many error.None = refl
 option-error-many (error.Some e) = refl
 

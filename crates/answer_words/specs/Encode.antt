@@ -4,11 +4,9 @@ use mathlib.Core.List.{List, [], _∷_}
 use lib.ListN.{length, replicate}
 use lib.Dec.{ltb}
 use Rattle.chain.specs.Chain.{_if_else_}
-use Rattle.words.specs.Words.{flagWord, optionU32Word, optionI32Word}
+use Rattle.words.specs.Words.{flagWord}
 use Rattle.words.specs.Records.{splice}
-use Rattle.models.specs.Codes.{categoryWord, transferWord, directionWord}
-use Rattle.models.specs.declared.ControlProfile.{ControlProfile}
-use Rattle.models.specs.declared.ControlProfile.the-variants as profile
+use Rattle.models.specs.Codes.{transferWord, directionWord, profileWord}
 use Rattle.models.specs.declared.Refusal.{Refusal}
 use Rattle.models.specs.declared.RequestId.{RequestId}
 use Rattle.models.specs.declared.RequestMetadata.{RequestMetadata}
@@ -19,8 +17,7 @@ use Rattle.rows.specs.Codec.{setupTail, setupWords, stateWords}
 use Rattle.rows.specs.declared.codec.StateWords.{StateWords}
 use Rattle.submissions.specs.declared.PlanSubmission.{PlanSubmission}
 use Rattle.submissions.specs.declared.Submission.{Submission}
-use Rattle.models.specs.declared.OptionError.{OptionError}
-use Rattle.models.specs.declared.OptionError.the-variants as error
+use Rattle.scope.specs.Returned.{errorWords, optionErrorWords}
 use Rattle.recovery.specs.declared.AbortReport.{AbortReport}
 use Rattle.recovery.specs.declared.Recovery.{Recovery}
 use Rattle.session_words.specs.State.{recoveryWord}
@@ -32,8 +29,7 @@ abbrev pub answerSize : ℕ
 answerSize = 32
 
 unfoldable pub refusalWords : Refusal → List ℕ
-refusalWords r =
-    0 ∷ r .number ∷ categoryWord (r .error .category) ∷ r .error .message ∷ optionI32Word (r .error .«os_code») ∷ optionU32Word (r .error .«completion_code») ∷ []
+refusalWords r = 0 ∷ r .number ∷ errorWords (r .error)
 
 -- three words: session, generation, sequence
 abbrev pub idTail : RequestId → List ℕ → List ℕ
@@ -48,10 +44,6 @@ metadataTail m rest =
 
 unfoldable pub begunWords : Submission → List ℕ
 begunWords x = 2 ∷ idTail (x .id) (x .row ∷ metadataTail (x .metadata) (flagWord (x .«has_packets») ∷ []))
-
-abbrev pub profileWord : ControlProfile → ℕ
-profileWord profile.Compliant = 0
-profileWord profile.DeviceCompatibility = 1
 
 -- has data, its direction, the status stage's, profile
 abbrev pub stageTail : ValidatedControlPlan → List ℕ → List ℕ
@@ -73,11 +65,6 @@ reportWords x =
 -- target, device, endpoint, and what the backend is to do
 unfoldable pub recoveringWords : Recovery → List ℕ
 recoveringWords x = 9 ∷ idTail (x .target) (x .device .session ∷ x .device .generation ∷ x .device .slot ∷ x .endpoint ∷ recoveryWord (x .kind) ∷ [])
-
--- a flag, then category, message, system number and code
-unfoldable pub optionErrorWords : OptionError → List ℕ
-optionErrorWords error.None = 0 ∷ 0 ∷ 0 ∷ 0 ∷ 0 ∷ []
-optionErrorWords (error.Some e) = 1 ∷ categoryWord (e .category) ∷ e .message ∷ optionI32Word (e .«os_code») ∷ optionU32Word (e .«completion_code») ∷ []
 
 unfoldable pub recoveredWords : AbortReport → List ℕ
 recoveredWords x =

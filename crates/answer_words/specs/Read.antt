@@ -1,20 +1,16 @@
 -- What an answer's words say, and the answers that they tell whole: those with every number in the range of its type. Assumes nothing.
 use Prim.Native.Nat.{ℕ, _+_, _<_, _^_}
-use mathlib.Core.Bool.{cond}
+use mathlib.Core.Bool.{true}
 use mathlib.Core.List.{List}
+use mathlib.Core.Path.{_≡_}
 use lib.Dec.{eqb}
-use lib.IntN.{ℤ, pos, negsuc}
 use lib.ListN.{getD}
 use Rattle.chain.specs.Chain.{_if_else_}
 use Rattle.words.specs.Records.{tab}
-use Rattle.words.specs.Words.{flagOf}
-use Rattle.words.specs.declared.OptionI32.{OptionI32}
-use Rattle.words.specs.declared.OptionI32.the-variants as i32
+use Rattle.words.specs.Words.{flagOf, isSigned}
 use Rattle.words.specs.declared.OptionU32.{OptionU32}
 use Rattle.words.specs.declared.OptionU32.the-variants as u32
-use Rattle.models.specs.Codes.{directionOf}
-use Rattle.models.specs.declared.ControlProfile.{ControlProfile}
-use Rattle.models.specs.declared.ControlProfile.the-variants as profile
+use Rattle.models.specs.Codes.{directionOf, profileOf}
 use Rattle.models.specs.declared.DeviceId.{DeviceId}
 use Rattle.models.specs.declared.OperationError.{OperationError}
 use Rattle.models.specs.declared.OptionError.{OptionError}
@@ -24,7 +20,8 @@ use Rattle.models.specs.declared.OptionSetup.the-variants as setup
 use Rattle.models.specs.declared.RequestMetadata.{RequestMetadata}
 use Rattle.models.specs.declared.RequestState.{RequestState}
 use Rattle.models.specs.declared.RequestState.the-variants as state
-use Rattle.rows.specs.Codec.{readMetadata, errorOf, stateOf}
+use Rattle.rows.specs.Codec.{readMetadata, stateOf}
+use Rattle.scope.specs.Returned.{readError, readOptionError}
 use Rattle.session_words.specs.State.{readRequestId, readDeviceId, readKind}
 use Rattle.calls.specs.declared.Answer.{Answer}
 use Rattle.calls.specs.declared.Answer.the-variants as answer
@@ -33,17 +30,10 @@ use Rattle.calls.specs.declared.Answer.the-variants as answer
 abbrev pub wordsFrom : List ℕ → ℕ → ℕ → List ℕ
 wordsFrom w at n = tab (λ (k : ℕ). getD w (at + k) 0) n
 
-abbrev pub profileOf : ℕ → ControlProfile
-profileOf w = cond (eqb w 0) profile.Compliant profile.DeviceCompatibility
-
--- a flag, then the error
-unfoldable pub optionErrorOf : List ℕ → OptionError
-optionErrorOf w = cond (eqb (getD w 0 0) 0) error.None (error.Some (errorOf (getD w 1 0) (getD w 2 0) (getD w 3 0) (getD w 4 0)))
-
 -- by the tag in word 0
 unfoldable pub readAnswer : List ℕ → Answer
 readAnswer w =
-    answer.Refused (record { number = getD w 1 0; error = errorOf (getD w 2 0) (getD w 3 0) (getD w 4 0) (getD w 5 0) }) if eqb (getD w 0 0) 0 else
+    answer.Refused (record { number = getD w 1 0; error = readError w 2 }) if eqb (getD w 0 0) 0 else
     answer.Pass if eqb (getD w 0 0) 1 else
     answer.Begun (record { id = readRequestId w 1; row = getD w 4 0; metadata = readMetadata (wordsFrom w 5 13); «has_packets» = flagOf (getD w 18 0) })
     if eqb (getD w 0 0) 2 else
@@ -77,24 +67,16 @@ readAnswer w =
       completed = getD w 8 0;
       aborted = getD w 9 0;
       «restart_ready» = flagOf (getD w 10 0);
-      error = optionErrorOf (wordsFrom w 11 5);
+      error = readOptionError w 11;
     })
 
 -- ---- in the range of its type
-abbrev pub IsI32 : ℤ → Type 0
-IsI32 (pos n) = n < 2 ^ 31
-IsI32 (negsuc n) = n < 2 ^ 31
-
-abbrev pub I32Fits : OptionI32 → Type 0
-I32Fits i32.None = Unit {0}
-I32Fits (i32.Some v) = IsI32 v
-
 abbrev pub U32Fits : OptionU32 → Type 0
 U32Fits u32.None = Unit {0}
 U32Fits (u32.Some v) = v < 2 ^ 32
 
 abbrev pub ErrorFits : OperationError → Type 0
-ErrorFits e = (e .message < 2 ^ 16) × I32Fits (e .«os_code») × U32Fits (e .«completion_code»)
+ErrorFits e = (e .message < 2 ^ 16) × (isSigned (e .«os_code») ≡ true) × U32Fits (e .«completion_code»)
 
 abbrev pub OptionErrorFits : OptionError → Type 0
 OptionErrorFits error.None = Unit {0}

@@ -1,7 +1,6 @@
 // Answers as words: a tag, then the answer's fields, then zeros.
 use calls::Answer;
 use checks::plan::ValidatedControlPlan;
-use models::ControlProfile;
 use models::OptionError;
 use models::Refusal;
 use models::RequestMetadata;
@@ -19,7 +18,8 @@ use words::slices;
 ghost use mathlib.Core.Path.{_≡_};
 ghost use mathlib.Core.List.{[]};
 ghost use Rattle.standards.specs.Setup.{setupBytes};
-ghost use Rattle.answer_words.specs.Encode.{refusalWords, metadataTail, begunWords, profileWord, stageTail, planWords, reportWords, recoveringWords, optionErrorWords, recoveredWords, answerWords, written};
+ghost use Rattle.scope.specs.Returned.{optionErrorWords};
+ghost use Rattle.answer_words.specs.Encode.{refusalWords, metadataTail, begunWords, stageTail, planWords, reportWords, recoveringWords, recoveredWords, answerWords, written};
 
 // How many words an answer has.
 pub const WORDS: usize = 32;
@@ -80,15 +80,6 @@ fn begun_words(x: Submission) -> [u64; 19]
     w
 }
 
-fn profile_word(profile: ControlProfile) -> u64
-    ensures { λ r. ⌜ r ≡ profileWord profile ⌝ }
-{
-    match profile {
-        ControlProfile::Compliant => 0,
-        ControlProfile::DeviceCompatibility => 1,
-    }
-}
-
 // The SETUP bytes, a word each.
 fn byte_words(packet: SetupPacket) -> [u64; 8]
     ensures { λ w. ⌜ w ≡ setupBytes packet ⌝ }
@@ -117,7 +108,7 @@ fn stage_words(plan: ValidatedControlPlan) -> [u64; 4]
         words::flag_word(plan.has_data),
         codes::direction_word(data_direction),
         codes::direction_word(status_direction),
-        profile_word(profile),
+        codes::profile_word(profile),
     ]
 }
 

@@ -5,22 +5,23 @@ use mathlib.Core.Path.{_≡_, refl, sym, ap, _∙_}
 use mathlib.Core.Bool.{Bool, true, _&&_}
 use mathlib.Core.List.{List, _++_}
 use native.Mathlib.Omega.{arith}
-use lib.Dec.{eqb, leb, ltb}
+use lib.Dec.{eqb, leb}
 use lib.ListN.{length, getD, take, drop, take-append-drop}
 use lib.Seq.{getD-take, length-take-le}
-use borrow.Author.Tests.{eqb-true, eqb-false, leb-true, ltb-false}
+use borrow.Author.Tests.{eqb-true, eqb-false, leb-true}
 use Rattle.chain.proofs.Chain.{caseB, both}
 use Rattle.words.specs.Records.{tab}
-use Rattle.words.specs.Words.{flagOf, flagWord, optionU64Words, optionU32Of, optionU32Word, optionU64Of, signedOf, signedWord, optionI32Of, optionI32Word}
+use Rattle.words.specs.Words.{flagOf, flagWord, optionU64Words, optionU32Of, optionU32Word, optionU64Of}
 use Rattle.words.specs.declared.OptionWords.{OptionWords}
 use Rattle.words.proofs.Options.{low}
+use Rattle.words.proofs.Signed.{option-i32-word}
 use Rattle.words.proofs.Records.{getD-tab, tab-all, tab-same, tab-list}
-use Rattle.models.specs.Codes.{categoryOf, categoryWord, transferOf, transferWord, directionOf, directionWord, deviceStateOf, deviceStateWord}
+use Rattle.models.specs.Codes.{categoryOf, categoryWord, transferOf, transferWord, directionOf, directionWord, profileOf, profileWord, deviceStateOf, deviceStateWord}
 use Rattle.rows.specs.Codec.{setupWords}
 use Rattle.rows.specs.declared.codec.SetupWords.{SetupWords}
-use Rattle.scope.specs.Returned.{readError, readOptionError, readCompletion}
+use Rattle.scope.specs.Returned.{readError, errorWords, readOptionError, optionErrorWords, readCompletion}
 use Rattle.call_words.proofs.Told.{and4, and5}
-use Rattle.call_words.specs.Parts.{areZero, byFlag, zeros, isOptionNumber, isError, errorWords, isOptionError, errorOptionWords, isSetup, isOptionSetup, readOptionSetup, isReading, readReading, readingWords, isCompletion, backendCompletionWords, readProfile, controlProfileWord, isStage, readStage, stageWords, readStatus, statusWord}
+use Rattle.call_words.specs.Parts.{areZero, byFlag, zeros, isOptionNumber, isError, isOptionError, isSetup, isOptionSetup, readOptionSetup, isReading, readReading, readingWords, isCompletion, backendCompletionWords, isStage, readStage, stageWords, readStatus, statusWord}
 
 -- ---- one word
 
@@ -47,8 +48,8 @@ module _ (x : ℕ) where
   pub device-state-word : leb x 6 ≡ true → deviceStateWord (deviceStateOf x) ≡ x
   device-state-word t = coded deviceStateWord deviceStateOf 7 refl x t (omega arith)
 
-  pub profile-word : leb x 1 ≡ true → controlProfileWord (readProfile x) ≡ x
-  profile-word t = coded controlProfileWord readProfile 2 refl x t (omega arith)
+  pub profile-word : leb x 1 ≡ true → profileWord (profileOf x) ≡ x
+  profile-word t = coded profileWord profileOf 2 refl x t (omega arith)
 
   pub status-word : leb x 2 ≡ true → statusWord (readStatus x) ≡ x
   status-word t = coded statusWord readStatus 3 refl x t (omega arith)
@@ -67,17 +68,6 @@ module _ (x : ℕ) where
       let l = leb-true x (2 ^ 32) t in
       caseB (eqb x 0) (λ e. rw e (sym (eqb-true x 0 e)))
       (λ e. let n = eqb-false x 0 e in let s : x - 1 < 2 ^ 32 = omega arith in rw (e, low 32 s) (omega arith))
-
-pub signed-back : (y : ℕ) → y < 2 ^ 32 → signedWord (signedOf y) ≡ y
-unfolding signedOf signedWord
-signed-back y h = rw (low 32 h) (caseB (ltb y (2 ^ 31)) (λ e. rw e) (λ e. let g = ltb-false y (2 ^ 31) e in rw e (omega arith)))
-
-pub option-i32-word : (x : ℕ) → leb x (2 ^ 32) ≡ true → optionI32Word (optionI32Of x) ≡ x
-unfolding optionI32Of
-option-i32-word x t =
-    let l = leb-true x (2 ^ 32) t in
-    caseB (eqb x 0) (λ e. rw e (sym (eqb-true x 0 e)))
-    (λ e. let n = eqb-false x 0 e in let s : x - 1 < 2 ^ 32 = omega arith in rw (e, signed-back (x - 1) s) (omega arith))
 
 -- ---- words that are not read
 
@@ -122,7 +112,7 @@ module _ (f : ℕ → ℕ) where
       )
 
 module _ (f : ℕ → ℕ) where
-  pub option-error-words : isOptionError (tab f 5) 0 ≡ true → errorOptionWords (readOptionError (tab f 5) 0) ≡ tab f 5
+  pub option-error-words : isOptionError (tab f 5) 0 ≡ true → optionErrorWords (readOptionError (tab f 5) 0) ≡ tab f 5
   option-error-words t =
       by-flag (f 0) (areZero (tab f 5) 1 4) (isError (tab f 5) 1) t (λ e z. rw (e, zeros-words (from f 1) 4 z)) (λ e z. rw (e, error-words (from f 1) z))
 

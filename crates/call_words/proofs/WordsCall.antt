@@ -1,36 +1,25 @@
 -- A call is what its words say: the laws of the parts, then of each call. Assumes nothing.
-use Prim.Native.Nat.{ℕ, _+_, _-_, _*_, _/_, _%_, _<_, _≤_, _^_}
+use Prim.Native.Nat.{ℕ, _+_, _*_, _/_, _%_, _^_}
 use mathlib.Core.Path.{_≡_, refl, sym, ap, _∙_}
 use mathlib.Core.Bool.{Bool, true}
 use mathlib.Core.List.{List, [], _∷_, _++_, append-assoc}
 use native.Mathlib.Omega.{arith}
 use lib.Dec.{eqb, leb}
-use lib.IntN.{ℤ, pos, negsuc}
 use lib.ListN.{length, getD, take, drop}
 use lib.Seq.{drop-drop, take-at, drop-at}
-use borrow.Author.Tests.{eqb-true, leb-true, ltb-true, lt-ltb, le-ltb, ne-eqb}
+use borrow.Author.Tests.{eqb-true, leb-true}
 use Rattle.chain.specs.Chain.{_if_else_}
 use Rattle.chain.proofs.Chain.{both, and3}
 use Rattle.words.specs.Records.{tab, part}
-use Rattle.words.specs.Words.{flagWord, optionU32Of, optionU32Word, optionU64Of, optionU64Words, optionI32Of, optionI32Word, signedOf, signedWord}
+use Rattle.words.specs.Words.{flagWord, optionU32Of, optionU32Word, optionU64Of, optionU64Words, optionI32Word, isSigned}
 use Rattle.words.specs.declared.OptionU32.{OptionU32}
 use Rattle.words.specs.declared.OptionU32.the-variants as u32
 use Rattle.words.specs.declared.OptionU64.{OptionU64}
 use Rattle.words.specs.declared.OptionU64.the-variants as u64
-use Rattle.words.specs.declared.OptionI32.{OptionI32}
-use Rattle.words.specs.declared.OptionI32.the-variants as i32
-use Rattle.words.proofs.Options.{low, flag-back, option-u32-back}
-use Rattle.models.specs.Codes.{categoryOf, categoryWord, transferOf, transferWord, directionOf, directionWord, deviceStateOf, deviceStateWord}
-use Rattle.models.specs.declared.ErrorCategory.{ErrorCategory}
-use Rattle.models.specs.declared.ErrorCategory.the-variants as category
-use Rattle.models.specs.declared.Direction.{Direction}
+use Rattle.words.proofs.Options.{flag-back, option-u32-back}
+use Rattle.words.proofs.Signed.{option-i32-says}
+use Rattle.models.specs.Codes.{categoryWord, profileWord}
 use Rattle.models.specs.declared.Direction.the-variants as direction
-use Rattle.models.specs.declared.TransferType.{TransferType}
-use Rattle.models.specs.declared.TransferType.the-variants as transfer
-use Rattle.models.specs.declared.DeviceState.{DeviceState}
-use Rattle.models.specs.declared.DeviceState.the-variants as device
-use Rattle.models.specs.declared.ControlProfile.{ControlProfile}
-use Rattle.models.specs.declared.ControlProfile.the-variants as profile
 use Rattle.models.specs.declared.OperationError.{OperationError}
 use Rattle.models.specs.declared.OptionDirection.{OptionDirection}
 use Rattle.models.specs.declared.OptionDirection.the-variants as status
@@ -46,8 +35,9 @@ use Rattle.models.specs.declared.BackendCompletion.{BackendCompletion}
 use Rattle.models.specs.declared.ControlPlan.{ControlPlan}
 use Rattle.models.specs.declared.RequestId.{RequestId}
 use Rattle.models.specs.declared.RequestSpec.{RequestSpec}
+use Rattle.models.proofs.Enums.{category-back, transfer-back, direction-back, profile-back, device-state-back}
 use Rattle.rows.specs.Codec.{setupOf, setupWords}
-use Rattle.scope.specs.Returned.{completionWords, readError, readOptionError, readCompletion}
+use Rattle.scope.specs.Returned.{completionWords, readError, errorWords, readOptionError, optionErrorWords, readCompletion}
 use Rattle.session.specs.declared.RecoveryKind.the-variants as kind
 use Rattle.session.specs.declared.lifecycle.AcquireReply.the-variants as acquire
 use Rattle.session.specs.declared.lifecycle.Opening.{Opening}
@@ -57,61 +47,19 @@ use Rattle.submissions.specs.declared.SubmitReply.the-variants as submit
 use Rattle.recovery.specs.declared.RecoveryReply.{RecoveryReply}
 use Rattle.recovery.specs.declared.RecoveryReply.the-variants as recovery
 use Rattle.calls.specs.Calls.{Call, Open, Placing, Place, Device, Port, Endpoints, Reconcile, Moving, Move, Acquire, Initialize, Close, Beginning, Begin, Submit, SubmitPlan, Poll, Recover, Replying, Reply, ToSubmit, ToPoll, ToRecovery, Changing, Change, Cancel, Timeout, Reclaim, Reading, Read, Status, Reports, CountReports, CompletedBytes, HeldCount, HeldBytes}
-use Rattle.call_words.specs.Parts.{isZero, isFlag, isByte, isHalf, areZero, deviceIdWords, packetWords, isError, errorWords, isOptionError, errorOptionWords, isOptionSetup, isReading, readReading, readingWords, isCompletion, backendCompletionWords, readStage, stageWords, readProfile, controlProfileWord, readStatus, statusWord}
+use Rattle.call_words.specs.Parts.{isZero, isFlag, isByte, isHalf, areZero, deviceIdWords, packetWords, isError, isOptionError, isOptionSetup, optionSetupWords, isReading, readReading, readingWords, isCompletion, backendCompletionWords, readStage, stageWords, readStatus, statusWord}
 use Rattle.call_words.specs.Form.{has, isOpenCall, isSetDevice, isSetPort, isSetEndpoints, isSetReconcile, isAcquire, isInitialize, isClose, isSubmit, isPlan, isSubmitReply, isPollReply, isReports, isReset, isRecovered, isRecoveryReply, isPlacing, isMoving, isSubmission, isReplying, isReporting, isRecoveryCall, isCall}
 use Rattle.call_words.specs.Arguments.{readOpening, readSnapshot, readPortRow, readAcquireReply, readSpec, readPlan, readSubmitReply, readPollReply, readOptionId, readRecoveryReply, readCompleted, readCompletions, readAborted}
 use Rattle.call_words.specs.Decode.{placingOf, movingOf, submissionOf, replyingOf, changingOf, reportingOf, recoveringOf, callOf}
 use Rattle.call_words.specs.Encode.{specWords, recoveryReplyWords, callWords, callBytes}
-use Rattle.call_words.specs.Typed.{isSigned, signedError, signedReading, signedRecovery, typedMoving, typedBeginning, typedReplying, isTyped}
+use Rattle.call_words.specs.Typed.{signedError, signedReading, signedRecovery, typedMoving, typedBeginning, typedReplying, isTyped}
 use Rattle.call_words.proofs.Told.{and4, and5, opening-told, device-told, port-told, endpoints-told, reconcile-told, acquire-told, initialize-told, close-told, submit-reply-told, recovery-reply-told, submit-told, plan-told}
 use Rattle.call_words.proofs.PartWords.{byte-word, half-word, full-word, ports-words}
 
 -- ---- one word
-category-back : (x : ErrorCategory) → categoryOf (categoryWord x) ≡ x
-category-back category.Validation = refl
-category-back category.Unsupported = refl
-category-back category.OperatingSystem = refl
-category-back category.Controller = refl
-category-back category.Timeout = refl
-category-back category.Disconnect = refl
-category-back category.RecoveryRequired = refl
-
-direction-back : (x : Direction) → directionOf (directionWord x) ≡ x
-direction-back direction.In = refl
-direction-back direction.Out = refl
-
-transfer-back : (x : TransferType) → transferOf (transferWord x) ≡ x
-transfer-back transfer.Control = refl
-transfer-back transfer.Bulk = refl
-transfer-back transfer.Interrupt = refl
-transfer-back transfer.Isochronous = refl
-
 option-u32-says : (o : OptionU32) → leb (optionU32Word o) (2 ^ 32) ≡ true → optionU32Of (optionU32Word o) ≡ o
 option-u32-says u32.None t = refl
 option-u32-says (u32.Some v) t = option-u32-back v (omega (arith, leb-true (v + 1) (2 ^ 32) t))
-
-signed-says : (v : ℤ) → isSigned (i32.Some v) ≡ true → signedOf (signedWord v) ≡ v
-unfolding signedOf signedWord
-signed-says (pos n) t =
-    let h = ltb-true n (2 ^ 31) t in
-    let y = signedWord (pos n) in
-    let s : y < 2 ^ 32 = omega arith in
-    let l : y < 2 ^ 31 = omega arith in
-    rw (low 32 s, lt-ltb y (2 ^ 31) l)
-signed-says (negsuc n) t =
-    let h = ltb-true n (2 ^ 31) t in
-    let y = signedWord (negsuc n) in
-    let s : y < 2 ^ 32 = omega arith in
-    let g : 2 ^ 31 ≤ y = omega arith in
-    rw (low 32 s, le-ltb y (2 ^ 31) g) (ap negsuc (omega arith))
-
-option-i32-says : (o : OptionI32) → isSigned o ≡ true → optionI32Of (optionI32Word o) ≡ o
-unfolding optionI32Of
-option-i32-says i32.None t = refl
-option-i32-says (i32.Some v) t =
-    let y = signedWord v in
-    let e : y + 1 - 1 ≡ y = omega arith in
-    rw (ne-eqb (y + 1) 0 (omega arith), e, signed-says v t)
 
 number-says : (o : OptionU64) → optionU64Of (optionU64Words o .present) (optionU64Words o .value) ≡ o
 number-says u64.None = refl
@@ -130,7 +78,7 @@ reading-shape : (r : PortReading) → readingWords r ≡ tab (λ (k : ℕ). getD
 reading-shape (reading.Word v) = refl
 reading-shape (reading.Error e) = refl
 
-option-setup-says : (o : OptionSetup) → isOptionSetup (let p = setupWords o in p .present ∷ p .«request_type» ∷ p .request ∷ p .value ∷ p .index ∷ p .length ∷ []) 0 ≡ true
+option-setup-says : (o : OptionSetup) → isOptionSetup (optionSetupWords o) 0 ≡ true
     → setupOf (setupWords o .present) (setupWords o .«request_type») (setupWords o .request) (setupWords o .value) (setupWords o .index) (setupWords o .length) ≡ o
 option-setup-says setup.None t = refl
 option-setup-says (setup.Some x) t =
@@ -142,19 +90,6 @@ option-setup-says (setup.Some x) t =
       half-word (x .index) (p .3),
       half-word (x .length) (p .4),
     )
-
-device-state-back : (x : DeviceState) → deviceStateOf (deviceStateWord x) ≡ x
-device-state-back device.Observed = refl
-device-state-back device.PortReset = refl
-device-state-back device.SlotEnabled = refl
-device-state-back device.DefaultAddress = refl
-device-state-back device.Addressed = refl
-device-state-back device.Configured = refl
-device-state-back device.Disconnected = refl
-
-profile-back : (x : ControlProfile) → readProfile (controlProfileWord x) ≡ x
-profile-back profile.Compliant = refl
-profile-back profile.DeviceCompatibility = refl
 
 status-back : (x : OptionDirection) → readStatus (statusWord x) ≡ x
 status-back status.None = refl
@@ -169,11 +104,11 @@ stage-shape : (o : OptionStage) → stageWords o ≡ tab (λ (k : ℕ). getD (st
 stage-shape stage.None = refl
 stage-shape (stage.Some x) = refl
 
-option-error-says : (o : OptionError) → isOptionError (errorOptionWords o) 0 ≡ true → signedError o ≡ true → readOptionError (errorOptionWords o) 0 ≡ o
+option-error-says : (o : OptionError) → isOptionError (optionErrorWords o) 0 ≡ true → signedError o ≡ true → readOptionError (optionErrorWords o) 0 ≡ o
 option-error-says error.None t s = refl
 option-error-says (error.Some e) t s = ap error.Some (error-says e t s)
 
-option-error-shape : (o : OptionError) → errorOptionWords o ≡ tab (λ (k : ℕ). getD (errorOptionWords o) k 0) 5
+option-error-shape : (o : OptionError) → optionErrorWords o ≡ tab (λ (k : ℕ). getD (optionErrorWords o) k 0) 5
 option-error-shape error.None = refl
 option-error-shape (error.Some e) = refl
 
@@ -282,7 +217,7 @@ unfolding isCall isSubmission isPlan callOf submissionOf readPlan callWords _if_
 plan-back x bytes r s =
     rw (stage-shape (x .«data_stage»)) λ t.
     let w : List ℕ =
-    9 ∷ deviceIdWords (x .device) ++ controlProfileWord (x .profile) ∷ packetWords (x .setup)
+    9 ∷ deviceIdWords (x .device) ++ profileWord (x .profile) ∷ packetWords (x .setup)
     ++ tab (λ (k : ℕ). getD (stageWords (x .«data_stage»)) k 0) 3 ++ statusWord (x .«status_direction») ∷ [] ++ readingWords r in
     let p = plan-told w t in
     let u = and5 (isByte w 5) (isByte w 6) (isHalf w 7) (isHalf w 8) (isHalf w 9) (p .3) in

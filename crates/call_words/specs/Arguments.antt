@@ -6,7 +6,7 @@ use lib.ListN.{getD, drop}
 use lib.Dec.{eqb}
 use Rattle.words.specs.Words.{flagOf, optionU32Of, optionU64Of}
 use Rattle.words.specs.Records.{part}
-use Rattle.models.specs.Codes.{transferOf, directionOf, deviceStateOf}
+use Rattle.models.specs.Codes.{transferOf, directionOf, profileOf, deviceStateOf}
 use Rattle.models.specs.declared.ControlPlan.{ControlPlan}
 use Rattle.models.specs.declared.DeviceSnapshot.{DeviceSnapshot}
 use Rattle.models.specs.declared.RequestSpec.{RequestSpec}
@@ -24,7 +24,7 @@ use Rattle.scope.specs.Returned.{completionWords, readError, readOptionError, r
 use Rattle.recovery.specs.declared.RecoveryReply.{RecoveryReply}
 use Rattle.recovery.specs.declared.RecoveryReply.the-variants as recovery
 use Rattle.session_words.specs.State.{readDeviceId, readRequestId}
-use Rattle.call_words.specs.Parts.{readPortId, readSetup, readOptionSetup, readProfile, readStage, readStatus}
+use Rattle.call_words.specs.Parts.{readPortId, readSetup, readOptionSetup, readStage, readStatus}
 
 unfoldable pub readOpening : List ℕ → Opening
 readOpening w = record {
@@ -59,7 +59,7 @@ readSpec w = record {
 unfoldable pub readPlan : List ℕ → ControlPlan
 readPlan w = record {
   device = readDeviceId w 1;
-  profile = readProfile (getD w 4 0);
+  profile = profileOf (getD w 4 0);
   setup = readSetup w 5;
   «data_stage» = readStage w 10;
   «status_direction» = readStatus (getD w 13 0);

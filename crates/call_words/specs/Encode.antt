@@ -3,7 +3,7 @@ use Prim.Native.Nat.{ℕ, _/_}
 use mathlib.Core.List.{List, [], _∷_, _++_}
 use lib.ListN.{length}
 use Rattle.words.specs.Words.{flagWord, optionU32Word}
-use Rattle.models.specs.Codes.{transferWord, directionWord, deviceStateWord}
+use Rattle.models.specs.Codes.{transferWord, directionWord, profileWord, deviceStateWord}
 use Rattle.models.specs.declared.ControlPlan.{ControlPlan}
 use Rattle.models.specs.declared.RequestSpec.{RequestSpec}
 use Rattle.session.specs.declared.RecoveryKind.the-variants as kind
@@ -16,11 +16,11 @@ use Rattle.polls.specs.declared.PollReply.{PollReply}
 use Rattle.polls.specs.declared.PollReply.the-variants as poll
 use Rattle.submissions.specs.declared.SubmitReply.{SubmitReply}
 use Rattle.submissions.specs.declared.SubmitReply.the-variants as submit
-use Rattle.scope.specs.Returned.{completionWords}
+use Rattle.scope.specs.Returned.{completionWords, errorWords, optionErrorWords}
 use Rattle.recovery.specs.declared.RecoveryReply.{RecoveryReply}
 use Rattle.recovery.specs.declared.RecoveryReply.the-variants as recovery
 use Rattle.calls.specs.Calls.{Call, Open, Placing, Place, Device, Port, Endpoints, Reconcile, Moving, Move, Acquire, Initialize, Close, Beginning, Begin, Submit, SubmitPlan, Poll, Recover, Replying, Reply, ToSubmit, ToPoll, ToRecovery, Changing, Change, Cancel, Timeout, Reclaim, Reading, Read, Status, Reports, CountReports, CompletedBytes, HeldCount, HeldBytes}
-use Rattle.call_words.specs.Parts.{zeros, requestIdWords, deviceIdWords, portIdWords, optionNumberWords, errorWords, errorOptionWords, packetWords, optionSetupWords, readingWords, backendCompletionWords, controlProfileWord, stageWords, statusWord}
+use Rattle.call_words.specs.Parts.{zeros, requestIdWords, deviceIdWords, portIdWords, optionNumberWords, packetWords, optionSetupWords, readingWords, backendCompletionWords, stageWords, statusWord}
 
 -- ---- the arguments of several words
 
@@ -39,7 +39,7 @@ specWords q =
 
 abbrev pub controlPlanWords : ControlPlan → List ℕ
 controlPlanWords p =
-    deviceIdWords (p .device) ++ controlProfileWord (p .profile) ∷ packetWords (p .setup)
+    deviceIdWords (p .device) ++ profileWord (p .profile) ∷ packetWords (p .setup)
     ++ stageWords (p .«data_stage») ++ statusWord (p .«status_direction») ∷ []
 
 abbrev pub submitReplyWords : SubmitReply → List ℕ
@@ -56,7 +56,7 @@ optionIdWords option.None = zeros 4
 optionIdWords (option.Some id) = 1 ∷ requestIdWords id
 
 abbrev pub recoveryReplyWords : RecoveryReply → List ℕ
-recoveryReplyWords (recovery.Done x) = 0 ∷ flagWord (x .«restart_ready») ∷ errorOptionWords (x .error)
+recoveryReplyWords (recovery.Done x) = 0 ∷ flagWord (x .«restart_ready») ∷ optionErrorWords (x .error)
 recoveryReplyWords (recovery.Error e) = 1 ∷ 0 ∷ 0 ∷ errorWords e
 
 -- ---- by group
@@ -69,8 +69,8 @@ placingWords (Reconcile slot mark) = 4 ∷ slot ∷ flagWord mark ∷ []
 
 abbrev pub movingWords : Moving → List ℕ
 movingWords (Acquire r) = 5 ∷ acquireWords r
-movingWords (Initialize e) = 6 ∷ errorOptionWords e
-movingWords (Close fresh e) = 7 ∷ optionNumberWords fresh ++ errorOptionWords e
+movingWords (Initialize e) = 6 ∷ optionErrorWords e
+movingWords (Close fresh e) = 7 ∷ optionNumberWords fresh ++ optionErrorWords e
 
 abbrev pub beginningWords : Beginning → List ℕ
 beginningWords (Submit q bytes given packets first second) =

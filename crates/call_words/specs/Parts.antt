@@ -5,18 +5,13 @@ use mathlib.Core.Bool.{Bool, true, _&&_, cond}
 use mathlib.Core.List.{List, [], _∷_, _++_}
 use lib.ListN.{getD, replicate}
 use lib.Dec.{eqb, leb}
-use Rattle.words.specs.Words.{flagWord, optionU32Word, optionI32Word, optionU64Words}
+use Rattle.words.specs.Words.{flagWord, optionU32Word, optionU64Words}
 use Rattle.words.specs.declared.OptionU64.{OptionU64}
-use Rattle.models.specs.Codes.{categoryWord, directionOf, directionWord}
+use Rattle.models.specs.Codes.{directionOf, directionWord}
 use Rattle.models.specs.declared.BackendCompletion.{BackendCompletion}
-use Rattle.models.specs.declared.ControlProfile.{ControlProfile}
-use Rattle.models.specs.declared.ControlProfile.the-variants as profile
 use Rattle.models.specs.declared.DeviceId.{DeviceId}
-use Rattle.models.specs.declared.OperationError.{OperationError}
 use Rattle.models.specs.declared.OptionDirection.{OptionDirection}
 use Rattle.models.specs.declared.OptionDirection.the-variants as direction
-use Rattle.models.specs.declared.OptionError.{OptionError}
-use Rattle.models.specs.declared.OptionError.the-variants as error
 use Rattle.models.specs.declared.OptionSetup.{OptionSetup}
 use Rattle.models.specs.declared.OptionStage.{OptionStage}
 use Rattle.models.specs.declared.OptionStage.the-variants as stage
@@ -25,8 +20,8 @@ use Rattle.models.specs.declared.PortReading.{PortReading}
 use Rattle.models.specs.declared.PortReading.the-variants as reading
 use Rattle.models.specs.declared.RequestId.{RequestId}
 use Rattle.models.specs.declared.SetupPacket.{SetupPacket}
-use Rattle.rows.specs.Codec.{setupOf, setupWords}
-use Rattle.scope.specs.Returned.{readError}
+use Rattle.rows.specs.Codec.{setupOf, setupWords, setupTail}
+use Rattle.scope.specs.Returned.{readError, errorWords, optionErrorWords}
 
 -- ---- one word
 
@@ -93,16 +88,9 @@ optionNumberWords o = optionU64Words o .present ∷ optionU64Words o .value ∷ 
 abbrev pub isError : List ℕ → ℕ → Bool
 isError w at = atMost w at 6 && isHalf w (at + 1) && isOption w (at + 2) && isOption w (at + 3)
 
-abbrev pub errorWords : OperationError → List ℕ
-errorWords e = categoryWord (e .category) ∷ e .message ∷ optionI32Word (e .«os_code») ∷ optionU32Word (e .«completion_code») ∷ []
-
 -- an optional one, five: a flag, the error
 abbrev pub isOptionError : List ℕ → ℕ → Bool
 isOptionError w at = byFlag (getD w at 0) (areZero w (at + 1) 4) (isError w (at + 1))
-
-abbrev pub errorOptionWords : OptionError → List ℕ
-errorOptionWords error.None = zeros 5
-errorOptionWords (error.Some e) = 1 ∷ errorWords e
 
 -- ---- a SETUP packet, five: type, request, value, index, length
 
@@ -129,9 +117,7 @@ abbrev pub readOptionSetup : List ℕ → ℕ → OptionSetup
 readOptionSetup w at = setupOf (getD w at 0) (getD w (at + 1) 0) (getD w (at + 2) 0) (getD w (at + 3) 0) (getD w (at + 4) 0) (getD w (at + 5) 0)
 
 abbrev pub optionSetupWords : OptionSetup → List ℕ
-optionSetupWords o =
-    let p = setupWords o in
-    p .present ∷ p .«request_type» ∷ p .request ∷ p .value ∷ p .index ∷ p .length ∷ []
+optionSetupWords o = setupTail (setupWords o) []
 
 -- ---- a port reading, six: 0 and the port's word, or 1, and from the third on the error
 
@@ -153,18 +139,10 @@ isCompletion w = isOptionError w 0 && isOptionNumber w 5 && isOption w 7 && isFl
 
 abbrev pub backendCompletionWords : BackendCompletion → List ℕ
 backendCompletionWords x =
-    errorOptionWords (x .error) ++ optionNumberWords (x .«actual_length»)
+    optionErrorWords (x .error) ++ optionNumberWords (x .«actual_length»)
     ++ optionU32Word (x .«completion_code») ∷ flagWord (x .«has_data») ∷ flagWord (x .quiescent) ∷ []
 
 -- ---- a plan's parts
-
--- 0 Compliant, 1 DeviceCompatibility
-abbrev pub readProfile : ℕ → ControlProfile
-readProfile w = cond (eqb w 0) profile.Compliant profile.DeviceCompatibility
-
-abbrev pub controlProfileWord : ControlProfile → ℕ
-controlProfileWord profile.Compliant = 0
-controlProfileWord profile.DeviceCompatibility = 1
 
 -- three: a flag, direction, length
 abbrev pub isStage : List ℕ → ℕ → Bool

@@ -1,12 +1,10 @@
 -- What the code's types say of a call beside its words: a number with a sign has 32 bits; and a recovery's reply has whole completions.
 -- Assumes nothing.
-use Prim.Native.Nat.{_%_, _^_}
+use Prim.Native.Nat.{_%_}
 use mathlib.Core.Bool.{Bool, true, _&&_}
-use lib.Dec.{eqb, ltb}
-use lib.IntN.{ℤ, pos, negsuc}
+use lib.Dec.{eqb}
 use lib.ListN.{length}
-use Rattle.words.specs.declared.OptionI32.{OptionI32}
-use Rattle.words.specs.declared.OptionI32.the-variants as i32
+use Rattle.words.specs.Words.{isSigned}
 use Rattle.models.specs.declared.OptionError.{OptionError}
 use Rattle.models.specs.declared.OptionError.the-variants as error
 use Rattle.models.specs.declared.PortReading.{PortReading}
@@ -21,11 +19,6 @@ use Rattle.scope.specs.Returned.{completionWords}
 use Rattle.recovery.specs.declared.RecoveryReply.{RecoveryReply}
 use Rattle.recovery.specs.declared.RecoveryReply.the-variants as recovery
 use Rattle.calls.specs.Calls.{Call, Open, Place, Moving, Move, Acquire, Initialize, Close, Beginning, Begin, Submit, SubmitPlan, Poll, Recover, Replying, Reply, ToSubmit, ToPoll, ToRecovery, Change, Read}
-
-abbrev pub isSigned : OptionI32 → Bool
-isSigned i32.None = true
-isSigned (i32.Some (pos n)) = ltb n (2 ^ 31)
-isSigned (i32.Some (negsuc n)) = ltb n (2 ^ 31)
 
 abbrev pub signedError : OptionError → Bool
 signedError error.None = true

@@ -1,7 +1,6 @@
 // The arguments of calls, read from their words. Every word says something, and one that is missing says 0; `form` tests which words are calls.
 use bus::PortRow;
 use models::ControlPlan;
-use models::ControlProfile;
 use models::DataStage;
 use models::DeviceSnapshot;
 use models::OptionDirection;
@@ -30,7 +29,7 @@ ghost use Prim.Native.Nat.{_+_, _*_, min};
 ghost use lib.ListN.{getD, take, drop};
 ghost use Rattle.scope.specs.Returned.{completionWords};
 ghost use Rattle.session_words.specs.State.{readDeviceId, readRequestId};
-ghost use Rattle.call_words.specs.Parts.{readPortId, readSetup, readReading, readProfile, readStage, readStatus};
+ghost use Rattle.call_words.specs.Parts.{readPortId, readSetup, readReading, readStage, readStatus};
 ghost use Rattle.call_words.specs.Arguments.{readOpening, readSnapshot, readPortRow, readAcquireReply, readSpec, readPlan, readSubmitReply, readPollReply, readOptionId, readRecoveryReply, readCompleted, readCompletions, readAborted};
 
 // How many words a completion of a recovery's reply has.
@@ -134,15 +133,6 @@ pub fn spec(w: &[u64]) -> RequestSpec
     }
 }
 
-fn to_profile(w: u64) -> ControlProfile
-    ensures { λ r. ⌜ r ≡ readProfile w ⌝ }
-{
-    if w == 0 {
-        return ControlProfile::Compliant;
-    }
-    ControlProfile::DeviceCompatibility
-}
-
 fn stage_at(w: &[u64], at: u8) -> OptionStage
     ensures { λ r. ⌜ r ≡ readStage (now (w .entry)) at ⌝ }
 {
@@ -170,7 +160,7 @@ pub fn plan(w: &[u64]) -> ControlPlan
 {
     ControlPlan {
         device: state::device_at(w, 1),
-        profile: to_profile(word_at(w, 4)),
+        profile: codes::to_profile(word_at(w, 4)),
         setup: setup_at(w, 5),
         data_stage: stage_at(w, 10),
         status_direction: to_status(word_at(w, 13)),

@@ -52,10 +52,6 @@ pub and-false : (a : Bool) → (a && false) ≡ false
 and-false true = refl
 and-false false = refl
 
-pub not-not : (a : Bool) → not (not a) ≡ a
-not-not true = refl
-not-not false = refl
-
 pub ruleset chain = (takes, passes, eq-eqb, ne-eqb, eq-not, ne-not, lt-ltb, le-ltb, le-leb, lt-leb, through, not-through)
 
 -- what holds of both ways holds of the chain

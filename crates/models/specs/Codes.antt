@@ -8,6 +8,8 @@ use Rattle.models.specs.declared.TransferType.{TransferType}
 use Rattle.models.specs.declared.TransferType.the-variants as transfer
 use Rattle.models.specs.declared.Direction.{Direction}
 use Rattle.models.specs.declared.Direction.the-variants as direction
+use Rattle.models.specs.declared.ControlProfile.{ControlProfile}
+use Rattle.models.specs.declared.ControlProfile.the-variants as profile
 use Rattle.models.specs.declared.DeviceState.{DeviceState}
 use Rattle.models.specs.declared.DeviceState.the-variants as device
 use Rattle.models.specs.declared.ControllerState.{ControllerState}
@@ -52,6 +54,17 @@ directionOf w = getD directions w direction.Out
 abbrev pub directionWord : Direction → ℕ
 directionWord direction.In = 0
 directionWord direction.Out = 1
+
+-- all but the last
+abbrev pub profiles : List ControlProfile
+profiles = profile.Compliant ∷ []
+
+abbrev pub profileOf : ℕ → ControlProfile
+profileOf w = getD profiles w profile.DeviceCompatibility
+
+abbrev pub profileWord : ControlProfile → ℕ
+profileWord profile.Compliant = 0
+profileWord profile.DeviceCompatibility = 1
 
 -- all but the last
 abbrev pub deviceStates : List DeviceState

@@ -1,11 +1,12 @@
 // The enums of no data as words, in the order of their declaration. A word past the last one says the last.
+use crate::ControlProfile;
 use crate::ControllerState;
 use crate::DeviceState;
 use crate::Direction;
 use crate::ErrorCategory;
 use crate::TransferType;
 ghost use mathlib.Core.Path.{_≡_};
-ghost use Rattle.models.specs.Codes.{categoryOf, categoryWord, transferOf, transferWord, directionOf, directionWord, deviceStateOf, deviceStateWord, controllerOf, controllerWord};
+ghost use Rattle.models.specs.Codes.{categoryOf, categoryWord, transferOf, transferWord, directionOf, directionWord, profileOf, profileWord, deviceStateOf, deviceStateWord, controllerOf, controllerWord};
 
 pub fn category_word(c: ErrorCategory) -> u64
     ensures { λ r. ⌜ (categoryOf r ≡ c) × (r ≡ categoryWord c) ⌝ }
@@ -72,6 +73,24 @@ pub fn to_direction(w: u64) -> Direction
     match w {
         0 => Direction::In,
         _ => Direction::Out,
+    }
+}
+
+pub fn profile_word(p: ControlProfile) -> u64
+    ensures { λ r. ⌜ (profileOf r ≡ p) × (r ≡ profileWord p) ⌝ }
+{
+    match p {
+        ControlProfile::Compliant => 0,
+        ControlProfile::DeviceCompatibility => 1,
+    }
+}
+
+pub fn to_profile(w: u64) -> ControlProfile
+    ensures { λ r. ⌜ r ≡ profileOf w ⌝ }
+{
+    match w {
+        0 => ControlProfile::Compliant,
+        _ => ControlProfile::DeviceCompatibility,
     }
 }
 

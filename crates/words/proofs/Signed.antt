@@ -1,18 +1,21 @@
 -- A 32-bit signed number and its word.
-use Prim.Native.Nat.{ℕ, zero, suc, _+_, _-_, _%_, _<_, _≤_}
+use Prim.Native.Nat.{ℕ, zero, suc, _+_, _-_, _%_, _<_, _≤_, _^_}
 use mathlib.Core.Path.{_≡_, refl, sym, ap, _∙_}
 use mathlib.Core.Bool.{true, false}
 use native.Mathlib.Nat.{zero-add}
 use native.Mathlib.Omega.{arith}
+use lib.Dec.{eqb, leb, ltb}
 use lib.IntN.{ℤ, pos, negsuc, _-ℤ_}
 use lib.Signed.{ltZ}
-use borrow.Author.Tests.{lt-ltb, le-ltb, ne-eqb, eq-eqb}
+use borrow.Author.Tests.{lt-ltb, le-ltb, ne-eqb, eq-eqb, eqb-true, eqb-false, leb-true, ltb-true, ltb-false}
 use mir.Syntax.{w32}
 use mir.Val.{SFits, toZ, ofZ}
 use mir.ValLaws.{toZ-ofZ, toZ-pos}
+use Rattle.chain.proofs.Chain.{caseB}
 use Rattle.words.specs.declared.OptionI32.the-variants.{None, Some}
-use Rattle.words.specs.Words.{lowSigned, signedOf, optionI32Of, signedWord, optionI32Word}
+use Rattle.words.specs.Words.{lowSigned, signedOf, optionI32Of, signedWord, optionI32Word, isSigned}
 use Rattle.words.specs.declared.OptionI32.{OptionI32}
+use Rattle.words.proofs.Options as options
 
 -- `-1 - v`, as the code computes it
 abbrev pub flip : ℤ → ℤ
@@ -112,3 +115,25 @@ option-none w e = simp (eq-eqb w 0 e)
 
 pub option-exact : (y : ℕ) (v u : ℤ) (o : OptionI32) → y ≡ signedWord v → v ≡ u → o ≡ Some u → y + 1 ≡ optionI32Word o
 option-exact y v u o e f g = ap (λ (k : ℕ). k + 1) (e ∙ ap signedWord f) ∙ ap optionI32Word (sym g)
+
+-- a number of 32 bits is what its word says
+signed-says : (v : ℤ) → isSigned (Some v) ≡ true → (signedOf (signedWord v) ≡ v) × (signedWord v < 2 ^ 32)
+unfolding signedWord
+signed-says (pos n) t = let h = ltb-true n (2 ^ 31) t in (low n h, omega arith)
+signed-says (negsuc n) t = let h = ltb-true n (2 ^ 31) t in (high n h, omega arith)
+
+pub option-i32-says : (o : OptionI32) → isSigned o ≡ true → optionI32Of (optionI32Word o) ≡ o
+option-i32-says None t = sym (option-none 0 refl)
+option-i32-says (Some v) t = let b = signed-says v t in option-back (signedWord v) v (b .1) (b .0)
+
+-- and a word of 32 bits is that of what it says
+signed-word : (y : ℕ) → y < 2 ^ 32 → signedWord (signedOf y) ≡ y
+unfolding signedOf signedWord
+signed-word y h = rw (options.low 32 h) (caseB (ltb y (2 ^ 31)) (λ e. rw e) (λ e. let g = ltb-false y (2 ^ 31) e in rw e (omega arith)))
+
+pub option-i32-word : (x : ℕ) → leb x (2 ^ 32) ≡ true → optionI32Word (optionI32Of x) ≡ x
+unfolding optionI32Of
+option-i32-word x t =
+    let l = leb-true x (2 ^ 32) t in
+    caseB (eqb x 0) (λ e. rw e (sym (eqb-true x 0 e)))
+    (λ e. let n = eqb-false x 0 e in let s : x - 1 < 2 ^ 32 = omega arith in rw (e, signed-word (x - 1) s) (omega arith))

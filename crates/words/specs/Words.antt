@@ -1,6 +1,6 @@
 -- What a word says, and the word that says it. Every word says something. Assumes nothing.
 use Prim.Native.Nat.{ℕ, _+_, _-_, _%_, _^_}
-use mathlib.Core.Bool.{Bool, not, cond}
+use mathlib.Core.Bool.{Bool, true, not, cond}
 use lib.Dec.{eqb, ltb}
 use lib.IntN.{ℤ, pos, negsuc}
 use Rattle.words.specs.declared.OptionU32.{OptionU32}
@@ -51,3 +51,9 @@ optionI32Of w = cond (eqb w 0) i32.None (i32.Some (signedOf (w - 1)))
 abbrev pub optionI32Word : OptionI32 → ℕ
 optionI32Word i32.None = 0
 optionI32Word (i32.Some v) = signedWord v + 1
+
+-- whether it has 32 bits with its sign
+abbrev pub isSigned : OptionI32 → Bool
+isSigned i32.None = true
+isSigned (i32.Some (pos n)) = ltb n (2 ^ 31)
+isSigned (i32.Some (negsuc n)) = ltb n (2 ^ 31)
