@@ -1,12 +1,12 @@
 -- The recovery mark and the revision, by what the code has found. Assumes nothing.
 use Prim.Native.Nat.{ℕ, _+_, _-_, _^_}
 use mathlib.Core.Bool.{Bool, true, false}
-use mathlib.Core.Path.{_≡_, refl, sym, ap, _∙_}
+use mathlib.Core.Path.{_≡_, refl, sym, _∙_}
 use borrow.Author.Tests.{ne-eqb}
 use Rattle.chain.proofs.Chain.{takes, passes, through}
 use Rattle.words.specs.declared.OptionU64.{OptionU64}
 use Rattle.words.specs.declared.OptionU64.the-variants as u64
-use Rattle.models.specs.declared.ControllerState.the-variants.{Closed, RecoveryRequired}
+use Rattle.models.specs.declared.ControllerState.the-variants.{RecoveryRequired}
 use Rattle.session.specs.Session.{isClosed, raised, withController, marked}
 use Rattle.session.specs.declared.Session.{Session}
 
@@ -40,9 +40,3 @@ module _ (s : Session) (b : Bool) (e : b ≡ isClosed (s .state)) where
       → next ≡ marked s
   unfolding marked
   mark-open v next t ev en = passes Session _ _ _ _ (through b _ false e t) (en ∙ rw ev)
-
-pub marked-closed : (s : Session) → s .state ≡ Closed → marked s ≡ s
-marked-closed s e = sym (mark-closed s true (rw e) refl)
-
-pub marked-state : (s : Session) → isClosed (s .state) ≡ false → marked s .state ≡ RecoveryRequired
-marked-state s e = ap (λ (r : Session). r .state) (sym (mark-open s _ refl _ _ e refl refl))
