@@ -23,15 +23,12 @@ use words::slices::word_at;
 ghost use mathlib.Core.Path.{_≡_};
 ghost use Prim.Native.Nat.{_%_, _^_};
 ghost use lib.ListN.{getD};
-ghost use Rattle.rows.specs.Store.{storeOf};
-ghost use Rattle.bus.specs.Tables.{busOf};
-ghost use Rattle.calls.specs.Step.{world, after, stepOf};
-ghost use Rattle.session_words.specs.State.{keptOf, sessionOf};
-ghost use Rattle.call_words.specs.Decode.{placingOf, movingOf, submissionOf, replyingOf, changingOf, reportingOf, recoveringOf, callOf};
-ghost use Rattle.call_words.specs.Arguments.{readRecoveryReply, readCompleted, readCompletions, readAborted};
-ghost use Rattle.calls.specs.Calls.{Reply, ToRecovery};
-ghost use Rattle.dispatch.specs.Apply.{StepsRows, StepsStore, RunsStore, ran, runOf, done, wrote, dispatchOf};
+ghost use Rattle.session.specs.Lent.{storeOut, busOut};
 ghost use Rattle.calls.specs.Answers.{outcome};
+ghost use Rattle.calls.specs.Step.{after, stepOf};
+ghost use Rattle.call_words.specs.Decode.{placingOf, movingOf, submissionOf, replyingOf, changingOf, reportingOf, recoveringOf, callOf};
+ghost use Rattle.dispatch.specs.Apply.{ran, runOf, ranOn, done, dispatchOf};
+ghost use Rattle.dispatch.specs.Slices.{worldIn, afterOut, lentIn, lentOut, StepsRows, StepsStore, ReadsStore, RunsStore};
 
 fn byte_at(w: &[u64], i: usize) -> u8
     ensures { λ r. ⌜ r ≡ getD (now (w .entry)) i 0 % 2 ^ 8 ⌝ }
@@ -48,7 +45,8 @@ fn place_call(
     area: &[u8],
     call: &[u64],
 ) -> Outcome
-    ensures { λ r. ⌜ after r (busOf (now (bus .exit))) (storeOf (now (rows .exit))) (now (area .entry)) ≡ stepOf (placingOf number (now (call .entry))) (world session (busOf (now (bus .entry))) (storeOf (now (rows .entry))) (now (area .entry))) ⌝ }
+    ensures { λ r. ⌜ after r (busOut bus) (storeOut rows) (now (area .entry))
+        ≡ stepOf (placingOf number (now (call .entry))) (worldIn session bus rows area) ⌝ }
 {
     if number == 0 {
         let o = arguments::opening(call);
@@ -74,7 +72,7 @@ fn place_call(
 
 // 5 to 7: the calls that move the controller's state, whatever the bus and the area.
 fn move_call(number: u64, session: Session, rows: &mut [u64], call: &[u64]) -> Outcome
-    ensures { λ r. ⌜ StepsRows r (storeOf (now (rows .exit))) (movingOf number (now (call .entry))) session (storeOf (now (rows .entry))) ⌝ }
+    ensures { λ r. ⌜ StepsRows r (movingOf number (now (call .entry))) session rows ⌝ }
 {
     if number == 5 {
         let reply = arguments::acquire_reply(call);
@@ -99,7 +97,8 @@ fn submit_call(
     call: &[u64],
     bytes: &[u8],
 ) -> Outcome
-    ensures { λ r. ⌜ after r (busOf (now (bus .exit))) (storeOf (now (rows .exit))) (now (area .exit)) ≡ stepOf (submissionOf number (now (call .entry)) (now (bytes .entry))) (world session (busOf (now (bus .entry))) (storeOf (now (rows .entry))) (now (area .entry))) ⌝ }
+    ensures { λ r. ⌜ afterOut r bus rows area
+        ≡ stepOf (submissionOf number (now (call .entry)) (now (bytes .entry))) (worldIn session bus rows area) ⌝ }
 {
     let first = arguments::reading_at(call, 14);
     if number == 8 {
@@ -133,7 +132,7 @@ fn reply_call(
     call: &[u64],
     bytes: &[u8],
 ) -> Outcome
-    ensures { λ r. ⌜ StepsStore r (storeOf (now (rows .exit))) (now (area .exit)) (replyingOf number (now (call .entry)) (now (bytes .entry))) session (storeOf (now (rows .entry))) (now (area .entry)) ⌝ }
+    ensures { λ r. ⌜ StepsStore r (replyingOf number (now (call .entry)) (now (bytes .entry))) session rows area ⌝ }
 {
     if number == 10 {
         let answer = arguments::submit_reply(call);
@@ -149,7 +148,7 @@ fn reply_call(
 
 // 13 to 15: changes of one request, whatever the bus and the area.
 fn change_call(number: u64, session: Session, rows: &mut [u64], call: &[u64]) -> Outcome
-    ensures { λ r. ⌜ StepsRows r (storeOf (now (rows .exit))) (changingOf number (now (call .entry))) session (storeOf (now (rows .entry))) ⌝ }
+    ensures { λ r. ⌜ StepsRows r (changingOf number (now (call .entry))) session rows ⌝ }
 {
     let id = state::id_at(call, 1);
     if number == 13 {
@@ -163,14 +162,14 @@ fn change_call(number: u64, session: Session, rows: &mut [u64], call: &[u64]) ->
 
 // 16 to 21: what leaves all as it is, whatever the bus.
 fn report_call(number: u64, session: Session, rows: &[u64], area: &[u8], call: &[u64]) -> Outcome
-    ensures { λ r. ⌜ StepsStore r (storeOf (now (rows .entry))) (now (area .entry)) (reportingOf number (now (call .entry))) session (storeOf (now (rows .entry))) (now (area .entry)) ⌝ }
+    ensures { λ r. ⌜ ReadsStore r (reportingOf number (now (call .entry))) session rows area ⌝ }
 {
     let answer = report_answer(number, session, rows, area, call);
     Outcome { answer, session }
 }
 
 fn report_answer(number: u64, session: Session, rows: &[u64], area: &[u8], call: &[u64]) -> Answer
-    ensures { λ r. ⌜ StepsStore (outcome r session) (storeOf (now (rows .entry))) (now (area .entry)) (reportingOf number (now (call .entry))) session (storeOf (now (rows .entry))) (now (area .entry)) ⌝ }
+    ensures { λ r. ⌜ ReadsStore (outcome r session) (reportingOf number (now (call .entry))) session rows area ⌝ }
 {
     let id = state::id_at(call, 1);
     if number == 16 {
@@ -202,7 +201,7 @@ fn recover_call(
     bytes: &[u8],
     lists: &mut [u64],
 ) -> Outcome
-    ensures { λ r. ⌜ RunsStore r (storeOf (now (rows .exit))) (now (area .exit)) (now (lists .exit)) (recoveringOf number (now (call .entry)) (now (bytes .entry))) session (storeOf (now (rows .entry))) (now (area .entry)) (now (lists .entry)) ⌝ }
+    ensures { λ r. ⌜ RunsStore r (recoveringOf number (now (call .entry)) (now (bytes .entry))) session rows area lists ⌝ }
 {
     let id = state::id_at(call, 1);
     if number == 22 {
@@ -227,7 +226,7 @@ fn recovered(
     bytes: &[u8],
     lists: &mut [u64],
 ) -> Outcome
-    ensures { λ r. ⌜ RunsStore r (storeOf (now (rows .exit))) (now (area .exit)) (now (lists .exit)) (Reply (ToRecovery (readRecoveryReply (now (call .entry))) (readCompleted (now (call .entry))) (readCompletions (now (call .entry))) (readAborted (now (call .entry))) (now (bytes .entry)))) session (storeOf (now (rows .entry))) (now (area .entry)) (now (lists .entry)) ⌝ }
+    ensures { λ r. ⌜ RunsStore r (recoveringOf 24 (now (call .entry)) (now (bytes .entry))) session rows area lists ⌝ }
 {
     let answer = arguments::backend_abort(call);
     let tokens = arguments::completed(call);
@@ -256,7 +255,8 @@ fn step(
     bytes: &[u8],
     lists: &mut [u64],
 ) -> Outcome
-    ensures { λ r. ⌜ ran (after r (busOf (now (bus .exit))) (storeOf (now (rows .exit))) (now (area .exit))) (now (lists .exit)) ≡ runOf (callOf (now (call .entry)) (now (bytes .entry))) (world session (busOf (now (bus .entry))) (storeOf (now (rows .entry))) (now (area .entry))) (now (lists .entry)) ⌝ }
+    ensures { λ r. ⌜ ran (afterOut r bus rows area) (now (lists .exit))
+        ≡ runOf (callOf (now (call .entry)) (now (bytes .entry))) (worldIn session bus rows area) (now (lists .entry)) ⌝ }
 {
     let number = word_at(call, 0);
     if number <= 4 {
@@ -291,7 +291,8 @@ fn answer(
     out: &mut [u64],
     lists: &mut [u64],
 )
-    ensures { λ _. ⌜ done 0 (keptOf (now (session .exit))) (busOf (now (bus .exit))) (storeOf (now (rows .exit))) (now (area .exit)) (now (out .exit)) (now (lists .exit)) ≡ wrote (runOf (callOf (now (call .entry)) (now (bytes .entry))) (world (sessionOf (now (session .entry))) (busOf (now (bus .entry))) (storeOf (now (rows .entry))) (now (area .entry))) (now (lists .entry))) (now (session .entry)) (now (out .entry)) ⌝ }
+    ensures { λ _. ⌜ lentOut session bus rows area out lists
+        ≡ ranOn (callOf (now (call .entry)) (now (bytes .entry))) (lentIn session bus rows area out lists) ⌝ }
 {
     let before = state::to_session(session);
     let outcome = step(before, bus, rows, area, call, bytes, lists);
@@ -313,7 +314,8 @@ pub fn apply(
     out: &mut [u64],
     lists: &mut [u64],
 ) -> u64
-    ensures { λ r. ⌜ done r (keptOf (now (session .exit))) (busOf (now (bus .exit))) (storeOf (now (rows .exit))) (now (area .exit)) (now (out .exit)) (now (lists .exit)) ≡ dispatchOf (now (session .entry)) (busOf (now (bus .entry))) (storeOf (now (rows .entry))) (now (area .entry)) (now (call .entry)) (now (bytes .entry)) (now (out .entry)) (now (lists .entry)) ⌝ }
+    ensures { λ r. ⌜ done r (lentOut session bus rows area out lists)
+        ≡ dispatchOf (now (call .entry)) (now (bytes .entry)) (lentIn session bus rows area out lists) ⌝ }
 {
     if !form::is_call(call) {
         return 1;
