@@ -27,7 +27,7 @@ ran a lists = record { left = a; lists = lists }
 unfoldable pub runOf : Call → World → List ℕ → Ran
 runOf c v lists = ran (stepOf c v) (putLists (listsOf c v) lists)
 
--- all that is lent to be changed: the session's words, what the call is handed beside them, and the words for its answer and its lists
+-- all that is lent to be changed: the session's words, bus, store and area, and the words for an answer and its lists
 pub record Lent : Type 0 where
   pub kept : Kept
   pub bus : Bus
@@ -46,7 +46,8 @@ worldOf l = world (l .kept .session) (l .bus) (l .store) (l .area)
 abbrev pub wrote : Ran → Lent → Lent
 wrote o l =
     let a = o .left in
-    lent (keptAs (l .kept .words) (a .result .session)) (a .bus) (a .store) (a .area) (written (answerWords (a .result .answer)) (l .out)) (o .lists)
+    lent (keptAs (l .kept .words) (a .result .session)) (a .bus) (a .store) (a .area)
+    (written (answerWords (a .result .answer)) (l .out)) (o .lists)
 
 abbrev pub ranOn : Call → Lent → Lent
 ranOn c l = wrote (runOf c (worldOf l) (l .lists)) l

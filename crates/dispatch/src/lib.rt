@@ -24,7 +24,8 @@ fn step(
     lists: &mut [u64],
 ) -> Outcome
     ensures { λ r. ⌜ ran (afterOut r bus rows area) (now (lists .exit))
-        ≡ runOf (callOf (now (call .entry)) (now (bytes .entry))) (worldIn session bus rows area) (now (lists .entry)) ⌝ }
+        ≡ runOf (callOf (now (call .entry)) (now (bytes .entry))) (worldIn session bus rows area)
+        (now (lists .entry)) ⌝ }
 {
     let number = word_at(call, 0);
     if number <= 4 {

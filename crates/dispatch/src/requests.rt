@@ -141,7 +141,8 @@ pub fn recover_call(
     bytes: &[u8],
     lists: &mut [u64],
 ) -> Outcome
-    ensures { λ r. ⌜ RunsStore r (recoveringOf number (now (call .entry)) (now (bytes .entry))) session rows area lists ⌝ }
+    ensures { λ r. ⌜ RunsStore r (recoveringOf number (now (call .entry)) (now (bytes .entry)))
+        session rows area lists ⌝ }
 {
     let id = state::id_at(call, 1);
     if number == 22 {
