@@ -17,7 +17,7 @@ use Rattle.calls.specs.Step.{World, world, After, after, stepOf}
 use Rattle.calls.specs.declared.Outcome.{Outcome}
 use Rattle.answer_words.proofs.Room.{lists-put}
 use Rattle.session_words.proofs.Own.{written-same}
-use Rattle.dispatch.specs.Apply.{StepsRows, StepsStore, RunsStore, Ran, ran, runOf, Done, done, wrote, answered, dispatchOf}
+use Rattle.dispatch.specs.Apply.{Ran, ran, runOf, Lent, lent, worldOf, wrote, ranOn, answered, done, dispatchOf}
 use Rattle.call_words.specs.Decode.{placingOf, movingOf, submissionOf, replyingOf, changingOf, reportingOf, recoveringOf, callOf}
 use Rattle.dispatch.proofs.Steps.{unlisted, ran-said}
 
@@ -53,6 +53,10 @@ module _ (n : ℕ) (w bytes : List ℕ) (v : World) where
       (if-all (Unlisted v) _ _ _ refl (if-all (Unlisted v) _ _ _ refl (if-all (Unlisted v) _ _ _ refl (if-all (Unlisted v) _ _ _ refl refl))))
 
 -- ---- the call that the words say; l is lent for lists
+-- its step, whatever the bus and the area
+abbrev StepsRows : Call → Outcome → Store → Session → Store → Type 0
+StepsRows c r next s store = (b : Bus) (area : List ℕ) → after r b next area ≡ stepOf c (world s b store area)
+
 module _ (n : ℕ) (w bytes l : List ℕ) (en : n ≡ getD w 0 0) where
   -- 0 to 4
   pub place-said : (a : After) (v : World) → n ≤ 4 → a ≡ stepOf (placingOf n w) v → ran a l ≡ runOf (callOf w bytes) v l
@@ -61,7 +65,7 @@ module _ (n : ℕ) (w bytes l : List ℕ) (en : n ≡ getD w 0 0) where
 
   module _ (n4 : 4 < n) where
     -- 5 to 7
-    pub move-said : (r : Outcome) (next store : Store) (s : Session) (b : Bus) (area : List ℕ) → n ≤ 7 → StepsRows r next (movingOf n w) s store
+    pub move-said : (r : Outcome) (next store : Store) (s : Session) (b : Bus) (area : List ℕ) → n ≤ 7 → StepsRows (movingOf n w) r next s store
         → ran (after r b next area) l ≡ runOf (callOf w bytes) (world s b store area) l
     unfolding callOf
     move-said r next store s b area t h =
@@ -77,7 +81,7 @@ module _ (n : ℕ) (w bytes l : List ℕ) (en : n ≡ getD w 0 0) where
 
       module _ (n9 : 9 < n) (r : Outcome) (next store : Store) (s : Session) (b : Bus) where
         -- 10 to 12
-        pub reply-said : (left area : List ℕ) → n ≤ 12 → StepsStore r next left (replyingOf n w bytes) s store area
+        pub reply-said : (left area : List ℕ) → n ≤ 12 → ((o : Bus) → after r o next left ≡ stepOf (replyingOf n w bytes) (world s o store area))
             → ran (after r b next left) l ≡ runOf (callOf w bytes) (world s b store area) l
         unfolding callOf
         reply-said left area t h =
@@ -89,51 +93,54 @@ module _ (n : ℕ) (w bytes l : List ℕ) (en : n ≡ getD w 0 0) where
           handed = world s b store area
 
           -- 13 to 15
-          pub change-said : n ≤ 15 → StepsRows r next (changingOf n w) s store → ran (after r b next area) l ≡ runOf (callOf w bytes) handed l
+          pub change-said : n ≤ 15 → StepsRows (changingOf n w) r next s store → ran (after r b next area) l ≡ runOf (callOf w bytes) handed l
           unfolding callOf
           change-said t h =
               unlisted (changingOf n w) (callOf w bytes) handed _ l (rw (← en) (search chain depth 20)) (changing-none n w bytes handed) (h b area)
 
           module _ (n15 : 15 < n) where
             -- 16 to 21
-            pub report-said : n ≤ 21 → StepsStore r next area (reportingOf n w) s store area → ran (after r b next area) l ≡ runOf (callOf w bytes) handed l
+            pub report-said : n ≤ 21 → ((o : Bus) → after r o next area ≡ stepOf (reportingOf n w) (world s o store area))
+                → ran (after r b next area) l ≡ runOf (callOf w bytes) handed l
             unfolding callOf
             report-said t h =
                 unlisted (reportingOf n w) (callOf w bytes) handed _ l (rw (← en) (search chain depth 20)) (reporting-none n w bytes handed) (h b)
 
             -- 22 to 24
-            pub recover-said : (left m : List ℕ) → 21 < n → RunsStore r next left m (recoveringOf n w bytes) s store area l
+            pub recover-said : (left m : List ℕ) → 21 < n → ((o : Bus) → ran (after r o next left) m ≡ runOf (recoveringOf n w bytes) (world s o store area) l)
                 → ran (after r b next left) m ≡ runOf (callOf w bytes) handed l
             unfolding callOf
             recover-said left m n21 h = ran-said (recoveringOf n w bytes) (callOf w bytes) handed _ l (rw (← en) (search chain depth 20)) (h b)
 
 -- what was lent before is s, b, store, area, out and l, and after it s', b', store', area', out' and l'
 module _ (s call bytes out l s' out' l' area area' : List ℕ) (b b' : Bus) (store store' : Store) where
-  abbrev left : Done
-  left = done 0 (keptOf s') b' store' area' out' l'
+  abbrev before : Lent
+  before = lent (keptOf s) b store area out l
 
-  abbrev wroteBy : Session → Done
-  wroteBy before = wrote (runOf (callOf call bytes) (world before b store area) l) s out
+  abbrev left : Lent
+  left = lent (keptOf s') b' store' area' out' l'
 
-  pub answer-done : (before : Session) (x : Outcome) → before ≡ sessionOf s
-      → ran (after x b' store' area') l' ≡ runOf (callOf call bytes) (world before b store area) l → keptOf s' ≡ keptAs s (x .session)
-      → out' ≡ written (answerWords (x .answer)) out → left ≡ wroteBy (sessionOf s)
-  answer-done before x es h ek eo =
-      ap (λ (o : Kept). done 0 o b' store' area' out' l') ek
-      ∙ ap (λ (o : List ℕ). done 0 (keptAs s (x .session)) b' store' area' o l') eo
-      ∙ ap (λ (o : Ran). wrote o s out) h
-      ∙ ap wroteBy es
+  pub answer-done : (v : Session) (x : Outcome) → v ≡ sessionOf s
+      → ran (after x b' store' area') l' ≡ runOf (callOf call bytes) (world v b store area) l → keptOf s' ≡ keptAs s (x .session)
+      → out' ≡ written (answerWords (x .answer)) out → left ≡ ranOn (callOf call bytes) before
+  unfolding keptOf
+  answer-done v x es h ek eo =
+      ap (λ (o : Kept). lent o b' store' area' out' l') ek
+      ∙ ap (λ (o : List ℕ). lent (keptAs s (x .session)) b' store' area' o l') eo
+      ∙ ap (λ (o : Ran). wrote o before) h
+      ∙ ap (λ (o : Session). wrote (runOf (callOf call bytes) (world o b store area) l) before) es
 
   pub apply-done : (t u : Bool) → t ≡ isCall call → not t ≡ false → u ≡ isSession s → not u ≡ false → 32 ≤ length out → 386 ≤ length l
-      → left ≡ wroteBy (sessionOf s) → left ≡ dispatchOf s b store area call bytes out l
-  unfolding runOf dispatchOf
+      → left ≡ ranOn (callOf call bytes) before → done 0 left ≡ dispatchOf call bytes before
+  unfolding runOf dispatchOf keptOf
   apply-done t u et nt eu nu k k' h =
       let c = callOf call bytes in
       let v = world (sessionOf s) b store area in
-      let z : left ≡ answered c v s out l = h ∙ ap (λ (o : List ℕ). wrote (ran (stepOf c v) o) s out) (sym (lists-put c v l k')) in
+      let e : left ≡ answered c before = h ∙ ap (λ (o : List ℕ). wrote (ran (stepOf c v) o) before) (sym (lists-put c v l k')) in
+      let z : done 0 left ≡ done 0 (answered c before) = ap (done 0) e in
       search (chain, z) depth 20
 
 -- a call that leaves the session as it is leaves its words
-pub session-left : (c : Call) (v : World) (s out l : List ℕ) → isSession s ≡ true → stepOf c v .result .session ≡ sessionOf s
-    → answered c v s out l .session ≡ keptOf s
-session-left c v s out l h e = ap (keptAs s) e ∙ written-same s h
+pub session-left : (c : Call) (l : Lent) → isSession (l .kept .words) ≡ true → stepOf c (worldOf l) .result .session ≡ sessionOf (l .kept .words)
+    → answered c l .kept ≡ keptOf (l .kept .words)
+session-left c l h e = ap (keptAs (l .kept .words)) e ∙ written-same (l .kept .words) h

@@ -6,6 +6,7 @@ use lib.ListN.{length}
 use Rattle.chain.proofs.Chain.{chain}
 use Rattle.models.specs.declared.RequestId.{RequestId}
 use Rattle.rows.specs.Store.{storeOf}
+use Rattle.bus.specs.Tables.{Bus}
 use Rattle.rules.specs.declared.Change as rules
 use Rattle.rules.specs.declared.Change.the-variants as change
 use Rattle.session.specs.Sizes.{rowsFit}
@@ -16,9 +17,8 @@ use Rattle.reports.specs.declared.Reported.{Reported}
 use Rattle.calls.specs.Answers.{outcome, ofReport}
 use Rattle.calls.specs.Calls.{Changing, Cancel, Timeout, Reclaim, Change}
 use Rattle.session_words.specs.State.{readRequestId}
-use Rattle.calls.specs.Step.{world, changeBy, stepOf}
+use Rattle.calls.specs.Step.{world, after, changeBy, stepOf}
 use Rattle.calls.specs.declared.Outcome.{Outcome}
-use Rattle.dispatch.specs.Apply.{StepsRows}
 use Rattle.call_words.specs.Decode.{changingOf}
 use Rattle.dispatch.proofs.Steps.{said, reported}
 
@@ -28,7 +28,7 @@ module _ (n : ℕ) (s : Session) (l k w : List ℕ) (id : RequestId) (x : Report
   Changes c = reportedTo x (storeOf k) ≡ changeOf s (rowsFit (s .«row_count») (s .«row_bytes») (length l)) id c (storeOf l)
 
   abbrev Steps : Type 0
-  Steps = StepsRows r (storeOf k) (changingOf n w) s (storeOf l)
+  Steps = (b : Bus) (area : List ℕ) → after r b (storeOf k) area ≡ stepOf (changingOf n w) (world s b (storeOf l) area)
 
   changed : (c : Changing) → Change (readRequestId w 1) c ≡ changingOf n w → Changes (changeBy c) → Steps
   unfolding stepOf storeOf

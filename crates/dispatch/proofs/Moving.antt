@@ -8,6 +8,7 @@ use Rattle.words.specs.Words.{optionU64Of}
 use Rattle.words.specs.declared.OptionU64.{OptionU64}
 use Rattle.models.specs.declared.OptionError.{OptionError}
 use Rattle.rows.specs.Store.{storeOf}
+use Rattle.bus.specs.Tables.{Bus}
 use Rattle.session.specs.Lifecycle.{CalledTo, calledTo, acquireOf, initializeOf, closeOf}
 use Rattle.session.specs.Sizes.{rowsFit}
 use Rattle.session.specs.declared.Called.{Called}
@@ -19,20 +20,22 @@ use Rattle.call_words.specs.Arguments.{readAcquireReply}
 use Rattle.calls.specs.Calls.{Acquire, Initialize, Close, Move}
 use Rattle.calls.specs.Step.{world, after, closes, movedOf, stepOf}
 use Rattle.calls.specs.declared.Outcome.{Outcome}
-use Rattle.dispatch.specs.Apply.{StepsRows}
 use Rattle.call_words.specs.Decode.{movingOf}
 use Rattle.dispatch.proofs.Steps.{said, moved}
 
 module _ (n : ℕ) (s : Session) (l w : List ℕ) (x : Called) (r : Outcome) (er : r ≡ outcome (ofVerdict (x .answer)) (x .session)) where
-  pub acquire-step : (reply : AcquireReply) → reply ≡ readAcquireReply w → n ≡ 5 → x ≡ acquireOf s reply
-      → StepsRows r (storeOf l) (movingOf n w) s (storeOf l)
+  -- k is what the rows are afterwards
+  abbrev Steps : List ℕ → Type 0
+  Steps k = (b : Bus) (area : List ℕ) → after r b (storeOf k) area ≡ stepOf (movingOf n w) (world s b (storeOf l) area)
+
+  pub acquire-step : (reply : AcquireReply) → reply ≡ readAcquireReply w → n ≡ 5 → x ≡ acquireOf s reply → Steps l
   unfolding stepOf movedOf movingOf
   acquire-step reply ea e h b area =
       let v = world s b (storeOf l) area in
       said (Move (Acquire reply)) (movingOf n w) v _ (search (chain, ap (λ (z : AcquireReply). Move (Acquire z)) ea) depth 20) (moved r (storeOf l) v x _ er h)
 
   module _ (n5 : n ≡ 5 → ⊥) (reply : OptionError) where
-    pub initialize-step : reply ≡ readOptionError w 1 → n ≡ 6 → x ≡ initializeOf s reply → StepsRows r (storeOf l) (movingOf n w) s (storeOf l)
+    pub initialize-step : reply ≡ readOptionError w 1 → n ≡ 6 → x ≡ initializeOf s reply → Steps l
     unfolding stepOf movedOf movingOf
     initialize-step ea e h b area =
         let v = world s b (storeOf l) area in
@@ -40,8 +43,7 @@ module _ (n : ℕ) (s : Session) (l w : List ℕ) (x : Called) (r : Outcome) (er
 
     pub close-step : (k : List ℕ) (p q : ℕ) (fresh : OptionU64) → p ≡ getD w 1 0 → q ≡ getD w 2 0 → fresh ≡ optionU64Of p q
         → reply ≡ readOptionError w 3 → (n ≡ 6 → ⊥)
-        → calledTo x (storeOf k) ≡ closeOf s (rowsFit (s .«row_count») (s .«row_bytes») (length l)) fresh reply (storeOf l)
-        → StepsRows r (storeOf k) (movingOf n w) s (storeOf l)
+        → calledTo x (storeOf k) ≡ closeOf s (rowsFit (s .«row_count») (s .«row_bytes») (length l)) fresh reply (storeOf l) → Steps k
     unfolding stepOf movedOf storeOf movingOf
     close-step k p q fresh ep eq ef ea n6 h b area =
         let v = world s b (storeOf l) area in

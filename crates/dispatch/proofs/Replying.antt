@@ -8,6 +8,7 @@ use Rattle.chain.proofs.Chain.{chain}
 use Rattle.models.specs.declared.RequestId.{RequestId}
 use Rattle.rows.specs.Store.{storeOf}
 use Rattle.rows.specs.Table.{rowsOf}
+use Rattle.bus.specs.Tables.{Bus}
 use Rattle.session.specs.Sizes.{rowsFit, areaFits}
 use Rattle.session.specs.declared.Session.{Session}
 use Rattle.reports.specs.Answers.{reportedTo}
@@ -24,15 +25,17 @@ use Rattle.calls.specs.Calls.{Poll, ToSubmit, ToPoll, Begin, Reply}
 use Rattle.session_words.specs.State.{readRequestId}
 use Rattle.calls.specs.Step.{world, after, polls, finishes, begunOf, repliedOf, stepOf}
 use Rattle.calls.specs.declared.Outcome.{Outcome}
-use Rattle.dispatch.specs.Apply.{StepsStore}
 use Rattle.call_words.specs.Decode.{replyingOf}
 use Rattle.dispatch.proofs.Steps.{said, reported}
 
 module _ (n : ℕ) (s : Session) (l w bytes area : List ℕ) (r : Outcome) where
+  -- k and left are what the rows and the area are afterwards
+  abbrev Steps : List ℕ → List ℕ → Type 0
+  Steps k left = (b : Bus) → after r b (storeOf k) left ≡ stepOf (replyingOf n w bytes) (world s b (storeOf l) area)
+
   pub submit-reply-step : (k : List ℕ) (x : Reported) (reply : SubmitReply) → reply ≡ arguments.readSubmitReply w → n ≡ 10
       → r ≡ outcome (ofReport (x .answer)) (x .session)
-      → reportedTo x (storeOf k) ≡ submitReplyOf s (rowsFit (s .«row_count») (s .«row_bytes») (length l)) reply (storeOf l)
-      → StepsStore r (storeOf k) area (replyingOf n w bytes) s (storeOf l) area
+      → reportedTo x (storeOf k) ≡ submitReplyOf s (rowsFit (s .«row_count») (s .«row_bytes») (length l)) reply (storeOf l) → Steps k area
   unfolding stepOf begunOf repliedOf storeOf replyingOf
   submit-reply-step k x reply ea e er h b =
       let v = world s b (storeOf l) area in
@@ -40,8 +43,7 @@ module _ (n : ℕ) (s : Session) (l w bytes area : List ℕ) (r : Outcome) where
 
   module _ (n10 : n ≡ 10 → ⊥) where
     pub poll-step : (x : Polled) (id : RequestId) → id ≡ readRequestId w 1 → n ≡ 11 → r ≡ outcome (ofPoll (x .answer)) (x .session)
-        → x ≡ pollOf s (rowsFit (s .«row_count») (s .«row_bytes») (length l)) id (rowsOf l)
-        → StepsStore r (storeOf l) area (replyingOf n w bytes) s (storeOf l) area
+        → x ≡ pollOf s (rowsFit (s .«row_count») (s .«row_bytes») (length l)) id (rowsOf l) → Steps l area
     unfolding stepOf begunOf repliedOf storeOf replyingOf
     poll-step x id ei e er h b =
         let v = world s b (storeOf l) area in
@@ -51,7 +53,7 @@ module _ (n : ℕ) (s : Session) (l w bytes area : List ℕ) (r : Outcome) where
     pub poll-reply-step : (k left : List ℕ) (x : Reported) (reply : PollReply) → reply ≡ arguments.readPollReply w → (n ≡ 11 → ⊥)
         → r ≡ outcome (ofReport (x .answer)) (x .session)
         → finishTo x (storeOf k) left ≡ finishOf s (rowsFit (s .«row_count») (s .«row_bytes») (length l) && areaFits (s .«row_count») (s .«row_bytes») (length area)) reply bytes (storeOf l) area
-        → StepsStore r (storeOf k) left (replyingOf n w bytes) s (storeOf l) area
+        → Steps k left
     unfolding stepOf begunOf repliedOf storeOf replyingOf
     poll-reply-step k left x reply ea n11 er h b =
         let v = world s b (storeOf l) area in

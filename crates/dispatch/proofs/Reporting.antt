@@ -21,15 +21,14 @@ use Rattle.calls.specs.Answers.{outcome, ofReport, ofNext, ofTally, ofPart}
 use Rattle.call_words.specs.Arguments.{readOptionId}
 use Rattle.calls.specs.Calls.{Reading, Status, Reports, CountReports, CompletedBytes, HeldCount, HeldBytes, Read}
 use Rattle.session_words.specs.State.{readRequestId}
-use Rattle.calls.specs.Step.{world, reads, readOf, stepOf}
+use Rattle.calls.specs.Step.{world, after, reads, readOf, stepOf}
 use Rattle.calls.specs.declared.Answer.{Answer}
-use Rattle.dispatch.specs.Apply.{StepsStore}
 use Rattle.call_words.specs.Decode.{reportingOf}
 use Rattle.dispatch.proofs.Steps.{said}
 
 module _ (n : ℕ) (s : Session) (l w area : List ℕ) where
   abbrev Steps : Answer → Type 0
-  Steps r = StepsStore (outcome r s) (storeOf l) area (reportingOf n w) s (storeOf l) area
+  Steps r = (b : Bus) → after (outcome r s) b (storeOf l) area ≡ stepOf (reportingOf n w) (world s b (storeOf l) area)
 
   abbrev fits : Bool
   fits = rowsFit (s .«row_count») (s .«row_bytes») (length l)

@@ -1,9 +1,7 @@
 // The C boundary: functions over numbers and slices. Each slice is a pointer and a length. include/tapewoad.h has their prototypes.
 ghost use mathlib.Core.Path.{_≡_};
-ghost use Rattle.rows.specs.Store.{storeOf};
-ghost use Rattle.bus.specs.Tables.{busOf};
-ghost use Rattle.session_words.specs.State.{keptOf};
 ghost use Rattle.dispatch.specs.Apply.{done, dispatchOf};
+ghost use Rattle.dispatch.specs.Slices.{lentIn, lentOut};
 ghost use Rattle.tapewoad.specs.Version.{version};
 
 #[no_mangle]
@@ -17,7 +15,8 @@ pub extern "C" fn tapewoad_apply(
     out: &mut [u64],
     lists: &mut [u64],
 ) -> u64
-    ensures { λ r. ⌜ done r (keptOf (now (session .exit))) (busOf (now (bus .exit))) (storeOf (now (rows .exit))) (now (area .exit)) (now (out .exit)) (now (lists .exit)) ≡ dispatchOf (now (session .entry)) (busOf (now (bus .entry))) (storeOf (now (rows .entry))) (now (area .entry)) (now (call .entry)) (now (bytes .entry)) (now (out .entry)) (now (lists .entry)) ⌝ }
+    ensures { λ r. ⌜ done r (lentOut session bus rows area out lists)
+        ≡ dispatchOf (now (call .entry)) (now (bytes .entry)) (lentIn session bus rows area out lists) ⌝ }
 {
     dispatch::apply(session, bus, rows, area, call, bytes, out, lists)
 }

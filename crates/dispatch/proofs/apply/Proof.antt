@@ -1,4 +1,5 @@
 use Rattle.chain.proofs.Chain.{chain}
+use Rattle.session_words.specs.State.{keptOf}
 use Rattle.dispatch.specs.Apply.{dispatchOf}
 use Rattle.dispatch.proofs.Applying.{apply-done}
 use borrow.Author.Needs.{needs}
@@ -6,7 +7,7 @@ use Rattle.dispatch.proofs.apply.Statement.{statement}
 use Rattle.dispatch.proofs.apply.Tie as tie
 
 pub apply-spec : {M : Type 1} → statement M
-unfolding dispatchOf
+unfolding dispatchOf keptOf
 apply-spec =
     tie.close
     (tie.spec

@@ -1,7 +1,7 @@
 use Rattle.dispatch.proofs.Replying.{submit-reply-step, poll-step, poll-reply-step}
 use borrow.Author.Needs.{needs}
-use Rattle.dispatch.proofs.reply_call.Statement.{statement}
-use Rattle.dispatch.proofs.reply_call.Tie as tie
+use Rattle.dispatch.proofs.requests.reply_call.Statement.{statement}
+use Rattle.dispatch.proofs.requests.reply_call.Tie as tie
 
 returns : tie.Need-returns
 returns c = search submit-reply-step

@@ -1,7 +1,7 @@
 use Rattle.dispatch.proofs.Changing.{cancel-step, timeout-step, reclaim-step}
 use borrow.Author.Needs.{needs}
-use Rattle.dispatch.proofs.change_call.Statement.{statement}
-use Rattle.dispatch.proofs.change_call.Tie as tie
+use Rattle.dispatch.proofs.requests.change_call.Statement.{statement}
+use Rattle.dispatch.proofs.requests.change_call.Tie as tie
 
 returns : tie.Need-returns
 returns c = search cancel-step

@@ -1,7 +1,7 @@
 use Rattle.dispatch.proofs.Placing.{open-step, device-step, port-step, endpoints-step, reconcile-step}
 use borrow.Author.Needs.{needs}
-use Rattle.dispatch.proofs.place_call.Statement.{statement}
-use Rattle.dispatch.proofs.place_call.Tie as tie
+use Rattle.dispatch.proofs.controller.place_call.Statement.{statement}
+use Rattle.dispatch.proofs.controller.place_call.Tie as tie
 
 returns : tie.Need-returns
 returns c = search open-step

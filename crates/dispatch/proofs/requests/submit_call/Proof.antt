@@ -1,7 +1,7 @@
 use Rattle.dispatch.proofs.Submitting.{submit-step, plan-step}
 use borrow.Author.Needs.{needs}
-use Rattle.dispatch.proofs.submit_call.Statement.{statement}
-use Rattle.dispatch.proofs.submit_call.Tie as tie
+use Rattle.dispatch.proofs.requests.submit_call.Statement.{statement}
+use Rattle.dispatch.proofs.requests.submit_call.Tie as tie
 
 returns : tie.Need-returns
 returns c =

@@ -1,7 +1,7 @@
 use Rattle.dispatch.proofs.Moving.{acquire-step, initialize-step, close-step}
 use borrow.Author.Needs.{needs}
-use Rattle.dispatch.proofs.move_call.Statement.{statement}
-use Rattle.dispatch.proofs.move_call.Tie as tie
+use Rattle.dispatch.proofs.controller.move_call.Statement.{statement}
+use Rattle.dispatch.proofs.controller.move_call.Tie as tie
 
 returns : tie.Need-returns
 returns c = search acquire-step

@@ -1,7 +1,7 @@
 use Rattle.dispatch.proofs.Reporting.{status-step, reports-step, count-step, bytes-step, held-count-step, held-bytes-step}
 use borrow.Author.Needs.{needs}
-use Rattle.dispatch.proofs.report_answer.Statement.{statement}
-use Rattle.dispatch.proofs.report_answer.Tie as tie
+use Rattle.dispatch.proofs.requests.report_answer.Statement.{statement}
+use Rattle.dispatch.proofs.requests.report_answer.Tie as tie
 
 returns : tie.Need-returns
 returns c = search status-step

@@ -1,7 +1,7 @@
 use Rattle.dispatch.proofs.Recovering.{replied-run, abort-run, reset-run}
 use borrow.Author.Needs.{needs}
-use Rattle.dispatch.proofs.recover_call.Statement.{statement}
-use Rattle.dispatch.proofs.recover_call.Tie as tie
+use Rattle.dispatch.proofs.requests.recover_call.Statement.{statement}
+use Rattle.dispatch.proofs.requests.recover_call.Tie as tie
 
 pub recover-call-spec : {M : Type 1} → statement M
 recover-call-spec =

@@ -1,7 +1,7 @@
 use Rattle.dispatch.proofs.Recovering.{reply-run}
 use borrow.Author.Needs.{needs}
-use Rattle.dispatch.proofs.recovered.Statement.{statement}
-use Rattle.dispatch.proofs.recovered.Tie as tie
+use Rattle.dispatch.proofs.requests.recovered.Statement.{statement}
+use Rattle.dispatch.proofs.requests.recovered.Tie as tie
 
 pub recovered-spec : {M : Type 1} → statement M
 recovered-spec =

@@ -1,0 +1,74 @@
+// Calls 0 to 7: opening, the placing calls, and those that move the controller's state.
+use call_words::arguments;
+use calls::Outcome;
+use calls::answers;
+use scope::returned;
+use session::Session;
+use session::lifecycle;
+use session::place;
+use words::slices;
+use words::slices::word_at;
+ghost use mathlib.Core.Path.{_≡_};
+ghost use Prim.Native.Nat.{_%_, _^_};
+ghost use lib.ListN.{getD};
+ghost use Rattle.session.specs.Lent.{storeOut, busOut};
+ghost use Rattle.calls.specs.Step.{after, stepOf};
+ghost use Rattle.call_words.specs.Decode.{placingOf, movingOf};
+ghost use Rattle.dispatch.specs.Slices.{worldIn, StepsRows};
+
+fn byte_at(w: &[u64], i: usize) -> u8
+    ensures { λ r. ⌜ r ≡ getD (now (w .entry)) i 0 % 2 ^ 8 ⌝ }
+{
+    (word_at(w, i) % 256) as u8
+}
+
+// 0 to 4: opening and the placing calls.
+pub fn place_call(
+    number: u64,
+    session: Session,
+    bus: &mut [u64],
+    rows: &mut [u64],
+    area: &[u8],
+    call: &[u64],
+) -> Outcome
+    ensures { λ r. ⌜ after r (busOut bus) (storeOut rows) (now (area .entry))
+        ≡ stepOf (placingOf number (now (call .entry))) (worldIn session bus rows area) ⌝ }
+{
+    if number == 0 {
+        let o = arguments::opening(call);
+        let opened = lifecycle::open(o, rows, area, bus);
+        return answers::of_opened(opened, session);
+    }
+    let at = byte_at(call, 1);
+    if number == 1 {
+        let device = arguments::snapshot(call);
+        return answers::of_placed(place::set_device(session, bus, device), session);
+    }
+    if number == 2 {
+        let row = arguments::port_row(call);
+        return answers::of_placed(place::set_port(session, bus, at, row), session);
+    }
+    if number == 3 {
+        let list = slices::rest(call, 2);
+        return answers::of_placed(place::set_endpoints(session, bus, at, list), session);
+    }
+    let mark = words::to_flag(word_at(call, 2));
+    answers::of_placed(place::set_reconcile(session, bus, at, mark), session)
+}
+
+// 5 to 7: the calls that move the controller's state, whatever the bus and the area.
+pub fn move_call(number: u64, session: Session, rows: &mut [u64], call: &[u64]) -> Outcome
+    ensures { λ r. ⌜ StepsRows r (movingOf number (now (call .entry))) session rows ⌝ }
+{
+    if number == 5 {
+        let reply = arguments::acquire_reply(call);
+        return answers::of_called(lifecycle::acquire(session, reply));
+    }
+    if number == 6 {
+        let reply = returned::option_error_at(call, 1);
+        return answers::of_called(lifecycle::initialize(session, reply));
+    }
+    let fresh = words::to_option_u64(word_at(call, 1), word_at(call, 2));
+    let reply = returned::option_error_at(call, 3);
+    answers::of_called(lifecycle::close(session, rows, fresh, reply))
+}

@@ -1,0 +1,188 @@
+// Calls 8 to 24: requests, what is reported of them, and recoveries.
+use answer_words::lists;
+use call_words::arguments;
+use calls::Answer;
+use calls::Outcome;
+use calls::answers;
+use polls::finish;
+use polls::poll;
+use recovery::begin;
+use reports::change;
+use reports::status;
+use session::Session;
+use session_words::state;
+use submissions::reply;
+use submissions::submit;
+use words::slices;
+use words::slices::word_at;
+ghost use mathlib.Core.Path.{_≡_};
+ghost use Rattle.calls.specs.Answers.{outcome};
+ghost use Rattle.calls.specs.Step.{stepOf};
+ghost use Rattle.call_words.specs.Decode.{submissionOf, replyingOf, changingOf, reportingOf, recoveringOf};
+ghost use Rattle.dispatch.specs.Slices.{worldIn, afterOut, StepsRows, StepsStore, ReadsStore, RunsStore};
+
+// 8 and 9: submissions.
+pub fn submit_call(
+    number: u64,
+    session: Session,
+    bus: &mut [u64],
+    rows: &mut [u64],
+    area: &mut [u8],
+    call: &[u64],
+    bytes: &[u8],
+) -> Outcome
+    ensures { λ r. ⌜ afterOut r bus rows area
+        ≡ stepOf (submissionOf number (now (call .entry)) (now (bytes .entry))) (worldIn session bus rows area) ⌝ }
+{
+    let first = arguments::reading_at(call, 14);
+    if number == 8 {
+        let q = arguments::spec(call);
+        let given = words::to_flag(word_at(call, 26));
+        let packets = slices::rest(call, 27);
+        let second = arguments::reading_at(call, 20);
+        return answers::of_submitted(submit::submit_request_packets(
+            session,
+            bus,
+            rows,
+            area,
+            q,
+            bytes,
+            given,
+            packets,
+            first,
+            second,
+        ));
+    }
+    let q = arguments::plan(call);
+    answers::of_planned(submit::submit_control_plan(session, bus, rows, area, q, bytes, first))
+}
+
+// 10 to 12: their replies, and polls, whatever the bus.
+pub fn reply_call(
+    number: u64,
+    session: Session,
+    rows: &mut [u64],
+    area: &mut [u8],
+    call: &[u64],
+    bytes: &[u8],
+) -> Outcome
+    ensures { λ r. ⌜ StepsStore r (replyingOf number (now (call .entry)) (now (bytes .entry))) session rows area ⌝ }
+{
+    if number == 10 {
+        let answer = arguments::submit_reply(call);
+        return answers::of_reported(reply::submit_reply(session, rows, answer));
+    }
+    if number == 11 {
+        let id = state::id_at(call, 1);
+        return answers::of_polled(poll::poll_request(session, rows, id));
+    }
+    let answer = arguments::poll_reply(call);
+    answers::of_reported(finish::poll_reply(session, rows, area, answer, bytes))
+}
+
+// 13 to 15: changes of one request, whatever the bus and the area.
+pub fn change_call(number: u64, session: Session, rows: &mut [u64], call: &[u64]) -> Outcome
+    ensures { λ r. ⌜ StepsRows r (changingOf number (now (call .entry))) session rows ⌝ }
+{
+    let id = state::id_at(call, 1);
+    if number == 13 {
+        return answers::of_reported(change::logical_cancel_request(session, rows, id));
+    }
+    if number == 14 {
+        return answers::of_reported(change::timeout_request(session, rows, id));
+    }
+    answers::of_reported(change::reclaim_request(session, rows, id))
+}
+
+// 16 to 21: what leaves all as it is, whatever the bus.
+pub fn report_call(
+    number: u64,
+    session: Session,
+    rows: &[u64],
+    area: &[u8],
+    call: &[u64],
+) -> Outcome
+    ensures { λ r. ⌜ ReadsStore r (reportingOf number (now (call .entry))) session rows area ⌝ }
+{
+    let answer = report_answer(number, session, rows, area, call);
+    Outcome { answer, session }
+}
+
+fn report_answer(number: u64, session: Session, rows: &[u64], area: &[u8], call: &[u64]) -> Answer
+    ensures { λ r. ⌜ ReadsStore (outcome r session) (reportingOf number (now (call .entry))) session rows area ⌝ }
+{
+    let id = state::id_at(call, 1);
+    if number == 16 {
+        return answers::of_report(status::request_status(session, rows, id));
+    }
+    if number == 17 {
+        let after = arguments::option_id(call);
+        return answers::of_next(status::request_reports(session, rows, after));
+    }
+    if number == 18 {
+        return answers::of_tally(status::count_reports(session, rows));
+    }
+    if number == 19 {
+        return answers::of_part(status::completed_part(session, rows, area.len(), id));
+    }
+    if number == 20 {
+        return answers::of_tally(status::held_count(session, rows));
+    }
+    answers::of_tally(status::held_bytes(session, rows))
+}
+
+// 22 to 24: recoveries, whatever the bus.
+pub fn recover_call(
+    number: u64,
+    session: Session,
+    rows: &mut [u64],
+    area: &mut [u8],
+    call: &[u64],
+    bytes: &[u8],
+    lists: &mut [u64],
+) -> Outcome
+    ensures { λ r. ⌜ RunsStore r (recoveringOf number (now (call .entry)) (now (bytes .entry)))
+        session rows area lists ⌝ }
+{
+    let id = state::id_at(call, 1);
+    if number == 22 {
+        let begun = begin::abort_request(session, rows, id);
+        lists::write_begun(lists, begun);
+        return answers::of_begun(begun);
+    }
+    if number == 23 {
+        let preserve = words::to_flag(word_at(call, 4));
+        let begun = begin::reset_endpoint_request(session, rows, id, preserve);
+        lists::write_begun(lists, begun);
+        return answers::of_begun(begun);
+    }
+    recovered(session, rows, area, call, bytes, lists)
+}
+
+fn recovered(
+    session: Session,
+    rows: &mut [u64],
+    area: &mut [u8],
+    call: &[u64],
+    bytes: &[u8],
+    lists: &mut [u64],
+) -> Outcome
+    ensures { λ r. ⌜ RunsStore r (recoveringOf 24 (now (call .entry)) (now (bytes .entry))) session rows area lists ⌝ }
+{
+    let answer = arguments::backend_abort(call);
+    let tokens = arguments::completed(call);
+    let completions = arguments::completions(call);
+    let aborted = arguments::aborted(call);
+    let recovered = recovery::reply::recovery_reply(
+        session,
+        rows,
+        area,
+        answer,
+        tokens,
+        completions,
+        aborted,
+        bytes,
+    );
+    lists::write_recovered(lists, recovered);
+    answers::of_recovered(recovered)
+}
