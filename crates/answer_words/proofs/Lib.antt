@@ -1,4 +1,2 @@
-pub mod Encoding
-pub mod Listing
 pub mod Room
 pub mod Told

@@ -36,11 +36,11 @@ use Rattle.recovery.specs.declared.Outcome.{Outcome}
 use Rattle.recovery.specs.declared.Recovery.{Recovery}
 use Rattle.recovery.specs.declared.RecoveryReply.{RecoveryReply}
 use Rattle.recovery.specs.declared.RecoveryReply.the-variants as reply
-use Rattle.scope.proofs.Scoping.{scope-few}
+use Rattle.scope.proofs.tokens.Laws.{scope-few}
 use Rattle.calls.specs.Calls.{Beginning, Submit, SubmitPlan, Poll, Recover, Replying, ToSubmit, ToPoll, ToRecovery, Call, Open, Place, Move, Begin, Reply, Change, Read}
 use Rattle.answer_words.specs.Lists.{listSize, idList, begunLists, recoveredLists, begunIn, repliedIn, listsOf, putLists}
 use Rattle.calls.specs.Step.{World}
-use Rattle.answer_words.proofs.Listing.{id-words-length, put-all}
+use Rattle.answer_words.proofs.lists.Laws.{id-words-length, put-all}
 
 -- ---- at most 128 requests are affected
 insert-length : (rows : List Row) (i : ℕ) (l : List ℕ) → length (insertRow rows i l) ≡ suc (length l)

@@ -1,5 +1,3 @@
-pub mod Tabled
-pub mod Observing
-pub mod Coded
-pub mod Listed
-pub mod Opened
+pub mod Tables
+pub mod Words
+pub mod Opening

@@ -15,6 +15,9 @@ ghost use Rattle.bus.specs.Layout.{busWords};
 ghost use Rattle.bus.specs.Tables.{busOf, portIndex, portAt, putPort};
 ghost use Rattle.bus.specs.Ports.{numberChecked, verdictTo, setPort, readingChecked, ofOpening, validatedRow, validated, raisedRow, observedRow, observedTo, observePort, freshTo, freshWord, freshReading, freshPort};
 
+// The greatest generation, 2^64 - 1.
+const LAST_GENERATION: u64 = 18446744073709551615;
+
 // A port that was validated, with its reading.
 pub enum PortChecked {
     Refused(Refusal),
@@ -137,7 +140,7 @@ fn validate(bus: &[u64], ports: OptionPorts, id: PortId) -> PortChecked
 fn raise(row: PortRow, raw: u32) -> Observed
     ensures { λ r. ⌜ r ≡ raisedRow row raw ⌝ }
 {
-    if row.generation == 18446744073709551615 {
+    if row.generation == LAST_GENERATION {
         return Observed::Refused(models::refuse(34));
     }
     Observed::To(PortRow {

@@ -1,6 +1,4 @@
-pub mod Forming
 pub mod Parts
-pub mod Reading
 pub mod Told
 pub mod PartWords
 pub mod CallWords

@@ -1,9 +1,2 @@
-pub mod Applying
-pub mod Changing
-pub mod Moving
-pub mod Placing
-pub mod Recovering
-pub mod Replying
-pub mod Reporting
+pub mod Dispatch
 pub mod Steps
-pub mod Submitting

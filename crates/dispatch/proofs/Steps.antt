@@ -11,7 +11,7 @@ use Rattle.calls.specs.Calls.{Call}
 use Rattle.answer_words.specs.Lists.{listsOf, putLists}
 use Rattle.calls.specs.Step.{World, After, after, moves, reports, stepOf}
 use Rattle.calls.specs.declared.Outcome.{Outcome}
-use Rattle.answer_words.proofs.Listing.{put-none}
+use Rattle.answer_words.proofs.lists.Laws.{put-none}
 use Rattle.dispatch.specs.Apply.{Ran, ran, runOf}
 
 -- the step of the call that the words say

@@ -4,15 +4,16 @@ use call_words::arguments;
 use calls::Answer;
 use calls::Outcome;
 use calls::answers;
-use polls::finish;
 use polls::poll;
+use polls::poll_reply;
 use recovery::begin;
 use reports::change;
 use reports::status;
 use session::Session;
 use session_words::state;
-use submissions::reply;
+use submissions::plan;
 use submissions::submit;
+use submissions::submit_reply;
 use words::slices;
 use words::slices::word_at;
 ghost use mathlib.Core.Path.{_≡_};
@@ -54,7 +55,7 @@ pub fn submit_call(
         ));
     }
     let q = arguments::plan(call);
-    answers::of_planned(submit::submit_control_plan(session, bus, rows, area, q, bytes, first))
+    answers::of_planned(plan::submit_control_plan(session, bus, rows, area, q, bytes, first))
 }
 
 // 10 to 12: their replies, and polls, whatever the bus.
@@ -70,14 +71,14 @@ pub fn reply_call(
 {
     if number == 10 {
         let answer = arguments::submit_reply(call);
-        return answers::of_reported(reply::submit_reply(session, rows, answer));
+        return answers::of_reported(submit_reply::submit_reply(session, rows, answer));
     }
     if number == 11 {
         let id = state::id_at(call, 1);
         return answers::of_polled(poll::poll_request(session, rows, id));
     }
     let answer = arguments::poll_reply(call);
-    answers::of_reported(finish::poll_reply(session, rows, area, answer, bytes))
+    answers::of_reported(poll_reply::poll_reply(session, rows, area, answer, bytes))
 }
 
 // 13 to 15: changes of one request, whatever the bus and the area.

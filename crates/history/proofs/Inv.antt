@@ -24,7 +24,7 @@ use Rattle.session.specs.declared.InFlight.the-variants as flight
 use Rattle.session.specs.declared.Session.{Session}
 use Rattle.reports.specs.Answers.{effect}
 use Rattle.scope.specs.Scope.{isAmong}
-use Rattle.scope.proofs.Scoping.{in-cons}
+use Rattle.scope.proofs.tokens.Laws.{in-cons}
 use Rattle.runs.specs.Run.{noted}
 use Rattle.runs.proofs.Held.{or-false}
 use Rattle.history.specs.Journal.{Entry, Journal, isEntry, entryOf, atEntry, atWaiting, endedWith, releasedAll}

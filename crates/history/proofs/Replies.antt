@@ -36,7 +36,7 @@ use Rattle.polls.specs.Finish.{failedAs, invalidAs, judgedTest, judgedBy, judge
 use Rattle.polls.specs.declared.Polled.{Polled}
 use Rattle.polls.specs.declared.PollReply.{PollReply}
 use Rattle.polls.specs.declared.PollReply.the-variants as poll
-use Rattle.polls.specs.declared.finish.Judgement.{Judgement}
+use Rattle.polls.specs.declared.poll_reply.Judgement.{Judgement}
 use Rattle.submissions.specs.Reply.{acceptedBy, discardedBy, submitReplyBy, submitReplyOf}
 use Rattle.submissions.specs.declared.SubmitReply.{SubmitReply}
 use Rattle.submissions.specs.declared.SubmitReply.the-variants as submit

@@ -40,7 +40,7 @@ use Rattle.session.specs.declared.Session.{Session}
 use Rattle.scope.specs.Affected.{isAffected, affectedOf, tokensOf}
 use Rattle.scope.specs.Scope.{isAmong, slotOf, meant, eachOnce, allIn, inScope}
 use Rattle.scope.specs.Returned.{Returned, returnedOf}
-use Rattle.scope.proofs.Scoping.{in-cons, in-append}
+use Rattle.scope.proofs.tokens.Laws.{in-cons, in-append}
 use Rattle.recovery.specs.Entries.{WalkTo, rowCompletedBy, testedBy, completeOne, abortedBy, abortOne}
 use Rattle.recovery.specs.Reports.{idLists}
 use Rattle.recovery.specs.Reply.{RecoveredTo, isWhole, applyAll, abortReport, concludedBy, scopedOf, recoveryReplyOf}

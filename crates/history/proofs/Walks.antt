@@ -28,7 +28,7 @@ use Rattle.checks.specs.declared.completion.CompletionTest.{CompletionTest}
 use Rattle.checks.specs.declared.completion.CompletionTest.the-variants as test
 use Rattle.scope.specs.Scope.{isAmong}
 use Rattle.scope.specs.Returned.{Returned}
-use Rattle.scope.proofs.Scoping.{in-cons}
+use Rattle.scope.proofs.tokens.Laws.{in-cons}
 use Rattle.recovery.specs.Entries.{WalkTo, rowCompletedBy, testedBy, completeOne, abortedBy, abortOne}
 use Rattle.recovery.specs.Reply.{applyAll}
 use Rattle.runs.proofs.Held.{or-false}

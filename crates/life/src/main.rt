@@ -14,8 +14,8 @@ use models::RequestId;
 use models::RequestSpec;
 use models::TransferType;
 use polls::PollReply;
-use polls::finish;
 use polls::poll;
+use polls::poll_reply;
 use reports::OptionId;
 use reports::change;
 use reports::status;
@@ -27,8 +27,8 @@ use session::lifecycle::Opening;
 use session::place;
 use submissions::SubmitReply;
 use submissions::Submitted;
-use submissions::reply;
 use submissions::submit;
+use submissions::submit_reply;
 use texts::print;
 use words::OptionI32;
 use words::OptionU32;
@@ -138,7 +138,7 @@ fn ask(s: Session, bus: &mut [u64], rows: &mut [u64], area: &mut [u8], length: u
 
 // The second half.
 fn take(s: Session, rows: &mut [u64], r: SubmitReply) -> Session {
-    let x = reply::submit_reply(s, rows, r);
+    let x = submit_reply::submit_reply(s, rows, r);
     let answer = x.answer;
     show::reported(b"submit reply", answer);
     x.session
@@ -152,7 +152,7 @@ fn ask_poll(s: Session, rows: &[u64], sequence: u64) -> Session {
 }
 
 fn take_poll(s: Session, rows: &mut [u64], area: &mut [u8], r: PollReply, bytes: &[u8]) -> Session {
-    let x = finish::poll_reply(s, rows, area, r, bytes);
+    let x = poll_reply::poll_reply(s, rows, area, r, bytes);
     let answer = x.answer;
     show::reported(b"poll reply", answer);
     x.session
@@ -411,7 +411,7 @@ fn small_life() {
 // Both halves, not printed.
 fn hold(s: Session, bus: &mut [u64], rows: &mut [u64], area: &mut [u8]) -> Session {
     let r = submit_bulk(s, bus, rows, area, 1);
-    let x = reply::submit_reply(r.session, rows, SubmitReply::Token(1));
+    let x = submit_reply::submit_reply(r.session, rows, SubmitReply::Token(1));
     x.session
 }
 

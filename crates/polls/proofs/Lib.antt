@@ -1,3 +1,1 @@
-pub mod Polling
-pub mod Finishing
 pub mod Examples

@@ -44,7 +44,7 @@ use Rattle.polls.specs.declared.PollReply.{PollReply}
 use Rattle.polls.specs.declared.PollReply.the-variants as reply
 use Rattle.reports.specs.declared.Reported.{Reported}
 use Rattle.reports.specs.declared.ReportAnswer.the-variants as report
-use Rattle.polls.specs.declared.finish.Judgement.{Judgement}
+use Rattle.polls.specs.declared.poll_reply.Judgement.{Judgement}
 
 abbrev pub isRecovery : ErrorCategory → Bool
 isRecovery category.Validation = false

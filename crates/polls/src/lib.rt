@@ -5,8 +5,8 @@ use models::Refusal;
 use models::RequestReport;
 use session::Session;
 
-pub mod finish;
 pub mod poll;
+pub mod poll_reply;
 
 // A poll's answer: the report of a request that is not Pending, or the token to ask the backend for.
 pub enum PollAnswer {

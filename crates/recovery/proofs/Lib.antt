@@ -1,5 +1,2 @@
-pub mod Walking
-pub mod Placing
-pub mod Beginning
-pub mod Recovering
+pub mod Tokens
 pub mod Examples

@@ -1,4 +1,2 @@
-pub mod Fields
-pub mod Tabled
-pub mod Placed
-pub mod Scans
+pub mod Words
+pub mod Rows

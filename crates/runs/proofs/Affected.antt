@@ -16,7 +16,7 @@ use Rattle.rows.specs.declared.Row.{Row}
 use Rattle.scope.specs.Affected.{isAffected, comesBefore, insertRow, joined, affectedUpTo, affectedOf, tokensOf}
 use Rattle.scope.specs.Scope.{slotOf, isAmong, meant}
 use Rattle.scope.specs.Returned.{Returned, returnedAt, returnedOf}
-use Rattle.scope.proofs.Affecting.{affected-bounded}
+use Rattle.scope.proofs.affected.Laws.{affected-bounded}
 
 pub returned-tokens : (tokens words : List ℕ) → map (λ (e : Returned). e .token) (returnedOf tokens words) ≡ tokens
 unfolding returnedOf

@@ -31,7 +31,7 @@ use Rattle.reports.specs.Answers.{effect}
 use Rattle.polls.specs.Finish.{FinishTo, failedAs, invalidAs, judgedTest, judgedBy, judged, settled, finishAt, finishOf}
 use Rattle.polls.specs.declared.PollReply.{PollReply}
 use Rattle.polls.specs.declared.PollReply.the-variants as reply
-use Rattle.polls.specs.declared.finish.Judgement.{Judgement}
+use Rattle.polls.specs.declared.poll_reply.Judgement.{Judgement}
 use Rattle.calls.specs.Step.{World, world}
 use Rattle.runs.specs.Sound.{worldRow, FlightReady, Sound}
 use Rattle.runs.proofs.Moves.{Moves, Idle, stays, marked-moves, effect-moves, moves-on, marked-idle, effect-idle, marked-apart}

@@ -9,12 +9,12 @@ use lib.ListN.{length}
 use Rattle.chain.proofs.Chain.{if-by, both}
 use Rattle.rows.specs.Store.{storeOf, emptied}
 use Rattle.rows.specs.Table.{rowCount}
-use Rattle.rows.proofs.Placed.{length-rowsOf}
+use Rattle.rows.proofs.Rows.{length-rowsOf}
 use Rattle.bus.specs.Tables.{cleared}
 use Rattle.session.specs.Lifecycle.{OpenedTo, newSession, openOf}
 use Rattle.session.specs.Sizes.{sized, rowsFit, openFits}
 use Rattle.session.specs.declared.lifecycle.Opening.{Opening}
-use Rattle.session.proofs.Sized.{fit-rows}
+use Rattle.session.proofs.sizes.Laws.{fit-rows}
 use Rattle.calls.specs.Calls.{Call, Open, Place, Move, Acquire, Initialize, Close, Begin, Submit, SubmitPlan, Poll, Recover, Reply, ToSubmit, ToPoll, ToRecovery, Change, Read}
 use Rattle.calls.specs.Step.{World, world, opens, rowsMatch, areaMatches, storeMatches, movedOf, begunOf, repliedOf, changeBy, stepOf}
 use Rattle.calls.specs.declared.Answer.the-variants as answer

@@ -31,7 +31,7 @@ use Rattle.rules.specs.Rules.{spendSequence}
 use Rattle.ledger.specs.Search.{isFree}
 use Rattle.rules.specs.declared.Spent.{Spent}
 use Rattle.rules.specs.declared.Spent.the-variants as spent
-use Rattle.ledger.proofs.Placing.{free-row}
+use Rattle.ledger.proofs.Found.{free-row}
 use Rattle.bus.specs.Tables.{Bus, deviceAt, markAt}
 use Rattle.checks.specs.Packets.{packetsChecked}
 use Rattle.checks.specs.Plan.{planFacts, planChecked, planOf, planned}

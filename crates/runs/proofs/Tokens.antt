@@ -8,7 +8,7 @@ use lib.Dec.{eqb}
 use Rattle.chain.proofs.Chain.{caseB, both}
 use Rattle.scope.specs.Returned.{Returned}
 use Rattle.scope.specs.Scope.{isAmong, eachOnce, allIn, inScope}
-use Rattle.scope.proofs.Scoping.{in-cons}
+use Rattle.scope.proofs.tokens.Laws.{in-cons}
 
 abbrev pub tokensIn : List Returned → List ℕ
 tokensIn es = map (λ (e : Returned). e .token) es

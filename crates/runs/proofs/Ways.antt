@@ -23,7 +23,7 @@ use Rattle.rules.specs.Rules.{reportOf, changeRow}
 use Rattle.ledger.specs.Search.{isAt}
 use Rattle.ledger.specs.declared.Applied.the-variants as applied
 use Rattle.rules.specs.declared.Change.{Change}
-use Rattle.ledger.proofs.Placing.{found-row}
+use Rattle.ledger.proofs.Found.{found-row}
 use Rattle.session.specs.Session.{isBusy, isInitialized, mayRecover, withFlight, marked}
 use Rattle.session.specs.Start.{guarded}
 use Rattle.session.specs.declared.InFlight.{InFlight}

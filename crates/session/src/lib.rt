@@ -13,6 +13,9 @@ pub mod place;
 pub mod sizes;
 pub mod start;
 
+// The greatest revision, 2^64 - 1.
+const LAST_REVISION: u64 = 18446744073709551615;
+
 // What a poll found that a reset of the same endpoint may undo: document 01's stall note.
 pub struct RecoverableStall {
     pub revision: u64,
@@ -125,7 +128,7 @@ fn raise(revision: OptionU64) -> OptionU64
     let OptionU64::Some(n) = revision else {
         return OptionU64::None;
     };
-    if n == 18446744073709551615 {
+    if n == LAST_REVISION {
         return OptionU64::None;
     }
     OptionU64::Some(n + 1)

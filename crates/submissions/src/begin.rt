@@ -11,6 +11,8 @@ use models::Verdict;
 use models::kinds;
 use rules::Spent;
 use session::Session;
+use session::sizes;
+use session::start;
 use targets::target;
 use words::slices;
 ghost use mathlib.Core.Path.{_≡_};
@@ -18,7 +20,9 @@ ghost use Prim.Native.Nat.{_+_, _<_, _≤_};
 ghost use lib.ListN.{length};
 ghost use Rattle.rows.specs.Table.{rowsOf};
 ghost use Rattle.bus.specs.Layout.{busWords};
+ghost use Rattle.session.specs.Start.{readyOf};
 ghost use Rattle.session.specs.Lent.{rowsIn, storeIn, storeOut, busIn, busOut};
+ghost use Rattle.submissions.specs.Submit.{storeFits};
 ghost use Rattle.submissions.specs.Begin.{roomIn, newId, startRefused, startTo, writeOf, beginOf, targetTo, targetOf};
 
 // A submission that was handed over, with its id and row, or the refusal.
@@ -30,6 +34,16 @@ pub enum Start {
 pub struct Started {
     pub answer: Start,
     pub session: Session,
+}
+
+// 1; 3: rows, area or bus are of another size than the session records.
+pub(crate) fn ready(session: Session, words: usize, bytes: usize, bus_words: usize) -> Verdict
+    ensures { λ r. ⌜ r ≡ readyOf session (storeFits session words bytes «bus_words») ⌝ }
+{
+    let rows_fit = sizes::rows_fit(session.row_count, session.row_bytes, words);
+    let area_fits = sizes::area_fits(session.row_count, session.row_bytes, bytes);
+    let bus_fits = sizes::bus_fits(bus_words);
+    start::ready(session, rows_fit & area_fits & bus_fits)
 }
 
 pub(crate) fn start_refused(session: Session, refusal: Refusal) -> Started

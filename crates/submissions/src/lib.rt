@@ -8,8 +8,9 @@ use models::RequestMetadata;
 use session::Session;
 
 mod begin;
-pub mod reply;
+pub mod plan;
 pub mod submit;
+pub mod submit_reply;
 
 // What the backend is to do for a request. Its buffer is the first bytes of the row's part of the area; packets are the caller's list.
 pub struct Submission {

@@ -1,4 +1,4 @@
-use Rattle.bus.proofs.Opened.{Begun, begin-step, begin-end}
+use Rattle.bus.proofs.Opening.{Begun, begin-step, begin-end}
 use native.Mathlib.Omega.{arith}
 use lib.ListN.{length-set}
 use mathlib.Core.Path.{refl}

@@ -1,4 +1,4 @@
-use Rattle.bus.proofs.Opened.{opened}
+use Rattle.bus.proofs.Opening.{opened}
 use borrow.Author.Needs.{needs}
 use Rattle.bus.proofs.clear.Statement.{statement}
 use Rattle.bus.proofs.clear.Tie as tie

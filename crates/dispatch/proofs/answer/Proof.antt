@@ -1,5 +1,5 @@
 use borrow.Author.Needs.{needs}
-use Rattle.dispatch.proofs.Applying.{answer-done}
+use Rattle.dispatch.proofs.Dispatch.{answer-done}
 use Rattle.dispatch.proofs.answer.Statement.{statement}
 use Rattle.dispatch.proofs.answer.Tie as tie
 

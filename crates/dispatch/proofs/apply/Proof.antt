@@ -1,7 +1,7 @@
 use Rattle.chain.proofs.Chain.{chain}
 use Rattle.session_words.specs.State.{keptOf}
 use Rattle.dispatch.specs.Apply.{dispatchOf}
-use Rattle.dispatch.proofs.Applying.{apply-done}
+use Rattle.dispatch.proofs.Dispatch.{apply-done}
 use borrow.Author.Needs.{needs}
 use Rattle.dispatch.proofs.apply.Statement.{statement}
 use Rattle.dispatch.proofs.apply.Tie as tie

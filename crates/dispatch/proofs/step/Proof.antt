@@ -1,4 +1,4 @@
-use Rattle.dispatch.proofs.Applying.{place-said, move-said, submit-said, reply-said, change-said, report-said, recover-said}
+use Rattle.dispatch.proofs.Dispatch.{place-said, move-said, submit-said, reply-said, change-said, report-said, recover-said}
 use borrow.Author.Needs.{needs}
 use Rattle.dispatch.proofs.step.Statement.{statement}
 use Rattle.dispatch.proofs.step.Tie as tie

@@ -1,5 +1,5 @@
-use Rattle.ledger.proofs.Placing.{found-in}
-use Rattle.ledger.proofs.Applying.{apply-none, apply-no, apply-to}
+use Rattle.ledger.proofs.Found.{found-in}
+use Rattle.ledger.proofs.Changes.{apply-none, apply-no, apply-to}
 use Rattle.rows.specs.Store.{storeOf}
 use borrow.Author.Needs.{needs}
 use Rattle.ledger.proofs.apply.Statement.{statement}

@@ -1,5 +1,5 @@
 use borrow.Author.Needs.{needs}
-use Rattle.texts.proofs.Counting.{counted}
+use Rattle.texts.proofs.parse.Laws.{counted}
 use Rattle.replay.proofs.run_call.Statement.{statement}
 use Rattle.replay.proofs.run_call.Tie as tie
 

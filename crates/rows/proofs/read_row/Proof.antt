@@ -1,4 +1,4 @@
-use Rattle.rows.proofs.Placed.{row-at}
+use Rattle.rows.proofs.Rows.{row-at}
 use mathlib.Core.Path.{_∙_}
 use borrow.Author.Needs.{needs}
 use Rattle.rows.proofs.read_row.Statement.{statement}

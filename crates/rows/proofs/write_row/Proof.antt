@@ -1,4 +1,4 @@
-use Rattle.rows.proofs.Placed.{inside, put-row}
+use Rattle.rows.proofs.Rows.{inside, put-row}
 use denote.Ref.{now}
 use borrow.Author.Needs.{needs}
 use Rattle.rows.proofs.write_row.Statement.{statement}

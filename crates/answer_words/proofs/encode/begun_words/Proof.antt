@@ -1,4 +1,4 @@
-use Rattle.answer_words.proofs.Encoding.{begun-exact}
+use Rattle.answer_words.proofs.encode.Laws.{begun-exact}
 use borrow.Author.Needs.{needs}
 use Rattle.answer_words.proofs.encode.begun_words.Statement.{statement}
 use Rattle.answer_words.proofs.encode.begun_words.Tie as tie

@@ -1,4 +1,4 @@
-use Rattle.answer_words.proofs.Encoding.{bytes-exact}
+use Rattle.answer_words.proofs.encode.Laws.{bytes-exact}
 use borrow.Author.Needs.{needs}
 use Rattle.answer_words.proofs.encode.byte_words.Statement.{statement}
 use Rattle.answer_words.proofs.encode.byte_words.Tie as tie

@@ -1,4 +1,4 @@
-use Rattle.answer_words.proofs.Encoding.{metadata-exact}
+use Rattle.answer_words.proofs.encode.Laws.{metadata-exact}
 use borrow.Author.Needs.{needs}
 use Rattle.answer_words.proofs.encode.metadata_words.Statement.{statement}
 use Rattle.answer_words.proofs.encode.metadata_words.Tie as tie

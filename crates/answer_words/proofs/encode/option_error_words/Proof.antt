@@ -1,4 +1,4 @@
-use Rattle.answer_words.proofs.Encoding.{no-error-exact, some-error-exact}
+use Rattle.answer_words.proofs.encode.Laws.{no-error-exact, some-error-exact}
 use borrow.Author.Needs.{needs}
 use Rattle.answer_words.proofs.encode.option_error_words.Statement.{statement}
 use Rattle.answer_words.proofs.encode.option_error_words.Tie as tie

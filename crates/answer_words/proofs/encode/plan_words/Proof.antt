@@ -1,4 +1,4 @@
-use Rattle.answer_words.proofs.Encoding.{plan-exact}
+use Rattle.answer_words.proofs.encode.Laws.{plan-exact}
 use borrow.Author.Needs.{needs}
 use Rattle.answer_words.proofs.encode.plan_words.Statement.{statement}
 use Rattle.answer_words.proofs.encode.plan_words.Tie as tie

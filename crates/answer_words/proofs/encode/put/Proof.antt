@@ -1,6 +1,6 @@
 use Rattle.chain.proofs.Chain.{chain}
 use Rattle.answer_words.specs.Encode.{written}
-use Rattle.answer_words.proofs.Encoding.{put-on}
+use Rattle.answer_words.proofs.encode.Laws.{put-on}
 use borrow.Author.Needs.{needs}
 use Rattle.answer_words.proofs.encode.put.Statement.{statement}
 use Rattle.answer_words.proofs.encode.put.Tie as tie

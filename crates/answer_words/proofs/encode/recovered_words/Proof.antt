@@ -1,4 +1,4 @@
-use Rattle.answer_words.proofs.Encoding.{recovered-exact}
+use Rattle.answer_words.proofs.encode.Laws.{recovered-exact}
 use borrow.Author.Needs.{needs}
 use Rattle.answer_words.proofs.encode.recovered_words.Statement.{statement}
 use Rattle.answer_words.proofs.encode.recovered_words.Tie as tie

@@ -1,4 +1,4 @@
-use Rattle.answer_words.proofs.Encoding.{recovering-exact}
+use Rattle.answer_words.proofs.encode.Laws.{recovering-exact}
 use borrow.Author.Needs.{needs}
 use Rattle.answer_words.proofs.encode.recovering_words.Statement.{statement}
 use Rattle.answer_words.proofs.encode.recovering_words.Tie as tie

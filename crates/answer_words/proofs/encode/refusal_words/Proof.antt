@@ -1,4 +1,4 @@
-use Rattle.answer_words.proofs.Encoding.{refusal-exact}
+use Rattle.answer_words.proofs.encode.Laws.{refusal-exact}
 use borrow.Author.Needs.{needs}
 use Rattle.answer_words.proofs.encode.refusal_words.Statement.{statement}
 use Rattle.answer_words.proofs.encode.refusal_words.Tie as tie

@@ -1,4 +1,4 @@
-use Rattle.answer_words.proofs.Encoding.{report-exact}
+use Rattle.answer_words.proofs.encode.Laws.{report-exact}
 use borrow.Author.Needs.{needs}
 use Rattle.answer_words.proofs.encode.report_words.Statement.{statement}
 use Rattle.answer_words.proofs.encode.report_words.Tie as tie

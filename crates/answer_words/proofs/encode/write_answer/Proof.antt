@@ -1,5 +1,5 @@
 use borrow.Author.Needs.{needs}
-use Rattle.answer_words.proofs.Encoding.{answer-put}
+use Rattle.answer_words.proofs.encode.Laws.{answer-put}
 use Rattle.answer_words.proofs.encode.write_answer.Statement.{statement}
 use Rattle.answer_words.proofs.encode.write_answer.Tie as tie
 

@@ -3,7 +3,7 @@ use mathlib.Core.Path.{_≡_}
 use lib.ListN.{length, take}
 use Rattle.words.specs.Records.{splice}
 use Rattle.answer_words.specs.Lists.{idWords}
-use Rattle.answer_words.proofs.Listing.{ids-start, ids-on, ids-end}
+use Rattle.answer_words.proofs.lists.Laws.{ids-start, ids-on, ids-end}
 use borrow.Author.Needs.{needs}
 use Rattle.answer_words.proofs.lists.put_ids.Statement.{statement}
 use Rattle.answer_words.proofs.lists.put_ids.Tie as tie

@@ -1,4 +1,4 @@
-use Rattle.answer_words.proofs.Listing.{tokens-short, tokens-put}
+use Rattle.answer_words.proofs.lists.Laws.{tokens-short, tokens-put}
 use borrow.Author.Needs.{needs}
 use Rattle.answer_words.proofs.lists.put_tokens.Statement.{statement}
 use Rattle.answer_words.proofs.lists.put_tokens.Tie as tie

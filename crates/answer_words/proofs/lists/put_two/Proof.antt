@@ -1,4 +1,4 @@
-use Rattle.answer_words.proofs.Listing.{two-short, two-put}
+use Rattle.answer_words.proofs.lists.Laws.{two-short, two-put}
 use borrow.Author.Needs.{needs}
 use Rattle.answer_words.proofs.lists.put_two.Statement.{statement}
 use Rattle.answer_words.proofs.lists.put_two.Tie as tie

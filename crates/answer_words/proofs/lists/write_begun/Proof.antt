@@ -1,4 +1,4 @@
-use Rattle.answer_words.proofs.Listing.{begun-refused, begun-put}
+use Rattle.answer_words.proofs.lists.Laws.{begun-refused, begun-put}
 use borrow.Author.Needs.{needs}
 use Rattle.answer_words.proofs.lists.write_begun.Statement.{statement}
 use Rattle.answer_words.proofs.lists.write_begun.Tie as tie

@@ -1,4 +1,4 @@
-use Rattle.answer_words.proofs.Listing.{recovered-refused, recovered-put}
+use Rattle.answer_words.proofs.lists.Laws.{recovered-refused, recovered-put}
 use borrow.Author.Needs.{needs}
 use Rattle.answer_words.proofs.lists.write_recovered.Statement.{statement}
 use Rattle.answer_words.proofs.lists.write_recovered.Tie as tie

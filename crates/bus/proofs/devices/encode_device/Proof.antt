@@ -1,4 +1,4 @@
-use Rattle.bus.proofs.Coded.{device-encoded}
+use Rattle.bus.proofs.Words.{device-encoded}
 use borrow.Author.Needs.{needs}
 use Rattle.bus.proofs.devices.encode_device.Statement.{statement}
 use Rattle.bus.proofs.devices.encode_device.Tie as tie

@@ -1,4 +1,4 @@
-use Rattle.bus.proofs.Tabled.{mark-is}
+use Rattle.bus.proofs.Tables.{mark-is}
 use borrow.Author.Needs.{needs}
 use Rattle.bus.proofs.devices.needs_reconcile.Statement.{statement}
 use Rattle.bus.proofs.devices.needs_reconcile.Tie as tie

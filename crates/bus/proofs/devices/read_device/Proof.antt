@@ -1,4 +1,4 @@
-use Rattle.bus.proofs.Tabled.{device-none, device-some}
+use Rattle.bus.proofs.Tables.{device-none, device-some}
 use borrow.Author.Needs.{needs}
 use Rattle.bus.proofs.devices.read_device.Statement.{statement}
 use Rattle.bus.proofs.devices.read_device.Tie as tie

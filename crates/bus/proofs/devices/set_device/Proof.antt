@@ -1,4 +1,4 @@
-use Rattle.bus.proofs.Tabled.{put-device}
+use Rattle.bus.proofs.Tables.{put-device}
 use borrow.Author.Needs.{needs}
 use Rattle.bus.proofs.devices.set_device.Statement.{statement}
 use Rattle.bus.proofs.devices.set_device.Tie as tie

@@ -1,4 +1,4 @@
-use Rattle.bus.proofs.Tabled.{put-mark}
+use Rattle.bus.proofs.Tables.{put-mark}
 use borrow.Author.Needs.{needs}
 use Rattle.bus.proofs.devices.set_reconcile.Statement.{statement}
 use Rattle.bus.proofs.devices.set_reconcile.Tie as tie

@@ -1,5 +1,5 @@
 use native.Mathlib.Omega.{arith}
-use Rattle.bus.proofs.Coded.{word-small}
+use Rattle.bus.proofs.Words.{word-small}
 use borrow.Author.Needs.{needs}
 use Rattle.bus.proofs.endpoints.endpoint_word.Statement.{statement}
 use Rattle.bus.proofs.endpoints.endpoint_word.Tie as tie

@@ -1,4 +1,4 @@
-use Rattle.bus.proofs.Listed.{search-on, search-here, search-none}
+use Rattle.bus.proofs.endpoints.Laws.{search-on, search-here, search-none}
 use Rattle.bus.specs.Tables.{busOf, endpointsAt}
 use Rattle.chain.specs.Lists.{find}
 use lib.Dec.{eqb}

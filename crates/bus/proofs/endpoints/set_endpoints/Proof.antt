@@ -1,7 +1,7 @@
 use mathlib.Core.Path.{_∙_}
 use native.Mathlib.Omega.{arith}
 use lib.ListN.{length-set}
-use Rattle.bus.proofs.Listed.{endpoints-over, endpoints-set}
+use Rattle.bus.proofs.endpoints.Laws.{endpoints-over, endpoints-set}
 use borrow.Author.Needs.{needs}
 use Rattle.bus.proofs.endpoints.set_endpoints.Statement.{statement}
 use Rattle.bus.proofs.endpoints.set_endpoints.Tie as tie

@@ -1,4 +1,4 @@
-use Rattle.bus.proofs.Observing.{number-in, number-none, number-out}
+use Rattle.bus.proofs.ports.Laws.{number-in, number-none, number-out}
 use borrow.Author.Needs.{needs}
 use Rattle.bus.proofs.ports.check_number.Statement.{statement}
 use Rattle.bus.proofs.ports.check_number.Tie as tie

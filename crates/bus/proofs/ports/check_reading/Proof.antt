@@ -1,4 +1,4 @@
-use Rattle.bus.proofs.Observing.{reading-none, reading-some}
+use Rattle.bus.proofs.ports.Laws.{reading-none, reading-some}
 use borrow.Author.Needs.{needs}
 use Rattle.bus.proofs.ports.check_reading.Statement.{statement}
 use Rattle.bus.proofs.ports.check_reading.Tie as tie

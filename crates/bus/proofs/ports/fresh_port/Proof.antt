@@ -1,4 +1,4 @@
-use Rattle.bus.proofs.Observing.{fresh-in, fresh-out}
+use Rattle.bus.proofs.ports.Laws.{fresh-in, fresh-out}
 use borrow.Author.Needs.{needs}
 use Rattle.bus.proofs.ports.fresh_port.Statement.{statement}
 use Rattle.bus.proofs.ports.fresh_port.Tie as tie

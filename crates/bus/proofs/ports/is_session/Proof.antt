@@ -1,4 +1,4 @@
-use Rattle.bus.proofs.Observing.{session-is}
+use Rattle.bus.proofs.ports.Laws.{session-is}
 use borrow.Author.Needs.{needs}
 use Rattle.bus.proofs.ports.is_session.Statement.{statement}
 use Rattle.bus.proofs.ports.is_session.Tie as tie

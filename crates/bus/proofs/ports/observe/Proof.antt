@@ -1,4 +1,4 @@
-use Rattle.bus.proofs.Observing.{observe-full, observe-on}
+use Rattle.bus.proofs.ports.Laws.{observe-full, observe-on}
 use borrow.Author.Needs.{needs}
 use Rattle.bus.proofs.ports.observe.Statement.{statement}
 use Rattle.bus.proofs.ports.observe.Tie as tie

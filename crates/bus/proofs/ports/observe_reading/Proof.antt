@@ -1,4 +1,4 @@
-use Rattle.bus.proofs.Observing.{reading-failed, reading-word}
+use Rattle.bus.proofs.ports.Laws.{reading-failed, reading-word}
 use borrow.Author.Needs.{needs}
 use Rattle.bus.proofs.ports.observe_reading.Statement.{statement}
 use Rattle.bus.proofs.ports.observe_reading.Tie as tie

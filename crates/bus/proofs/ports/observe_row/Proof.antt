@@ -1,4 +1,4 @@
-use Rattle.bus.proofs.Observing.{observed-changed, observed-first, observed-kept}
+use Rattle.bus.proofs.ports.Laws.{observed-changed, observed-first, observed-kept}
 use borrow.Author.Needs.{needs}
 use Rattle.bus.proofs.ports.observe_row.Statement.{statement}
 use Rattle.bus.proofs.ports.observe_row.Tie as tie

@@ -1,4 +1,4 @@
-use Rattle.bus.proofs.Observing.{fresh-full, fresh-on}
+use Rattle.bus.proofs.ports.Laws.{fresh-full, fresh-on}
 use borrow.Author.Needs.{needs}
 use Rattle.bus.proofs.ports.observe_word.Statement.{statement}
 use Rattle.bus.proofs.ports.observe_word.Tie as tie

@@ -1,4 +1,4 @@
-use Rattle.bus.proofs.Observing.{raise-full, raise-on}
+use Rattle.bus.proofs.ports.Laws.{raise-full, raise-on}
 use borrow.Author.Needs.{needs}
 use Rattle.bus.proofs.ports.raise.Statement.{statement}
 use Rattle.bus.proofs.ports.raise.Tie as tie

@@ -1,4 +1,4 @@
-use Rattle.bus.proofs.Tabled.{port-is}
+use Rattle.bus.proofs.Tables.{port-is}
 use borrow.Author.Needs.{needs}
 use Rattle.bus.proofs.ports.read_port.Statement.{statement}
 use Rattle.bus.proofs.ports.read_port.Tie as tie

@@ -1,4 +1,4 @@
-use Rattle.bus.proofs.Observing.{set-in, set-out}
+use Rattle.bus.proofs.ports.Laws.{set-in, set-out}
 use borrow.Author.Needs.{needs}
 use Rattle.bus.proofs.ports.set_port.Statement.{statement}
 use Rattle.bus.proofs.ports.set_port.Tie as tie

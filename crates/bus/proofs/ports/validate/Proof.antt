@@ -1,4 +1,4 @@
-use Rattle.bus.proofs.Observing.{validated-in, validated-out}
+use Rattle.bus.proofs.ports.Laws.{validated-in, validated-out}
 use borrow.Author.Needs.{needs}
 use Rattle.bus.proofs.ports.validate.Statement.{statement}
 use Rattle.bus.proofs.ports.validate.Tie as tie

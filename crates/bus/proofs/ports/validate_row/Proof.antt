@@ -1,4 +1,4 @@
-use Rattle.bus.proofs.Observing.{row-read, row-stale}
+use Rattle.bus.proofs.ports.Laws.{row-read, row-stale}
 use borrow.Author.Needs.{needs}
 use Rattle.bus.proofs.ports.validate_row.Statement.{statement}
 use Rattle.bus.proofs.ports.validate_row.Tie as tie

@@ -1,4 +1,4 @@
-use Rattle.bus.proofs.Tabled.{put-port}
+use Rattle.bus.proofs.Tables.{put-port}
 use borrow.Author.Needs.{needs}
 use Rattle.bus.proofs.ports.write_port.Statement.{statement}
 use Rattle.bus.proofs.ports.write_port.Tie as tie

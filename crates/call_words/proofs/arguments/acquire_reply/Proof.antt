@@ -1,6 +1,6 @@
 use borrow.Author.Needs.{needs}
-use Rattle.scope.proofs.Returning.{tagged, untagged}
-use Rattle.call_words.proofs.Reading.{flag-read}
+use Rattle.scope.proofs.returned.Laws.{tagged, untagged}
+use Rattle.call_words.proofs.arguments.Laws.{flag-read}
 use Rattle.call_words.specs.Arguments.{readAcquireReply}
 use Rattle.call_words.proofs.arguments.acquire_reply.Statement.{statement}
 use Rattle.call_words.proofs.arguments.acquire_reply.Tie as tie

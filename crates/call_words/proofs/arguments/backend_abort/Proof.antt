@@ -1,4 +1,4 @@
-use Rattle.call_words.proofs.Reading.{abort-done, abort-failed}
+use Rattle.call_words.proofs.arguments.Laws.{abort-done, abort-failed}
 use borrow.Author.Needs.{needs}
 use Rattle.call_words.proofs.arguments.backend_abort.Statement.{statement}
 use Rattle.call_words.proofs.arguments.backend_abort.Tie as tie

@@ -1,5 +1,5 @@
 use borrow.Author.Needs.{needs}
-use Rattle.call_words.proofs.Reading.{spec-read}
+use Rattle.call_words.proofs.arguments.Laws.{spec-read}
 use Rattle.call_words.proofs.arguments.spec.Statement.{statement}
 use Rattle.call_words.proofs.arguments.spec.Tie as tie
 

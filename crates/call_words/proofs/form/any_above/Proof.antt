@@ -3,7 +3,7 @@ use lib.Dec.{ltb}
 use lib.ListN.{length}
 use borrow.Author.Needs.{needs}
 use Rattle.chain.specs.Lists.{find}
-use Rattle.call_words.proofs.Reading.{above-on, above-here, above-none}
+use Rattle.call_words.proofs.arguments.Laws.{above-on, above-here, above-none}
 use Rattle.call_words.proofs.form.any_above.Statement.{statement}
 use Rattle.call_words.proofs.form.any_above.Tie as tie
 

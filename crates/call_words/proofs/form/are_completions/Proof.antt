@@ -1,6 +1,6 @@
 use Prim.Native.Nat.{_-_, _≤_}
 use mathlib.Core.Path.{_≡_}
-use Rattle.call_words.proofs.Forming.{completions-on, completions-end}
+use Rattle.call_words.proofs.form.Laws.{completions-on, completions-end}
 use Rattle.call_words.specs.Form.{areCompletions}
 use borrow.Author.Needs.{needs}
 use Rattle.call_words.proofs.form.are_completions.Statement.{statement}

@@ -2,7 +2,7 @@ use borrow.Author.Needs.{needs}
 use Prim.Native.Nat.{_-_, _≤_}
 use mathlib.Core.Path.{_≡_}
 use Rattle.call_words.specs.Parts.{areZero}
-use Rattle.call_words.proofs.Forming.{zeros-on, zeros-end}
+use Rattle.call_words.proofs.form.Laws.{zeros-on, zeros-end}
 use Rattle.call_words.proofs.form.are_zero.Statement.{statement}
 use Rattle.call_words.proofs.form.are_zero.Tie as tie
 

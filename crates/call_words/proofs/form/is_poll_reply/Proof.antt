@@ -1,5 +1,5 @@
 use borrow.Author.Needs.{needs}
-use Rattle.call_words.proofs.Forming.{poll-nothing, poll-failed, poll-completed}
+use Rattle.call_words.proofs.form.Laws.{poll-nothing, poll-failed, poll-completed}
 use Rattle.call_words.proofs.form.is_poll_reply.Statement.{statement}
 use Rattle.call_words.proofs.form.is_poll_reply.Tie as tie
 

@@ -1,5 +1,5 @@
 use borrow.Author.Needs.{needs}
-use Rattle.call_words.proofs.Forming.{reply-short, reply-tokens, reply-completions, reply-is}
+use Rattle.call_words.proofs.form.Laws.{reply-short, reply-tokens, reply-completions, reply-is}
 use Rattle.call_words.proofs.form.is_recovery_reply.Statement.{statement}
 use Rattle.call_words.proofs.form.is_recovery_reply.Tie as tie
 

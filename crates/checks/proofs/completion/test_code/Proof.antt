@@ -1,6 +1,6 @@
 -- `checks::completion::test_code` meets its contract: each end by the tests that led there. Assumes nothing.
 use borrow.Author.Needs.{needs}
-use Rattle.checks.proofs.Endings.{stop-early, stop-data, stop-none, stop-code, go-valid}
+use Rattle.checks.proofs.completion.Laws.{stop-early, stop-data, stop-none, stop-code, go-valid}
 use Rattle.checks.proofs.completion.test_code.Statement.{statement}
 use Rattle.checks.proofs.completion.test_code.Tie as tie
 

@@ -1,6 +1,6 @@
 -- `checks::completion::test_completion` meets its contract: by the length, which is there or not. Assumes nothing.
 use borrow.Author.Needs.{needs}
-use Rattle.checks.proofs.Endings.{stop-missing, go-length}
+use Rattle.checks.proofs.completion.Laws.{stop-missing, go-length}
 use Rattle.checks.proofs.completion.test_completion.Statement.{statement}
 use Rattle.checks.proofs.completion.test_completion.Tie as tie
 

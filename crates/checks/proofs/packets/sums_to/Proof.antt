@@ -4,7 +4,7 @@ use mathlib.Core.Path.{_≡_}
 use lib.ListN.{length, take}
 use borrow.Author.Needs.{needs}
 use Rattle.checks.specs.Packets.{total}
-use Rattle.checks.proofs.Summing.{sum-on, sum-over, sum-end}
+use Rattle.checks.proofs.packets.Laws.{sum-on, sum-over, sum-end}
 use Rattle.checks.proofs.packets.sums_to.Statement.{statement}
 use Rattle.checks.proofs.packets.sums_to.Tie as tie
 

@@ -1,4 +1,4 @@
-use Rattle.dispatch.proofs.Moving.{acquire-step, initialize-step, close-step}
+use Rattle.dispatch.proofs.controller.Move.{acquire-step, initialize-step, close-step}
 use borrow.Author.Needs.{needs}
 use Rattle.dispatch.proofs.controller.move_call.Statement.{statement}
 use Rattle.dispatch.proofs.controller.move_call.Tie as tie

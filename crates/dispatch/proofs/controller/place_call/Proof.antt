@@ -1,4 +1,4 @@
-use Rattle.dispatch.proofs.Placing.{open-step, device-step, port-step, endpoints-step, reconcile-step}
+use Rattle.dispatch.proofs.controller.Place.{open-step, device-step, port-step, endpoints-step, reconcile-step}
 use borrow.Author.Needs.{needs}
 use Rattle.dispatch.proofs.controller.place_call.Statement.{statement}
 use Rattle.dispatch.proofs.controller.place_call.Tie as tie

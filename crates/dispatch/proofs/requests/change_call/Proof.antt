@@ -1,4 +1,4 @@
-use Rattle.dispatch.proofs.Changing.{cancel-step, timeout-step, reclaim-step}
+use Rattle.dispatch.proofs.requests.Change.{cancel-step, timeout-step, reclaim-step}
 use borrow.Author.Needs.{needs}
 use Rattle.dispatch.proofs.requests.change_call.Statement.{statement}
 use Rattle.dispatch.proofs.requests.change_call.Tie as tie

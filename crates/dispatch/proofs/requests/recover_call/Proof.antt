@@ -1,4 +1,4 @@
-use Rattle.dispatch.proofs.Recovering.{replied-run, abort-run, reset-run}
+use Rattle.dispatch.proofs.requests.Recover.{replied-run, abort-run, reset-run}
 use borrow.Author.Needs.{needs}
 use Rattle.dispatch.proofs.requests.recover_call.Statement.{statement}
 use Rattle.dispatch.proofs.requests.recover_call.Tie as tie

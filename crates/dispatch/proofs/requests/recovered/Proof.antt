@@ -1,4 +1,4 @@
-use Rattle.dispatch.proofs.Recovering.{reply-run}
+use Rattle.dispatch.proofs.requests.Recover.{reply-run}
 use borrow.Author.Needs.{needs}
 use Rattle.dispatch.proofs.requests.recovered.Statement.{statement}
 use Rattle.dispatch.proofs.requests.recovered.Tie as tie

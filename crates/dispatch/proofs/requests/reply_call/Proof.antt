@@ -1,4 +1,4 @@
-use Rattle.dispatch.proofs.Replying.{submit-reply-step, poll-step, poll-reply-step}
+use Rattle.dispatch.proofs.requests.Reply.{submit-reply-step, poll-step, poll-reply-step}
 use borrow.Author.Needs.{needs}
 use Rattle.dispatch.proofs.requests.reply_call.Statement.{statement}
 use Rattle.dispatch.proofs.requests.reply_call.Tie as tie

@@ -1,4 +1,4 @@
-use Rattle.dispatch.proofs.Reporting.{status-step, reports-step, count-step, bytes-step, held-count-step, held-bytes-step}
+use Rattle.dispatch.proofs.requests.Read.{status-step, reports-step, count-step, bytes-step, held-count-step, held-bytes-step}
 use borrow.Author.Needs.{needs}
 use Rattle.dispatch.proofs.requests.report_answer.Statement.{statement}
 use Rattle.dispatch.proofs.requests.report_answer.Tie as tie

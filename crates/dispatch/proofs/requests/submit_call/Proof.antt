@@ -1,4 +1,4 @@
-use Rattle.dispatch.proofs.Submitting.{submit-step, plan-step}
+use Rattle.dispatch.proofs.requests.Submit.{submit-step, plan-step}
 use borrow.Author.Needs.{needs}
 use Rattle.dispatch.proofs.requests.submit_call.Statement.{statement}
 use Rattle.dispatch.proofs.requests.submit_call.Tie as tie

@@ -1,4 +1,4 @@
-use Rattle.ledger.proofs.Finding.{at-row, other-sequence}
+use Rattle.ledger.proofs.search.Laws.{at-row, other-sequence}
 use borrow.Author.Needs.{needs}
 use Rattle.ledger.proofs.search.holds.Statement.{statement}
 use Rattle.ledger.proofs.search.holds.Tie as tie

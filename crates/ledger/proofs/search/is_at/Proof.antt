@@ -1,4 +1,4 @@
-use Rattle.ledger.proofs.Finding.{at-is}
+use Rattle.ledger.proofs.search.Laws.{at-is}
 use borrow.Author.Needs.{needs}
 use Rattle.ledger.proofs.search.is_at.Statement.{statement}
 use Rattle.ledger.proofs.search.is_at.Tie as tie

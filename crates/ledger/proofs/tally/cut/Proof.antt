@@ -1,4 +1,4 @@
-use Rattle.ledger.proofs.Saturated.{saturate-plain, saturate-top}
+use Rattle.ledger.proofs.tally.Laws.{saturate-plain, saturate-top}
 use mathlib.Core.Path.{sym}
 use native.Mathlib.Omega.{arith}
 use borrow.Author.Needs.{needs}

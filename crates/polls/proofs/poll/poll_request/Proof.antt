@@ -1,5 +1,5 @@
-use Rattle.polls.proofs.Polling.{poll-stop, poll-none, poll-at}
-use Rattle.ledger.proofs.Placing.{found-in}
+use Rattle.polls.proofs.poll.Laws.{poll-stop, poll-none, poll-at}
+use Rattle.ledger.proofs.Found.{found-in}
 use borrow.Author.Needs.{needs}
 use Rattle.polls.proofs.poll.poll_request.Statement.{statement}
 use Rattle.polls.proofs.poll.poll_request.Tie as tie

@@ -1,4 +1,4 @@
-use Rattle.polls.proofs.Polling.{row-told, row-early, row-asked}
+use Rattle.polls.proofs.poll.Laws.{row-told, row-early, row-asked}
 use borrow.Author.Needs.{needs}
 use Rattle.polls.proofs.poll.poll_row.Statement.{statement}
 use Rattle.polls.proofs.poll.poll_row.Tie as tie

@@ -1,7 +1,7 @@
 use native.Mathlib.Omega.{arith}
 use lib.ListN.{length-take}
 use borrow.Author.Needs.{needs}
-use Rattle.recovery.proofs.Beginning.{begun-is}
+use Rattle.recovery.proofs.begin.Laws.{begun-is}
 use Rattle.recovery.proofs.begin.begin.Statement.{statement}
 use Rattle.recovery.proofs.begin.begin.Tie as tie
 

@@ -1,6 +1,6 @@
 use borrow.Author.Needs.{needs}
-use Rattle.recovery.proofs.Beginning.{begin-stop, begin-40, begin-on}
-use Rattle.ledger.proofs.Placing.{found-in}
+use Rattle.recovery.proofs.begin.Laws.{begin-stop, begin-40, begin-on}
+use Rattle.ledger.proofs.Found.{found-in}
 use Rattle.recovery.proofs.begin.begin_recovery.Statement.{statement}
 use Rattle.recovery.proofs.begin.begin_recovery.Tie as tie
 

@@ -1,5 +1,5 @@
 use borrow.Author.Needs.{needs}
-use Rattle.recovery.proofs.Beginning.{row-43, row-44, row-on}
+use Rattle.recovery.proofs.begin.Laws.{row-43, row-44, row-on}
 use Rattle.recovery.proofs.begin.begin_row.Statement.{statement}
 use Rattle.recovery.proofs.begin.begin_row.Tie as tie
 

@@ -1,6 +1,6 @@
 use borrow.Author.Needs.{needs}
 use Prim.Native.Nat.{_-_}
-use Rattle.recovery.proofs.Walking.{place-below, Aborting, abort-on, abort-stop, abort-end}
+use Rattle.recovery.proofs.entries.Laws.{place-below, Aborting, abort-on, abort-stop, abort-end}
 use Rattle.recovery.proofs.entries.abort_all.Statement.{statement}
 use Rattle.recovery.proofs.entries.abort_all.Tie as tie
 

@@ -1,5 +1,5 @@
 use borrow.Author.Needs.{needs}
-use Rattle.recovery.proofs.Walking.{abort-no, abort-to}
+use Rattle.recovery.proofs.entries.Laws.{abort-no, abort-to}
 use Rattle.rows.specs.Store.{storeOf}
 use Rattle.recovery.proofs.entries.abort_one.Statement.{statement}
 use Rattle.recovery.proofs.entries.abort_one.Tie as tie

@@ -2,7 +2,7 @@ use native.Mathlib.Omega.{arith}
 use lib.ListN.{length-take, length-drop}
 use borrow.Author.Needs.{needs}
 use Prim.Native.Nat.{_-_}
-use Rattle.recovery.proofs.Walking.{place-below, place-room, Completing, begin-given, words-in, given-on, given-fits, complete-on, complete-stop, complete-end}
+use Rattle.recovery.proofs.entries.Laws.{place-below, place-room, Completing, begin-given, words-in, given-on, given-fits, complete-on, complete-stop, complete-end}
 use Rattle.recovery.proofs.entries.complete_all.Statement.{statement}
 use Rattle.recovery.proofs.entries.complete_all.Tie as tie
 

@@ -1,6 +1,6 @@
 use borrow.Author.Needs.{needs}
 use Rattle.rows.specs.Store.{storeOf}
-use Rattle.recovery.proofs.Walking.{one-missing, one-invalid, one-valid}
+use Rattle.recovery.proofs.entries.Laws.{one-missing, one-invalid, one-valid}
 use Rattle.recovery.proofs.entries.complete_one.Statement.{statement}
 use Rattle.recovery.proofs.entries.complete_one.Tie as tie
 

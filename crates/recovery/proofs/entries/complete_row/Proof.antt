@@ -1,5 +1,5 @@
 use borrow.Author.Needs.{needs}
-use Rattle.recovery.proofs.Walking.{completed-no, completed-to}
+use Rattle.recovery.proofs.entries.Laws.{completed-no, completed-to}
 use Rattle.recovery.proofs.entries.complete_row.Statement.{statement}
 use Rattle.recovery.proofs.entries.complete_row.Tie as tie
 

@@ -1,5 +1,5 @@
 use borrow.Author.Needs.{needs}
-use Rattle.recovery.proofs.Walking.{meant-at, meant-none}
+use Rattle.recovery.proofs.entries.Laws.{meant-at, meant-none}
 use Rattle.recovery.proofs.entries.place_of.Statement.{statement}
 use Rattle.recovery.proofs.entries.place_of.Tie as tie
 

@@ -1,6 +1,6 @@
 use borrow.Author.Needs.{needs}
-use Rattle.recovery.proofs.Recovering.{apply-stop, apply-on}
-use Rattle.recovery.proofs.Walking.{below-kept}
+use Rattle.recovery.proofs.reply.Laws.{apply-stop, apply-on}
+use Rattle.recovery.proofs.entries.Laws.{below-kept}
 use Rattle.recovery.proofs.reply.apply_all.Statement.{statement}
 use Rattle.recovery.proofs.reply.apply_all.Tie as tie
 

@@ -1,5 +1,5 @@
 use borrow.Author.Needs.{needs}
-use Rattle.recovery.proofs.Recovering.{conclude-no, conclude-on}
+use Rattle.recovery.proofs.reply.Laws.{conclude-no, conclude-on}
 use Rattle.recovery.proofs.reply.conclude.Statement.{statement}
 use Rattle.recovery.proofs.reply.conclude.Tie as tie
 

@@ -1,5 +1,5 @@
 use borrow.Author.Needs.{needs}
-use Rattle.recovery.proofs.Recovering.{lists-are}
+use Rattle.recovery.proofs.reply.Laws.{lists-are}
 use Rattle.recovery.proofs.reply.id_lists.Statement.{statement}
 use Rattle.recovery.proofs.reply.id_lists.Tie as tie
 

@@ -1,5 +1,5 @@
 use borrow.Author.Needs.{needs}
-use Rattle.recovery.proofs.Recovering.{revision-some}
+use Rattle.recovery.proofs.reply.Laws.{revision-some}
 use Rattle.recovery.proofs.reply.is_revision.Statement.{statement}
 use Rattle.recovery.proofs.reply.is_revision.Tie as tie
 

@@ -1,5 +1,5 @@
 use borrow.Author.Needs.{needs}
-use Rattle.recovery.proofs.Recovering.{whole-is}
+use Rattle.recovery.proofs.reply.Laws.{whole-is}
 use Rattle.recovery.proofs.reply.is_whole.Statement.{statement}
 use Rattle.recovery.proofs.reply.is_whole.Tie as tie
 

@@ -1,5 +1,5 @@
 use borrow.Author.Needs.{needs}
-use Rattle.recovery.proofs.Recovering.{matches-is}
+use Rattle.recovery.proofs.reply.Laws.{matches-is}
 use Rattle.recovery.proofs.reply.matches.Statement.{statement}
 use Rattle.recovery.proofs.reply.matches.Tie as tie
 

@@ -1,5 +1,5 @@
 use borrow.Author.Needs.{needs}
-use Rattle.recovery.proofs.Recovering.{in-idle, in-submission, in-poll, in-recovery}
+use Rattle.recovery.proofs.reply.Laws.{in-idle, in-submission, in-poll, in-recovery}
 use Rattle.recovery.proofs.reply.recovery_reply.Statement.{statement}
 use Rattle.recovery.proofs.reply.recovery_reply.Tie as tie
 

@@ -1,5 +1,5 @@
 use borrow.Author.Needs.{needs}
-use Rattle.recovery.proofs.Recovering.{refused-is}
+use Rattle.recovery.proofs.reply.Laws.{refused-is}
 use Rattle.recovery.proofs.reply.refused.Statement.{statement}
 use Rattle.recovery.proofs.reply.refused.Tie as tie
 

@@ -1,5 +1,5 @@
 use borrow.Author.Needs.{needs}
-use Rattle.recovery.proofs.Recovering.{refused-marked, refused-idle}
+use Rattle.recovery.proofs.reply.Laws.{refused-marked, refused-idle}
 use Rattle.recovery.proofs.reply.refused_after.Statement.{statement}
 use Rattle.recovery.proofs.reply.refused_after.Tie as tie
 

@@ -1,6 +1,6 @@
 use borrow.Author.Needs.{needs}
-use Rattle.recovery.proofs.Recovering.{scope-46, scope-on}
-use Rattle.scope.proofs.Scoping.{scope-few}
+use Rattle.recovery.proofs.reply.Laws.{scope-46, scope-on}
+use Rattle.scope.proofs.tokens.Laws.{scope-few}
 use Rattle.recovery.proofs.reply.reply_affected.Statement.{statement}
 use Rattle.recovery.proofs.reply.reply_affected.Tie as tie
 

@@ -1,7 +1,7 @@
 use native.Mathlib.Omega.{arith}
 use lib.ListN.{length-take}
 use borrow.Author.Needs.{needs}
-use Rattle.recovery.proofs.Recovering.{own-few, affected-places, done-is}
+use Rattle.recovery.proofs.reply.Laws.{own-few, affected-places, done-is}
 use Rattle.recovery.proofs.reply.reply_done.Statement.{statement}
 use Rattle.recovery.proofs.reply.reply_done.Tie as tie
 

@@ -1,7 +1,7 @@
 use native.Mathlib.Omega.{arith}
 use lib.ListN.{length-take}
 use borrow.Author.Needs.{needs}
-use Rattle.recovery.proofs.Placing.{done-places, gone-below, done-agree, scoped-is}
+use Rattle.recovery.proofs.Tokens.{done-places, gone-below, done-agree, scoped-is}
 use Rattle.recovery.proofs.reply.reply_scoped.Statement.{statement}
 use Rattle.recovery.proofs.reply.reply_scoped.Tie as tie
 

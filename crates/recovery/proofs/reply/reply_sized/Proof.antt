@@ -1,5 +1,5 @@
 use borrow.Author.Needs.{needs}
-use Rattle.recovery.proofs.Recovering.{sized-3, sized-49, sized-on, sized-is, agreed-is}
+use Rattle.recovery.proofs.reply.Laws.{sized-3, sized-49, sized-on, sized-is, agreed-is}
 use Rattle.recovery.proofs.reply.reply_sized.Statement.{statement}
 use Rattle.recovery.proofs.reply.reply_sized.Tie as tie
 

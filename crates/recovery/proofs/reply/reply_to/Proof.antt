@@ -1,5 +1,5 @@
 use borrow.Author.Needs.{needs}
-use Rattle.recovery.proofs.Recovering.{reply-45, reply-done}
+use Rattle.recovery.proofs.reply.Laws.{reply-45, reply-done}
 use Rattle.recovery.proofs.reply.reply_to.Statement.{statement}
 use Rattle.recovery.proofs.reply.reply_to.Tie as tie
 

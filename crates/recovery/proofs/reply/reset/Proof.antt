@@ -1,5 +1,5 @@
 use borrow.Author.Needs.{needs}
-use Rattle.recovery.proofs.Recovering.{reset-abort, reset-on}
+use Rattle.recovery.proofs.reply.Laws.{reset-abort, reset-on}
 use Rattle.recovery.proofs.reply.reset.Statement.{statement}
 use Rattle.recovery.proofs.reply.reset.Tie as tie
 

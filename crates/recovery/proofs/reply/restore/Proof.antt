@@ -1,5 +1,5 @@
 use borrow.Author.Needs.{needs}
-use Rattle.recovery.proofs.Recovering.{restored-none, restored-on, restored-off}
+use Rattle.recovery.proofs.reply.Laws.{restored-none, restored-on, restored-off}
 use Rattle.recovery.proofs.reply.restore.Statement.{statement}
 use Rattle.recovery.proofs.reply.restore.Tie as tie
 

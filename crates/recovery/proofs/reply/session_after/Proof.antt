@@ -1,5 +1,5 @@
 use borrow.Author.Needs.{needs}
-use Rattle.recovery.proofs.Recovering.{after-marked, after-on}
+use Rattle.recovery.proofs.reply.Laws.{after-marked, after-on}
 use Rattle.recovery.proofs.reply.session_after.Statement.{statement}
 use Rattle.recovery.proofs.reply.session_after.Tie as tie
 

@@ -1,6 +1,6 @@
 use borrow.Author.Needs.{needs}
 use Rattle.rows.specs.Store.{storeOf}
-use Rattle.recovery.proofs.Recovering.{settled-is}
+use Rattle.recovery.proofs.reply.Laws.{settled-is}
 use Rattle.recovery.proofs.reply.settle.Statement.{statement}
 use Rattle.recovery.proofs.reply.settle.Tie as tie
 

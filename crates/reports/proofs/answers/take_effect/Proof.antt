@@ -1,4 +1,4 @@
-use Rattle.reports.proofs.Answering.{effect-mild, effect-marks}
+use Rattle.reports.proofs.answers.Laws.{effect-mild, effect-marks}
 use borrow.Author.Needs.{needs}
 use Rattle.reports.proofs.answers.take_effect.Statement.{statement}
 use Rattle.reports.proofs.answers.take_effect.Tie as tie

@@ -1,4 +1,4 @@
-use Rattle.reports.proofs.Changing.{change-stop, change-on}
+use Rattle.reports.proofs.change.Laws.{change-stop, change-on}
 use borrow.Author.Needs.{needs}
 use Rattle.reports.proofs.change.change_request.Statement.{statement}
 use Rattle.reports.proofs.change.change_request.Tie as tie

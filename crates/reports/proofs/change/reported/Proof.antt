@@ -1,4 +1,4 @@
-use Rattle.reports.proofs.Changing.{reported-no, reported-done}
+use Rattle.reports.proofs.change.Laws.{reported-no, reported-done}
 use borrow.Author.Needs.{needs}
 use Rattle.reports.proofs.change.reported.Statement.{statement}
 use Rattle.reports.proofs.change.reported.Tie as tie

@@ -1,4 +1,4 @@
-use Rattle.reports.proofs.Reporting.{shown-more, shown-same}
+use Rattle.reports.proofs.status.Laws.{shown-more, shown-same}
 use borrow.Author.Needs.{needs}
 use Rattle.reports.proofs.status.add_shown.Statement.{statement}
 use Rattle.reports.proofs.status.add_shown.Tie as tie

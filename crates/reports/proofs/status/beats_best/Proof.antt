@@ -1,4 +1,4 @@
-use Rattle.reports.proofs.Reporting.{beats-report}
+use Rattle.reports.proofs.status.Laws.{beats-report}
 use borrow.Author.Needs.{needs}
 use Rattle.reports.proofs.status.beats_best.Statement.{statement}
 use Rattle.reports.proofs.status.beats_best.Tie as tie

@@ -1,7 +1,7 @@
 use borrow.Author.Needs.{needs}
 use Prim.Native.Nat.{_-_}
 use Rattle.rows.specs.Table.{rowsOf}
-use Rattle.reports.proofs.Reporting.{Leads, best-on, best-end}
+use Rattle.reports.proofs.status.Laws.{Leads, best-on, best-end}
 use Rattle.reports.proofs.status.best_of.Statement.{statement}
 use Rattle.reports.proofs.status.best_of.Tie as tie
 

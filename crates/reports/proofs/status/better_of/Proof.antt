@@ -1,4 +1,4 @@
-use Rattle.reports.proofs.Reporting.{better-row, better-best}
+use Rattle.reports.proofs.status.Laws.{better-row, better-best}
 use borrow.Author.Needs.{needs}
 use Rattle.reports.proofs.status.better_of.Statement.{statement}
 use Rattle.reports.proofs.status.better_of.Tie as tie

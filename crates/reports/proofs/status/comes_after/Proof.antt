@@ -1,4 +1,4 @@
-use Rattle.reports.proofs.Reporting.{after-some}
+use Rattle.reports.proofs.status.Laws.{after-some}
 use borrow.Author.Needs.{needs}
 use Rattle.reports.proofs.status.comes_after.Statement.{statement}
 use Rattle.reports.proofs.status.comes_after.Tie as tie

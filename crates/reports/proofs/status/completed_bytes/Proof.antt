@@ -1,4 +1,4 @@
-use Rattle.reports.proofs.Reporting.{part-inside, part-fits, part-bytes, part-number}
+use Rattle.reports.proofs.status.Laws.{part-inside, part-fits, part-bytes, part-number}
 use borrow.Author.Needs.{needs}
 use Rattle.reports.proofs.status.completed_bytes.Statement.{statement}
 use Rattle.reports.proofs.status.completed_bytes.Tie as tie

@@ -1,5 +1,5 @@
-use Rattle.reports.proofs.Reporting.{shown-in, part-unfit, part-none, part-at}
-use Rattle.reports.proofs.Placed.{place-fits}
+use Rattle.reports.proofs.status.Laws.{shown-in, part-unfit, part-none, part-at}
+use Rattle.reports.proofs.Bytes.{place-fits}
 use borrow.Author.Needs.{needs}
 use Rattle.reports.proofs.status.completed_part.Statement.{statement}
 use Rattle.reports.proofs.status.completed_part.Tie as tie

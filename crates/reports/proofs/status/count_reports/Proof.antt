@@ -1,4 +1,4 @@
-use Rattle.reports.proofs.Reporting.{shown-unfit, shown-on}
+use Rattle.reports.proofs.status.Laws.{shown-unfit, shown-on}
 use borrow.Author.Needs.{needs}
 use Rattle.reports.proofs.status.count_reports.Statement.{statement}
 use Rattle.reports.proofs.status.count_reports.Tie as tie

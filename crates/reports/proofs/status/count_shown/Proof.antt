@@ -1,7 +1,7 @@
 use borrow.Author.Needs.{needs}
 use Prim.Native.Nat.{_-_}
 use Rattle.rows.specs.Table.{rowsOf}
-use Rattle.reports.proofs.Reporting.{Counted, shown-most, count-on, count-end}
+use Rattle.reports.proofs.status.Laws.{Counted, shown-most, count-on, count-end}
 use Rattle.reports.proofs.status.count_shown.Statement.{statement}
 use Rattle.reports.proofs.status.count_shown.Tie as tie
 

@@ -1,4 +1,4 @@
-use Rattle.reports.proofs.Reporting.{shown-none, shown-find}
+use Rattle.reports.proofs.status.Laws.{shown-none, shown-find}
 use borrow.Author.Needs.{needs}
 use Rattle.reports.proofs.status.find_shown.Statement.{statement}
 use Rattle.reports.proofs.status.find_shown.Tie as tie

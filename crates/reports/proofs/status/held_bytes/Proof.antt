@@ -1,4 +1,4 @@
-use Rattle.reports.proofs.Reporting.{bytes-unfit, bytes-on}
+use Rattle.reports.proofs.status.Laws.{bytes-unfit, bytes-on}
 use borrow.Author.Needs.{needs}
 use Rattle.reports.proofs.status.held_bytes.Statement.{statement}
 use Rattle.reports.proofs.status.held_bytes.Tie as tie

@@ -1,4 +1,4 @@
-use Rattle.reports.proofs.Reporting.{held-unfit, held-on}
+use Rattle.reports.proofs.status.Laws.{held-unfit, held-on}
 use borrow.Author.Needs.{needs}
 use Rattle.reports.proofs.status.held_count.Statement.{statement}
 use Rattle.reports.proofs.status.held_count.Tie as tie

@@ -1,4 +1,4 @@
-use Rattle.reports.proofs.Reporting.{next-is}
+use Rattle.reports.proofs.status.Laws.{next-is}
 use borrow.Author.Needs.{needs}
 use Rattle.reports.proofs.status.is_next.Statement.{statement}
 use Rattle.reports.proofs.status.is_next.Tie as tie

@@ -1,4 +1,4 @@
-use Rattle.reports.proofs.Reporting.{shown-is}
+use Rattle.reports.proofs.status.Laws.{shown-is}
 use borrow.Author.Needs.{needs}
 use Rattle.reports.proofs.status.is_shown.Statement.{statement}
 use Rattle.reports.proofs.status.is_shown.Tie as tie

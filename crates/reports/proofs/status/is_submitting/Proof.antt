@@ -1,4 +1,4 @@
-use Rattle.reports.proofs.Reporting.{submitting-own}
+use Rattle.reports.proofs.status.Laws.{submitting-own}
 use borrow.Author.Needs.{needs}
 use Rattle.reports.proofs.status.is_submitting.Statement.{statement}
 use Rattle.reports.proofs.status.is_submitting.Tie as tie

@@ -1,4 +1,4 @@
-use Rattle.reports.proofs.Reporting.{part-empty}
+use Rattle.reports.proofs.status.Laws.{part-empty}
 use borrow.Author.Needs.{needs}
 use Rattle.reports.proofs.status.part_of.Statement.{statement}
 use Rattle.reports.proofs.status.part_of.Tie as tie

@@ -1,4 +1,4 @@
-use Rattle.reports.proofs.Reporting.{next-unfit, next-on}
+use Rattle.reports.proofs.status.Laws.{next-unfit, next-on}
 use borrow.Author.Needs.{needs}
 use Rattle.reports.proofs.status.request_reports.Statement.{statement}
 use Rattle.reports.proofs.status.request_reports.Tie as tie

@@ -1,4 +1,4 @@
-use Rattle.reports.proofs.Reporting.{shown-in, status-unfit, status-none, status-at}
+use Rattle.reports.proofs.status.Laws.{shown-in, status-unfit, status-none, status-at}
 use borrow.Author.Needs.{needs}
 use Rattle.reports.proofs.status.request_status.Statement.{statement}
 use Rattle.reports.proofs.status.request_status.Tie as tie

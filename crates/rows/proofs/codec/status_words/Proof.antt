@@ -1,4 +1,4 @@
-use Rattle.rows.proofs.Fields.{status-exact}
+use Rattle.rows.proofs.codec.Laws.{status-exact}
 use borrow.Author.Needs.{needs}
 use Rattle.rows.proofs.codec.status_words.Statement.{statement}
 use Rattle.rows.proofs.codec.status_words.Tie as tie

@@ -1,4 +1,4 @@
-use Rattle.rows.proofs.Scans.{device-is}
+use Rattle.rows.proofs.columns.Laws.{device-is}
 use borrow.Author.Needs.{needs}
 use Rattle.rows.proofs.columns.device_at.Statement.{statement}
 use Rattle.rows.proofs.columns.device_at.Tie as tie

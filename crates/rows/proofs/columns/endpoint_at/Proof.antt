@@ -1,4 +1,4 @@
-use Rattle.rows.proofs.Scans.{endpoint-is}
+use Rattle.rows.proofs.columns.Laws.{endpoint-is}
 use borrow.Author.Needs.{needs}
 use Rattle.rows.proofs.columns.endpoint_at.Statement.{statement}
 use Rattle.rows.proofs.columns.endpoint_at.Tie as tie

@@ -1,4 +1,4 @@
-use Rattle.rows.proofs.Scans.{held-is}
+use Rattle.rows.proofs.columns.Laws.{held-is}
 use borrow.Author.Needs.{needs}
 use Rattle.rows.proofs.columns.held_at.Statement.{statement}
 use Rattle.rows.proofs.columns.held_at.Tie as tie

@@ -1,5 +1,5 @@
 use native.Mathlib.Omega.{arith}
-use Rattle.rows.proofs.Scans.{held-word}
+use Rattle.rows.proofs.columns.Laws.{held-word}
 use borrow.Author.Needs.{needs}
 use Rattle.rows.proofs.columns.held_word_at.Statement.{statement}
 use Rattle.rows.proofs.columns.held_word_at.Tie as tie

@@ -1,4 +1,4 @@
-use Rattle.rows.proofs.Scans.{id-is}
+use Rattle.rows.proofs.columns.Laws.{id-is}
 use borrow.Author.Needs.{needs}
 use Rattle.rows.proofs.columns.id_at.Statement.{statement}
 use Rattle.rows.proofs.columns.id_at.Tie as tie

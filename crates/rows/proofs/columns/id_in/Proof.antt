@@ -1,4 +1,4 @@
-use Rattle.rows.proofs.Scans.{id-out}
+use Rattle.rows.proofs.columns.Laws.{id-out}
 use borrow.Author.Needs.{needs}
 use Rattle.rows.proofs.columns.id_in.Statement.{statement}
 use Rattle.rows.proofs.columns.id_in.Tie as tie

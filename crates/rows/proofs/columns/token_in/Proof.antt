@@ -1,4 +1,4 @@
-use Rattle.rows.proofs.Scans.{token-out}
+use Rattle.rows.proofs.columns.Laws.{token-out}
 use borrow.Author.Needs.{needs}
 use Rattle.rows.proofs.columns.token_in.Statement.{statement}
 use Rattle.rows.proofs.columns.token_in.Tie as tie

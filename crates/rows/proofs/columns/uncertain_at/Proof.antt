@@ -1,4 +1,4 @@
-use Rattle.rows.proofs.Scans.{uncertain-is}
+use Rattle.rows.proofs.columns.Laws.{uncertain-is}
 use borrow.Author.Needs.{needs}
 use Rattle.rows.proofs.columns.uncertain_at.Statement.{statement}
 use Rattle.rows.proofs.columns.uncertain_at.Tie as tie

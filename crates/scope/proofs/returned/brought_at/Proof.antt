@@ -1,5 +1,5 @@
 use borrow.Author.Needs.{needs}
-use Rattle.scope.proofs.Returning.{brought-is}
+use Rattle.scope.proofs.returned.Laws.{brought-is}
 use Rattle.scope.proofs.returned.brought_at.Statement.{statement}
 use Rattle.scope.proofs.returned.brought_at.Tie as tie
 

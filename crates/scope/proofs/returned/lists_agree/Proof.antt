@@ -1,4 +1,4 @@
-use Rattle.scope.proofs.Returning.{agree-not, agree-words, agree-sum}
+use Rattle.scope.proofs.returned.Laws.{agree-not, agree-words, agree-sum}
 use Rattle.scope.proofs.returned.lists_agree.Statement.{statement}
 use Rattle.scope.proofs.returned.lists_agree.Tie as tie
 

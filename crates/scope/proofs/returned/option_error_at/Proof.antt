@@ -1,5 +1,5 @@
 use borrow.Author.Needs.{needs}
-use Rattle.scope.proofs.Returning.{tagged, untagged}
+use Rattle.scope.proofs.returned.Laws.{tagged, untagged}
 use Rattle.scope.proofs.returned.option_error_at.Statement.{statement}
 use Rattle.scope.proofs.returned.option_error_at.Tie as tie
 

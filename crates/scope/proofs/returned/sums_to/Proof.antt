@@ -1,6 +1,6 @@
 use borrow.Author.Needs.{needs}
 use Prim.Native.Nat.{_-_}
-use Rattle.scope.proofs.Returning.{Summed, sum-on, sum-over, sum-end}
+use Rattle.scope.proofs.returned.Laws.{Summed, sum-on, sum-over, sum-end}
 use Rattle.scope.proofs.returned.sums_to.Statement.{statement}
 use Rattle.scope.proofs.returned.sums_to.Tie as tie
 

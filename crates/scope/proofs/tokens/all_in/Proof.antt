@@ -1,7 +1,7 @@
 use borrow.Author.Needs.{needs}
 use Prim.Native.Nat.{_-_}
 use mathlib.Core.List.{_++_}
-use Rattle.scope.proofs.Scoping.{Covering, cover-not, cover-on, cover-end}
+use Rattle.scope.proofs.tokens.Laws.{Covering, cover-not, cover-on, cover-end}
 use Rattle.scope.proofs.tokens.all_in.Statement.{statement}
 use Rattle.scope.proofs.tokens.all_in.Tie as tie
 

@@ -1,5 +1,5 @@
 use borrow.Author.Needs.{needs}
-use Rattle.scope.proofs.Scoping.{came-first, came-second}
+use Rattle.scope.proofs.tokens.Laws.{came-first, came-second}
 use Rattle.scope.proofs.tokens.came_back.Statement.{statement}
 use Rattle.scope.proofs.tokens.came_back.Tie as tie
 

@@ -1,5 +1,5 @@
 use borrow.Author.Needs.{needs}
-use Rattle.scope.proofs.Scoping.{in-is}
+use Rattle.scope.proofs.tokens.Laws.{in-is}
 use Rattle.scope.proofs.tokens.contains.Statement.{statement}
 use Rattle.scope.proofs.tokens.contains.Tie as tie
 

@@ -1,5 +1,5 @@
 use borrow.Author.Needs.{needs}
-use Rattle.scope.proofs.Scoping.{scope-first, scope-second, scope-some, scope-full, scope-whole}
+use Rattle.scope.proofs.tokens.Laws.{scope-first, scope-second, scope-some, scope-full, scope-whole}
 use Rattle.scope.proofs.tokens.in_scope.Statement.{statement}
 use Rattle.scope.proofs.tokens.in_scope.Tie as tie
 

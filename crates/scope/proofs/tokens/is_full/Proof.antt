@@ -1,5 +1,5 @@
 use borrow.Author.Needs.{needs}
-use Rattle.scope.proofs.Scoping.{full-first, full-second}
+use Rattle.scope.proofs.tokens.Laws.{full-first, full-second}
 use Rattle.scope.proofs.tokens.is_full.Statement.{statement}
 use Rattle.scope.proofs.tokens.is_full.Tie as tie
 

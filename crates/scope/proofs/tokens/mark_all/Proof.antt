@@ -1,6 +1,6 @@
 use borrow.Author.Needs.{needs}
 use Prim.Native.Nat.{_-_}
-use Rattle.scope.proofs.Scoping.{Marking, mark-far, mark-twice, mark-on, mark-end}
+use Rattle.scope.proofs.tokens.Laws.{Marking, mark-far, mark-twice, mark-on, mark-end}
 use Rattle.scope.proofs.tokens.mark_all.Statement.{statement}
 use Rattle.scope.proofs.tokens.mark_all.Tie as tie
 

@@ -1,8 +1,8 @@
 use borrow.Author.Needs.{needs}
 use Prim.Native.Nat.{_-_}
 use lib.Dec.{eqb}
-use Rattle.scope.proofs.Affecting.{Passed, place-end}
-use Rattle.scope.proofs.Scoping.{slot-here, slot-on}
+use Rattle.scope.proofs.affected.Laws.{Passed, place-end}
+use Rattle.scope.proofs.tokens.Laws.{slot-here, slot-on}
 use Rattle.scope.proofs.tokens.slot_of.Statement.{statement}
 use Rattle.scope.proofs.tokens.slot_of.Tie as tie
 

@@ -1,4 +1,4 @@
-use Rattle.session.proofs.Guarding.{ready-busy, ready-unfit, ready-pass}
+use Rattle.session.proofs.start.Laws.{ready-busy, ready-unfit, ready-pass}
 use borrow.Author.Needs.{needs}
 use Rattle.session.proofs.start.ready.Statement.{statement}
 use Rattle.session.proofs.start.ready.Tie as tie

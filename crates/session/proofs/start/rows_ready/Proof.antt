@@ -1,4 +1,4 @@
-use Rattle.session.proofs.Guarding.{ready-of}
+use Rattle.session.proofs.start.Laws.{ready-of}
 use borrow.Author.Needs.{needs}
 use Rattle.session.proofs.start.rows_ready.Statement.{statement}
 use Rattle.session.proofs.start.rows_ready.Tie as tie

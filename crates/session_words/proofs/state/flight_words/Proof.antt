@@ -1,5 +1,5 @@
 use mathlib.Core.Path.{refl, sym, _∙_}
-use Rattle.session_words.proofs.Sessions.{recovery-back}
+use Rattle.session_words.proofs.state.Laws.{recovery-back}
 use borrow.Author.Needs.{needs}
 use Rattle.session_words.proofs.state.flight_words.Statement.{statement}
 use Rattle.session_words.proofs.state.flight_words.Tie as tie

@@ -1,5 +1,5 @@
 use mathlib.Core.Path.{sym, _∙_}
-use Rattle.session_words.proofs.Sessions.{ports-back}
+use Rattle.session_words.proofs.state.Laws.{ports-back}
 use borrow.Author.Needs.{needs}
 use Rattle.session_words.proofs.state.ports_words.Statement.{statement}
 use Rattle.session_words.proofs.state.ports_words.Tie as tie

@@ -1,4 +1,4 @@
-use Rattle.session_words.proofs.Sessions.{session-back, session-exact}
+use Rattle.session_words.proofs.state.Laws.{session-back, session-exact}
 use borrow.Author.Needs.{needs}
 use Rattle.session_words.proofs.state.session_words.Statement.{statement}
 use Rattle.session_words.proofs.state.session_words.Tie as tie

@@ -1,5 +1,5 @@
 use mathlib.Core.Path.{sym, _∙_}
-use Rattle.session_words.proofs.Sessions.{stall-back}
+use Rattle.session_words.proofs.state.Laws.{stall-back}
 use borrow.Author.Needs.{needs}
 use Rattle.session_words.proofs.state.stall_words.Statement.{statement}
 use Rattle.session_words.proofs.state.stall_words.Tie as tie

@@ -1,4 +1,4 @@
-use Rattle.session_words.proofs.Sessions.{flight-nothing, flight-submission, flight-poll, flight-recovery}
+use Rattle.session_words.proofs.state.Laws.{flight-nothing, flight-submission, flight-poll, flight-recovery}
 use borrow.Author.Needs.{needs}
 use Rattle.session_words.proofs.state.to_flight.Statement.{statement}
 use Rattle.session_words.proofs.state.to_flight.Tie as tie

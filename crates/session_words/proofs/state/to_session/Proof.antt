@@ -1,4 +1,4 @@
-use Rattle.session_words.proofs.Sessions.{session-read}
+use Rattle.session_words.proofs.state.Laws.{session-read}
 use borrow.Author.Needs.{needs}
 use Rattle.session_words.proofs.state.to_session.Statement.{statement}
 use Rattle.session_words.proofs.state.to_session.Tie as tie

@@ -1,4 +1,4 @@
-use Rattle.session_words.proofs.Sessions.{kept-out, kept-in}
+use Rattle.session_words.proofs.state.Laws.{kept-out, kept-in}
 use borrow.Author.Needs.{needs}
 use Rattle.session_words.proofs.state.write_session.Statement.{statement}
 use Rattle.session_words.proofs.state.write_session.Tie as tie

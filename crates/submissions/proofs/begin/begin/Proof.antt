@@ -1,4 +1,4 @@
-use Rattle.submissions.proofs.Beginning.{begin-stop, begin-on}
+use Rattle.submissions.proofs.begin.Laws.{begin-stop, begin-on}
 use borrow.Author.Needs.{needs}
 use Rattle.submissions.proofs.begin.begin.Statement.{statement}
 use Rattle.submissions.proofs.begin.begin.Tie as tie

@@ -1,4 +1,4 @@
-use Rattle.submissions.proofs.Beginning.{target-stop, target-on}
+use Rattle.submissions.proofs.begin.Laws.{target-stop, target-on}
 use borrow.Author.Needs.{needs}
 use Rattle.submissions.proofs.begin.begin_target.Statement.{statement}
 use Rattle.submissions.proofs.begin.begin_target.Tie as tie

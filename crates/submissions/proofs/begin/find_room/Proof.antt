@@ -1,4 +1,4 @@
-use Rattle.submissions.proofs.Beginning.{room-full, room-first}
+use Rattle.submissions.proofs.begin.Laws.{room-full, room-first}
 use borrow.Author.Needs.{needs}
 use Rattle.submissions.proofs.begin.find_room.Statement.{statement}
 use Rattle.submissions.proofs.begin.find_room.Tie as tie

@@ -1,4 +1,4 @@
-use Rattle.submissions.proofs.Beginning.{write-in, write-out}
+use Rattle.submissions.proofs.begin.Laws.{write-in, write-out}
 use borrow.Author.Needs.{needs}
 use Rattle.submissions.proofs.begin.write_buffer.Statement.{statement}
 use Rattle.submissions.proofs.begin.write_buffer.Tie as tie

@@ -1,4 +1,4 @@
-use Rattle.submissions.proofs.Submitting.{packets-stop, packets-on}
+use Rattle.submissions.proofs.submit.Laws.{packets-stop, packets-on}
 use borrow.Author.Needs.{needs}
 use Rattle.submissions.proofs.submit.submit_checked.Statement.{statement}
 use Rattle.submissions.proofs.submit.submit_checked.Tie as tie

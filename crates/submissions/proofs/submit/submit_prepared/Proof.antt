@@ -1,5 +1,5 @@
-use Rattle.submissions.proofs.Submitting.{prepared-stop, prepared-on}
-use Rattle.submissions.proofs.Fitting.{ready-length, ready-data}
+use Rattle.submissions.proofs.submit.Laws.{prepared-stop, prepared-on}
+use Rattle.submissions.proofs.Room.{ready-length, ready-data}
 use borrow.Author.Needs.{needs}
 use Rattle.submissions.proofs.submit.submit_prepared.Statement.{statement}
 use Rattle.submissions.proofs.submit.submit_prepared.Tie as tie

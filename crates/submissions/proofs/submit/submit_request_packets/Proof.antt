@@ -1,5 +1,5 @@
-use Rattle.submissions.proofs.Submitting.{submit-stop, submit-on}
-use Rattle.session.proofs.Guarding.{ready-sizes}
+use Rattle.submissions.proofs.submit.Laws.{submit-stop, submit-on}
+use Rattle.session.proofs.start.Laws.{ready-sizes}
 use borrow.Author.Needs.{needs}
 use Rattle.submissions.proofs.submit.submit_request_packets.Statement.{statement}
 use Rattle.submissions.proofs.submit.submit_request_packets.Tie as tie

@@ -1,6 +1,6 @@
-use Rattle.submissions.proofs.Beginning.{room-in}
-use Rattle.submissions.proofs.Submitting.{room-none, room-at}
-use Rattle.submissions.proofs.Fitting.{bus-fits, room-fits, room-place}
+use Rattle.submissions.proofs.begin.Laws.{room-in}
+use Rattle.submissions.proofs.submit.Laws.{room-none, room-at}
+use Rattle.submissions.proofs.Room.{bus-fits, room-fits, room-place}
 use borrow.Author.Needs.{needs}
 use Rattle.submissions.proofs.submit.submit_room.Statement.{statement}
 use Rattle.submissions.proofs.submit.submit_room.Tie as tie

@@ -1,4 +1,4 @@
-use Rattle.submissions.proofs.Submitting.{submitted-no, submitted-at}
+use Rattle.submissions.proofs.submit.Laws.{submitted-no, submitted-at}
 use borrow.Author.Needs.{needs}
 use Rattle.submissions.proofs.submit.submitted.Statement.{statement}
 use Rattle.submissions.proofs.submit.submitted.Tie as tie

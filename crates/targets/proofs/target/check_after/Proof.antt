@@ -1,6 +1,6 @@
 -- `targets::target::check_after` meets its contract: one law for each way out. Assumes nothing.
 use borrow.Author.Needs.{needs}
-use Rattle.targets.proofs.Targets.{after-refused, after-control, after-other}
+use Rattle.targets.proofs.target.Laws.{after-refused, after-control, after-other}
 use Rattle.targets.proofs.target.check_after.Statement.{statement}
 use Rattle.targets.proofs.target.check_after.Tie as tie
 

@@ -1,6 +1,6 @@
 -- `targets::target::check_device` meets its contract: one law for each way out. Assumes nothing.
 use borrow.Author.Needs.{needs}
-use Rattle.targets.proofs.Targets.{device-refused, device-fresh}
+use Rattle.targets.proofs.target.Laws.{device-refused, device-fresh}
 use Rattle.targets.proofs.target.check_device.Statement.{statement}
 use Rattle.targets.proofs.target.check_device.Tie as tie
 

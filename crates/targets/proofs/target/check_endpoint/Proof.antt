@@ -1,6 +1,6 @@
 -- `targets::target::check_endpoint` meets its contract: one law for each way out. Assumes nothing.
 use borrow.Author.Needs.{needs}
-use Rattle.targets.proofs.Targets.{endpoint-early, endpoint-read}
+use Rattle.targets.proofs.target.Laws.{endpoint-early, endpoint-read}
 use Rattle.targets.proofs.target.check_endpoint.Statement.{statement}
 use Rattle.targets.proofs.target.check_endpoint.Tie as tie
 

@@ -1,6 +1,6 @@
 -- `targets::target::check_read` meets its contract: one law for each way out. Assumes nothing.
 use borrow.Author.Needs.{needs}
-use Rattle.targets.proofs.Targets.{read-refused, read-on}
+use Rattle.targets.proofs.target.Laws.{read-refused, read-on}
 use Rattle.targets.proofs.target.check_read.Statement.{statement}
 use Rattle.targets.proofs.target.check_read.Tie as tie
 

@@ -1,6 +1,6 @@
 -- `targets::target::check_speed` meets its contract: one law for each way out. Assumes nothing.
 use borrow.Author.Needs.{needs}
-use Rattle.targets.proofs.Targets.{speed-two, speed-absent, speed-pass}
+use Rattle.targets.proofs.target.Laws.{speed-two, speed-absent, speed-pass}
 use Rattle.targets.proofs.target.check_speed.Statement.{statement}
 use Rattle.targets.proofs.target.check_speed.Tie as tie
 

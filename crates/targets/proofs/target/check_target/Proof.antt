@@ -1,6 +1,6 @@
 -- `targets::target::check_target` meets its contract: one law for each way out. Assumes nothing.
 use borrow.Author.Needs.{needs}
-use Rattle.targets.proofs.Targets.{target-is}
+use Rattle.targets.proofs.target.Laws.{target-is}
 use Rattle.targets.proofs.target.check_target.Statement.{statement}
 use Rattle.targets.proofs.target.check_target.Tie as tie
 

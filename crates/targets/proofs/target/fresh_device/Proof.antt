@@ -1,6 +1,6 @@
 -- `targets::target::fresh_device` meets its contract: one law for each way out. Assumes nothing.
 use borrow.Author.Needs.{needs}
-use Rattle.targets.proofs.Targets.{fresh-is}
+use Rattle.targets.proofs.target.Laws.{fresh-is}
 use Rattle.targets.proofs.target.fresh_device.Statement.{statement}
 use Rattle.targets.proofs.target.fresh_device.Tie as tie
 

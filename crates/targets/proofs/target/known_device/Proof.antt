@@ -1,6 +1,6 @@
 -- `targets::target::known_device` meets its contract: one law for each way out. Assumes nothing.
 use borrow.Author.Needs.{needs}
-use Rattle.targets.proofs.Targets.{known-marked, known-absent, known-other, known-early, known-ready}
+use Rattle.targets.proofs.target.Laws.{known-marked, known-absent, known-other, known-early, known-ready}
 use Rattle.targets.proofs.target.known_device.Statement.{statement}
 use Rattle.targets.proofs.target.known_device.Tie as tie
 

@@ -1,6 +1,6 @@
 -- `targets::target::prepared_device` meets its contract: one law for each way out. Assumes nothing.
 use borrow.Author.Needs.{needs}
-use Rattle.targets.proofs.Targets.{prepared-refused, prepared-early, prepared-ready}
+use Rattle.targets.proofs.target.Laws.{prepared-refused, prepared-early, prepared-ready}
 use Rattle.targets.proofs.target.prepared_device.Statement.{statement}
 use Rattle.targets.proofs.target.prepared_device.Tie as tie
 

@@ -1,5 +1,5 @@
 use borrow.Author.Needs.{needs}
-use Rattle.texts.proofs.Counting.{counted}
+use Rattle.texts.proofs.parse.Laws.{counted}
 use Rattle.texts.proofs.parse.bytes.Statement.{statement}
 use Rattle.texts.proofs.parse.bytes.Tie as tie
 

@@ -2,7 +2,7 @@ use mathlib.Core.Path.{_≡_}
 use Prim.Native.Nat.{_≤_, _-_}
 use lib.ListN.{length}
 use borrow.Author.Needs.{needs}
-use Rattle.texts.proofs.Counting.{counted}
+use Rattle.texts.proofs.parse.Laws.{counted}
 use Rattle.texts.proofs.parse.numbers.Statement.{statement}
 use Rattle.texts.proofs.parse.numbers.Tie as tie
 

@@ -1,0 +1,39 @@
+use Rattle.polls.proofs.poll_reply.Laws.{finish-nothing, finish-error, finish-done}
+use Rattle.rows.specs.Store.{storeOf}
+use borrow.Author.Needs.{needs}
+use Rattle.polls.proofs.poll_reply.finish_at.Statement.{statement}
+use Rattle.polls.proofs.poll_reply.finish_at.Tie as tie
+
+returns : tie.Need-returns
+unfolding storeOf
+returns c = search finish-nothing
+
+returns-2 : tie.Need-returns-2
+unfolding storeOf
+returns-2 c = search finish-error
+
+returns-3 : tie.Need-returns-3
+unfolding storeOf
+returns-3 c = search finish-done
+
+pub finish-at-spec : {M : Type 1} → statement M
+finish-at-spec =
+    tie.close
+    (tie.spec
+    (λ c κs. search needs)
+    (λ c. search needs)
+    (λ c κs. search needs)
+    (λ c. search needs)
+    (λ c κs. search needs)
+    (λ c κs. search needs)
+    (λ c κs. search needs)
+    (λ c. search needs)
+    (λ c κs. search needs)
+    (λ c κs. search needs)
+    (λ c. search needs)
+    returns
+    (λ c. search needs)
+    returns-2
+    (λ c. search needs)
+    (λ c. search needs)
+    returns-3)

@@ -1,0 +1,35 @@
+use Rattle.polls.proofs.poll_reply.Laws.{reply-idle, reply-submission, reply-recovery, reply-on}
+use borrow.Author.Needs.{needs}
+use Rattle.polls.proofs.poll_reply.poll_reply.Statement.{statement}
+use Rattle.polls.proofs.poll_reply.poll_reply.Tie as tie
+
+returns : tie.Need-returns
+returns c = search reply-idle
+
+returns-2 : tie.Need-returns-2
+returns-2 c = search reply-submission
+
+returns-3 : tie.Need-returns-3
+returns-3 c = search reply-on
+
+returns-4 : tie.Need-returns-4
+returns-4 c = search reply-recovery
+
+pub poll-reply-spec : {M : Type 1} → statement M
+poll-reply-spec =
+    tie.close
+    (tie.spec
+    (λ c. search needs)
+    (λ c κs. search needs)
+    (λ c. search needs)
+    (λ c κs. search needs)
+    (λ c. search needs)
+    (λ c κs. search needs)
+    (λ c. search needs)
+    (λ c κs. search needs)
+    returns
+    returns-2
+    (λ c. search needs)
+    (λ c. search needs)
+    returns-3
+    returns-4)

@@ -1,0 +1,250 @@
+-- One law for each way out of reports, completed bytes and tallies: its premises are the facts in hand there. Assumes nothing.
+use Prim.Native.Nat.{ℕ, suc, zero, _+_, _-_, _*_, _<_, _≤_, min}
+use mathlib.Core.Bool.{Bool, true, false, cond, not, _&&_}
+use mathlib.Core.List.{List, [], _∷_}
+use mathlib.Core.Path.{_≡_, refl, sym, ap, _∙_}
+use native.Mathlib.Nat.{le-of-suc-le-suc}
+use native.Mathlib.Numerals.{add-one}
+use native.Mathlib.Omega.{arith}
+use lib.ListN.{length, getD, take, drop}
+use lib.Seq.{take-all}
+use mir.Syntax.{w64}
+use mir.Val.{Fits}
+use Rattle.chain.specs.Chain.{_if_else_}
+use Rattle.chain.specs.Lists.{only, count, foundIn}
+use Rattle.chain.specs.declared.Found.{Found}
+use Rattle.chain.specs.declared.Found.the-variants as found
+use Rattle.chain.proofs.Chain.{takes, passes, through, not-through}
+use Rattle.chain.proofs.Lists.{sum-suc}
+use Rattle.models.specs.Refusals.{refusalOf}
+use Rattle.models.specs.Requests.{sameRequest, requestBefore}
+use Rattle.models.specs.declared.Refusal.{Refusal}
+use Rattle.models.specs.declared.RequestId.{RequestId}
+use Rattle.models.specs.declared.RequestReport.{RequestReport}
+use Rattle.rows.specs.Table.{emptyRow, rowsOf}
+use Rattle.rows.specs.declared.Row.{Row}
+use Rattle.rules.specs.Rules.{reportOf}
+use Rattle.ledger.specs.Search.{isAt}
+use Rattle.ledger.specs.Tally.{heldCount, heldBytes}
+use Rattle.ledger.proofs.Found.{found-in}
+use Rattle.session.specs.Sizes.{rowsFit, areaFits}
+use Rattle.session.specs.declared.InFlight.{InFlight}
+use Rattle.session.specs.declared.InFlight.the-variants as flight
+use Rattle.session.specs.declared.Session.{Session}
+use Rattle.reports.specs.Status.{isSubmitting, shownAt, statusBy, statusOf, isShown, comesAfter, beats, better, bestFrom, nextOf, shownCount, completedLength, bytesPart, partBy, completedPart, partOf, partNumber, bytesOf, heldCountOf, heldBytesOf}
+use Rattle.reports.specs.declared.OptionId.{OptionId}
+use Rattle.reports.specs.declared.OptionId.the-variants as option
+use Rattle.reports.specs.declared.Part.{Part}
+use Rattle.reports.specs.declared.PartAnswer.{PartAnswer}
+use Rattle.reports.specs.declared.PartAnswer.the-variants as bytes
+use Rattle.reports.specs.declared.ReportAnswer.{ReportAnswer}
+use Rattle.reports.specs.declared.ReportAnswer.the-variants as report
+use Rattle.reports.specs.declared.NextReport.{NextReport}
+use Rattle.reports.specs.declared.NextReport.the-variants as next
+use Rattle.reports.specs.declared.Tally.{Tally}
+use Rattle.reports.specs.declared.Tally.the-variants as tally
+use Rattle.reports.proofs.Bytes.{part-end}
+
+-- a submission in flight
+pub submitting-own : (f : InFlight) (id own : RequestId) (b : Bool) → f ≡ flight.Submission own → b ≡ sameRequest own id → b ≡ isSubmitting f id
+submitting-own f id own b e eb = eb ∙ rw e
+
+-- the row of an id that has a report
+module _ (f : InFlight) (id : RequestId) (rows : List Row) where
+  module _ (b : Bool) (eb : b ≡ isSubmitting f id) where
+    pub shown-none : b ≡ true → found.Nothing ≡ shownAt f id rows
+    unfolding shownAt
+    shown-none t = takes Found _ _ _ _ (through b _ true eb t) refl
+
+    pub shown-find : (g : Found) → b ≡ false → g ≡ foundIn (isAt id) rows → g ≡ shownAt f id rows
+    unfolding shownAt
+    shown-find g t eg = passes Found _ _ _ _ (through b _ false eb t) eg
+
+  shown-by : (b : Bool) (i : ℕ) → (found.Nothing if b else foundIn (isAt id) rows) ≡ found.At i → i < length rows
+  unfolding _if_else_
+  shown-by true i e = let z : _≡_ {A = ℕ} 0 1 = cc in absurd (omega arith)
+  shown-by false i e = found-in (isAt id) rows _ i refl e
+
+  pub shown-in : (g : Found) (i : ℕ) → g ≡ shownAt f id rows → g ≡ found.At i → i < length rows
+  unfolding shownAt
+  shown-in g i eg e = shown-by (isSubmitting f id) i (sym eg ∙ e)
+
+-- a request's status
+module _ (s : Session) (fits : Bool) (id : RequestId) (rows : List Row) (f : Bool) (ef : f ≡ fits) where
+  pub status-unfit : (r : Refusal) → not f ≡ true → r ≡ refusalOf 3 → report.Refused r ≡ statusOf s fits id rows
+  unfolding statusOf
+  status-unfit r t e = takes ReportAnswer _ _ _ _ (not-through f _ true ef t) (rw e)
+
+  module _ (nf : not f ≡ false) (g : Found) (eg : g ≡ shownAt (s .«in_flight») id rows) where
+    pub status-none : (r : Refusal) → g ≡ found.Nothing → r ≡ refusalOf 40 → report.Refused r ≡ statusOf s fits id rows
+    unfolding statusOf statusBy
+    status-none r t e = passes ReportAnswer _ _ _ _ (not-through f _ false ef nf) (rw (sym eg ∙ t, e))
+
+    pub status-at : (i : ℕ) (row : Row) (x : RequestReport) → g ≡ found.At i → row ≡ getD rows i emptyRow → x ≡ reportOf row
+        → report.Report x ≡ statusOf s fits id rows
+    unfolding statusOf statusBy
+    status-at i row x t er e = passes ReportAnswer _ _ _ _ (not-through f _ false ef nf) (rw (sym eg ∙ t, e, er))
+
+-- the order of reports
+pub after-some : (o : OptionId) (id own : RequestId) (b : Bool) → o ≡ option.Some own → b ≡ requestBefore own id → b ≡ comesAfter o id
+after-some o id own b e eb = eb ∙ rw e
+
+pub beats-report : (best : NextReport) (id : RequestId) (own : RequestReport) (b : Bool) → best ≡ next.Report own → b ≡ requestBefore id (own .id) → b ≡ beats best id
+beats-report best id own b e eb = eb ∙ rw e
+
+-- whether a row has a report, and comes next
+pub shown-is : (f : InFlight) (row : Row) (a : Bool) → a ≡ isSubmitting f (row .id) → (row .used && not a) ≡ isShown f row
+unfolding isShown
+shown-is f row a e = rw e
+
+module _ (f : InFlight) (o : OptionId) (row : Row) where
+  pub next-is : (a b : Bool) → a ≡ isShown f row → b ≡ comesAfter o (row .id) → (a && b) ≡ (isShown f row && comesAfter o (row .id))
+  next-is a b ea eb = rw (ea, eb)
+
+  module _ (best : NextReport) (a b : Bool) (ea : a ≡ (isShown f row && comesAfter o (row .id))) (eb : b ≡ beats best (row .id)) where
+    pub better-row : (x : RequestReport) → (a && b) ≡ true → x ≡ reportOf row → next.Report x ≡ better f o best row
+    unfolding better
+    better-row x t e = takes NextReport _ _ _ _ (rw (ea, eb) at t) (rw e)
+
+    pub better-best : (a && b) ≡ false → best ≡ better f o best row
+    unfolding better
+    better-best t = passes NextReport _ _ _ _ (rw (ea, eb) at t) refl
+
+-- the best of the rows: what is left leads to the whole
+best-suc : (f : InFlight) (o : OptionId) (l : List Row) (best : NextReport) (i : ℕ) → i < length l
+    → bestFrom f o best (drop i l) ≡ bestFrom f o (better f o best (getD l i emptyRow)) (drop (suc i) l)
+best-suc f o [] best i h = absurd (omega arith)
+best-suc f o (r ∷ rows) best zero h = refl
+best-suc f o (r ∷ rows) best (suc i) h = best-suc f o rows best i (le-of-suc-le-suc h)
+
+best-past : (f : InFlight) (o : OptionId) (l : List Row) (best : NextReport) (i : ℕ) → length l ≤ i → bestFrom f o best (drop i l) ≡ best
+best-past f o [] best zero h = refl
+best-past f o [] best (suc i) h = refl
+best-past f o (r ∷ rows) best zero h = absurd (omega arith)
+best-past f o (r ∷ rows) best (suc i) h = best-past f o rows best i (le-of-suc-le-suc h)
+
+abbrev pub Leads : InFlight → OptionId → List Row → ℕ → ℕ → NextReport → Type 0
+Leads f o l n i best = (n ≡ length l) × (i ≤ n) × (bestFrom f o best (drop i l) ≡ bestFrom f o next.None l)
+
+module _ (f : InFlight) (o : OptionId) (l : List Row) (n i : ℕ) (best : NextReport) (e : n ≡ length l) (k : bestFrom f o best (drop i l) ≡ bestFrom f o next.None l) where
+  pub best-on : (row : Row) (after : NextReport) → i < n → row ≡ getD l i emptyRow → after ≡ better f o best row
+      → bestFrom f o after (drop (i + 1) l) ≡ bestFrom f o next.None l
+  best-on row after h er ea = rw (ea, er, add-one) (sym (best-suc f o l best i (omega arith)) ∙ k)
+
+  pub best-end : n ≤ i → best ≡ bestFrom f o next.None l
+  best-end h = sym (best-past f o l best i (omega arith)) ∙ k
+
+-- how many have a report
+abbrev pub Counted : InFlight → List Row → ℕ → ℕ → ℕ → Type 0
+Counted f l n i total = (n ≡ length l) × (i ≤ n) × (total ≤ i) × (total ≡ count (isShown f) (take i l))
+
+module _ (f : InFlight) (l : List Row) (n i total : ℕ) (e : n ≡ length l) (k : total ≡ count (isShown f) (take i l)) where
+  pub count-on : (row : Row) (b : Bool) (after : ℕ) → i < n → row ≡ getD l i emptyRow → b ≡ isShown f row → after ≡ total + cond b 1 0
+      → after ≡ count (isShown f) (take (i + 1) l)
+  count-on row b after h er eb ea =
+      ea ∙ rw (eb, er, k, add-one, sum-suc (only (isShown f) (λ r. 1)) l i emptyRow (omega arith))
+
+  pub count-end : n ≤ i → total ≡ count (isShown f) l
+  count-end h = k ∙ rw (take-all i l (omega arith))
+
+-- one more, or none
+module _ (total : ℕ) (b : Bool) where
+  pub shown-more : b ≡ true → total + 1 ≡ total + cond b 1 0
+  shown-more e = rw e
+
+  pub shown-same : b ≡ false → total ≡ total + cond b 1 0
+  shown-same e = rw e (omega arith)
+
+pub shown-most : (total after i : ℕ) (b : Bool) → total ≤ i → after ≡ total + cond b 1 0 → after ≤ i + 1
+shown-most total after i true h e = omega arith
+shown-most total after i false h e = omega arith
+
+-- by the sizes
+module _ (fits : Bool) (rows : List Row) (f : Bool) (ef : f ≡ fits) where
+  module _ (r : Refusal) (t : not f ≡ true) (er : r ≡ refusalOf 3) where
+    pub next-unfit : (s : Session) (o : OptionId) → next.Refused r ≡ nextOf s fits o rows
+    unfolding nextOf
+    next-unfit s o = takes NextReport _ _ _ _ (not-through f _ true ef t) (rw er)
+
+    pub shown-unfit : (s : Session) → tally.Refused r ≡ shownCount s fits rows
+    unfolding shownCount
+    shown-unfit s = takes Tally _ _ _ _ (not-through f _ true ef t) (rw er)
+
+    pub held-unfit : tally.Refused r ≡ heldCountOf fits rows
+    unfolding heldCountOf
+    held-unfit = takes Tally _ _ _ _ (not-through f _ true ef t) (rw er)
+
+    pub bytes-unfit : tally.Refused r ≡ heldBytesOf fits rows
+    unfolding heldBytesOf
+    bytes-unfit = takes Tally _ _ _ _ (not-through f _ true ef t) (rw er)
+
+  module _ (t : not f ≡ false) where
+    pub next-on : (s : Session) (o : OptionId) (x : NextReport) → x ≡ bestFrom (s .«in_flight») o next.None rows → x ≡ nextOf s fits o rows
+    unfolding nextOf
+    next-on s o x e = passes NextReport _ _ _ _ (not-through f _ false ef t) e
+
+    pub shown-on : (s : Session) (n : ℕ) → n ≡ count (isShown (s .«in_flight»)) rows → tally.Number n ≡ shownCount s fits rows
+    unfolding shownCount
+    shown-on s n e = passes Tally _ _ _ _ (not-through f _ false ef t) (ap tally.Number e)
+
+    pub held-on : (n : ℕ) → n ≡ heldCount 16 rows → tally.Number n ≡ heldCountOf fits rows
+    unfolding heldCountOf
+    held-on n e = passes Tally _ _ _ _ (not-through f _ false ef t) (ap tally.Number e)
+
+    pub bytes-on : (n : ℕ) → n ≡ heldBytes 64 rows → tally.Number n ≡ heldBytesOf fits rows
+    unfolding heldBytesOf
+    bytes-on n e = passes Tally _ _ _ _ (not-through f _ false ef t) (ap tally.Number e)
+
+-- where the bytes of a Completed request stand
+module _ (s : Session) (p q : Bool) (id : RequestId) (rows : List Row) (a b : Bool) (ea : a ≡ p) (eb : b ≡ q) where
+  pub part-unfit : (r : Refusal) → not (a && b) ≡ true → r ≡ refusalOf 3 → bytes.Refused r ≡ completedPart s (p && q) id rows
+  unfolding completedPart
+  part-unfit r t e = takes PartAnswer _ _ _ _ (rw (ea, eb) at t) (rw e)
+
+  module _ (t : not (a && b) ≡ false) (g : Found) (eg : g ≡ shownAt (s .«in_flight») id rows) where
+    pub part-none : (r : Refusal) → g ≡ found.Nothing → r ≡ refusalOf 40 → bytes.Refused r ≡ completedPart s (p && q) id rows
+    unfolding completedPart partBy
+    part-none r e er = passes PartAnswer _ _ _ _ (rw (ea, eb) at t) (rw (sym eg ∙ e, er))
+
+    pub part-at : (i len n : ℕ) (row : Row) → g ≡ found.At i → row ≡ getD rows i emptyRow → len ≡ completedLength (row .state) → n ≡ min len (s .«row_bytes»)
+        → bytes.Part (bytesPart (i * s .«row_bytes») n) ≡ completedPart s (p && q) id rows
+    unfolding completedPart partBy
+    part-at i len n row e er el en = passes PartAnswer _ _ _ _ (rw (ea, eb) at t) (rw (sym eg ∙ e, en, el, er))
+
+pub part-empty : (a : PartAnswer) (r : Refusal) → a ≡ bytes.Refused r → bytesPart 0 0 ≡ partOf a
+part-empty a r e = rw e
+
+-- it lies inside the area
+module _ (s : Session) (id : RequestId) (w area : List ℕ) where
+  abbrev Fits-in : Bool
+  Fits-in = rowsFit (s .«row_count») (s .«row_bytes») (length w) && areaFits (s .«row_count») (s .«row_bytes») (length area)
+
+  abbrev Inside : PartAnswer → Type 0
+  Inside a = partOf a .start + partOf a .length ≤ length area
+
+  part-by : (g : Found) → g ≡ shownAt (s .«in_flight») id (rowsOf w) → not Fits-in ≡ false → Inside (partBy g (s .«row_bytes») (rowsOf w))
+  unfolding partBy
+  part-by found.Nothing eg t = omega arith
+  part-by (found.At i) eg t =
+      part-end (s .«row_count») (s .«row_bytes») w (length area) _ _ refl refl t i (shown-in (s .«in_flight») id (rowsOf w) _ i eg refl)
+      (completedLength (getD (rowsOf w) i emptyRow .state)) _ refl
+
+  part-fit : (fits : Bool) → fits ≡ Fits-in → Inside (completedPart s fits id (rowsOf w))
+  unfolding completedPart _if_else_
+  part-fit true e = part-by (shownAt (s .«in_flight») id (rowsOf w)) refl (ap not (sym e))
+  part-fit false e = omega arith
+
+  module _ (a : PartAnswer) (o : Part) (ea : a ≡ completedPart s Fits-in id (rowsOf w)) (eo : o ≡ partOf a) where
+    pub part-inside : o .start + o .length ≤ length area
+    part-inside = rw (eo, ea) (part-fit _ refl)
+
+    pub part-fits : Fits w64 (length area) → Fits w64 (o .start + o .length)
+    part-fits f = omega (arith, f, part-inside)
+
+    pub part-bytes : take (o .start + o .length - o .start) (drop (o .start) area) ≡ bytesOf (completedPart s Fits-in id (rowsOf w)) area
+    unfolding bytesOf
+    part-bytes = let z : o .start + o .length - o .start ≡ o .length = omega arith in rw (z, eo, ea)
+
+  pub part-number : (a : PartAnswer) (n : ℕ) → a ≡ completedPart s Fits-in id (rowsOf w) → n ≡ partNumber a
+      → n ≡ partNumber (completedPart s Fits-in id (rowsOf w))
+  part-number a n ea en = en ∙ rw ea

@@ -1,3 +1,0 @@
-pub mod Affecting
-pub mod Scoping
-pub mod Returning

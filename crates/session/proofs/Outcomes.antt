@@ -1,0 +1,117 @@
+-- One law for each way out of the session's calls: its premises are the facts in hand there. Assumes nothing.
+use Prim.Native.Nat.{ℕ}
+use mathlib.Core.Bool.{Bool, true, false, not}
+use mathlib.Core.Path.{_≡_, _∙_}
+use Rattle.chain.specs.Chain.{_if_else_}
+use Rattle.chain.proofs.Chain.{takes, passes, through, not-through}
+use Rattle.words.specs.declared.OptionU64.{OptionU64}
+use Rattle.words.specs.declared.OptionU64.the-variants as u64
+use Rattle.models.specs.Refusals.{refusalOf, fromBackend}
+use Rattle.models.specs.declared.ControllerState.the-variants.{AcquiredUnknown, Initialized, RecoveryRequired}
+use Rattle.models.specs.declared.OperationError.{OperationError}
+use Rattle.models.specs.declared.OptionError.{OptionError}
+use Rattle.models.specs.declared.OptionError.the-variants as error
+use Rattle.models.specs.declared.Refusal.{Refusal}
+use Rattle.models.specs.declared.Verdict.{Verdict}
+use Rattle.models.specs.declared.Verdict.the-variants as verdict
+use Rattle.rows.specs.Store.{Store, emptied}
+use Rattle.bus.specs.Tables.{Bus, cleared}
+use Rattle.bus.specs.Ports.{VerdictTo, verdictTo}
+use Rattle.session.specs.Session.{isClosed, raised, withController, marked}
+use Rattle.session.specs.Lifecycle.{callRefused, passed, newSession, openedTo, OpenedTo, openOf, acquiredBy, initializedBy, closedSession, calledTo, CalledTo, closedBy, freshBy, closeOf}
+use Rattle.session.specs.Place.{placed}
+use Rattle.session.specs.Start.{readyOf}
+use Rattle.session.specs.declared.Called.{Called}
+use Rattle.session.specs.declared.Session.{Session}
+use Rattle.session.specs.declared.lifecycle.Opening.{Opening}
+use Rattle.session.specs.declared.lifecycle.Opened.the-variants as opened
+use Rattle.session.specs.declared.lifecycle.AcquireReply.{AcquireReply}
+use Rattle.session.specs.declared.lifecycle.AcquireReply.the-variants as acquire
+use Rattle.session.proofs.start.Laws.{guard-stop, guard-on}
+
+-- an opening
+module _ (f fits : Bool) (ef : f ≡ fits) (o : Opening) (s : Store) (b : Bus) where
+  pub open-unfit : (r : Refusal) → not f ≡ true → r ≡ refusalOf 3 → openedTo (opened.Refused r) s b ≡ openOf fits o s b
+  unfolding openOf
+  open-unfit r n e = takes OpenedTo _ _ _ _ (not-through f fits true ef n) (rw e)
+
+  pub open-new : (n : Session) (store : Store) (bus : Bus) → not f ≡ false → store ≡ emptied s → bus ≡ cleared → n ≡ newSession o
+      → openedTo (opened.Open n) store bus ≡ openOf fits o s b
+  unfolding openOf
+  open-new n store bus t es eb en = passes OpenedTo _ _ _ _ (not-through f fits false ef t) (rw (es, eb, en))
+
+-- the backend's reply to acquire, initialise and close
+module _ (s : Session) (x : Called) where
+  pub acquired-pass : (reply : AcquireReply) (next : Session) → reply ≡ acquire.Acquired → next ≡ withController s AcquiredUnknown (s .«recovery_revision»)
+      → x ≡ passed next → x ≡ acquiredBy reply s
+  unfolding acquiredBy
+  acquired-pass reply next e en ex = ex ∙ rw (e, en)
+
+  module _ (reply : AcquireReply) (e : OperationError) (retained : Bool) (r : Refusal) (er : reply ≡ acquire.Failed e retained) (ee : r ≡ fromBackend 45 e) where
+    pub acquired-kept : (v : OptionU64) (next : Session) → retained ≡ true → v ≡ raised (s .«recovery_revision») → next ≡ withController s RecoveryRequired v
+        → x ≡ callRefused next r → x ≡ acquiredBy reply s
+    unfolding acquiredBy
+    acquired-kept v next t ev en ex = rw er (takes Called _ _ _ _ t (ex ∙ rw (en, ev, ee)))
+
+    pub acquired-left : retained ≡ false → x ≡ callRefused s r → x ≡ acquiredBy reply s
+    unfolding acquiredBy
+    acquired-left t ex = rw er (passes Called _ _ _ _ t (ex ∙ rw ee))
+
+  module _ (reply : OptionError) where
+    pub initialized-pass : (next : Session) → reply ≡ error.None → next ≡ withController s Initialized (s .«recovery_revision») → x ≡ passed next
+        → x ≡ initializedBy reply s
+    unfolding initializedBy
+    initialized-pass next e en ex = ex ∙ rw (e, en)
+
+    pub closed-pass : (fresh : ℕ) (next : Session) (store after : Store) → reply ≡ error.None → after ≡ emptied store → next ≡ closedSession s fresh
+        → x ≡ passed next → calledTo x after ≡ closedBy reply s fresh store
+    unfolding closedBy
+    closed-pass fresh next store after e ea en ex = rw (ex, e, en, ea)
+
+    module _ (e : OperationError) (m : Session) (r : Refusal) (er : reply ≡ error.Some e) (em : m ≡ marked s) (ee : r ≡ fromBackend 45 e) (ex : x ≡ callRefused m r) where
+      pub initialized-failed : x ≡ initializedBy reply s
+      unfolding initializedBy
+      initialized-failed = ex ∙ rw (er, em, ee)
+
+      pub closed-failed : (fresh : ℕ) (store : Store) → calledTo x store ≡ closedBy reply s fresh store
+      unfolding closedBy
+      closed-failed fresh store = rw (ex, er, em, ee)
+
+-- a close
+module _ (s : Session) (fits : Bool) (fresh : OptionU64) (reply : OptionError) (store : Store) (x : Called) (v : Verdict) (ev : v ≡ readyOf s fits) where
+  pub close-stop : (r : Refusal) → v ≡ verdict.Refused r → x ≡ callRefused s r → calledTo x store ≡ closeOf s fits fresh reply store
+  unfolding closeOf
+  close-stop r e ex = guard-stop CalledTo (λ r. calledTo (callRefused s r) store) _ s fits _ v ev r e (rw ex)
+
+  module _ (np : v ≡ verdict.Pass) (k : Bool) (ek : k ≡ isClosed (s .state)) where
+    passed-start : (y : CalledTo) → y ≡ (calledTo (passed s) store if isClosed (s .state) else freshBy fresh s reply store)
+        → y ≡ closeOf s fits fresh reply store
+    unfolding closeOf
+    passed-start y e = guard-on CalledTo _ _ s fits y v ev np e
+
+    pub close-closed : k ≡ true → x ≡ passed s → calledTo x store ≡ closeOf s fits fresh reply store
+    close-closed t ex = passed-start _ (takes CalledTo _ _ _ _ (through k _ true ek t) (rw ex))
+
+    module _ (nk : k ≡ false) where
+      pub close-none : fresh ≡ u64.None → x ≡ callRefused s (refusalOf 52) → calledTo x store ≡ closeOf s fits fresh reply store
+      unfolding freshBy
+      close-none e ex = passed-start _ (passes CalledTo _ _ _ _ (through k _ false ek nk) (rw (e, ex)))
+
+      pub close-on : (n : ℕ) (after : Store) → fresh ≡ u64.Some n → calledTo x after ≡ closedBy reply s n store
+          → calledTo x after ≡ closeOf s fits fresh reply store
+      unfolding freshBy
+      close-on n after e h = passed-start _ (passes CalledTo _ _ _ _ (through k _ false ek nk) (h ∙ rw e))
+
+-- a placing call
+module _ (s : Session) (fits : Bool) (b : Bus) (done : VerdictTo) (v : Verdict) (ev : v ≡ readyOf s fits) where
+  pub place-stop : (r : Refusal) → v ≡ verdict.Refused r → verdictTo v b ≡ placed s fits b done
+  unfolding placed
+  place-stop r e = guard-stop VerdictTo (λ r. verdictTo (verdict.Refused r) b) done s fits _ v ev r e (rw e)
+
+  pub place-on : (y : VerdictTo) → v ≡ verdict.Pass → y ≡ done → y ≡ placed s fits b done
+  unfolding placed
+  place-on y e ey = guard-on VerdictTo _ done s fits y v ev e ey
+
+-- what passes is the bus after it
+pub pass-to : (after next : Bus) → after ≡ next → verdictTo verdict.Pass after ≡ verdictTo verdict.Pass next
+pass-to after next e = rw e

@@ -1,0 +1,119 @@
+-- One law for each way out of the end of a submission: its premises are the facts in hand there. Assumes nothing.
+use Prim.Native.Nat.{ℕ, _^_, _<_, _≤_}
+use mathlib.Core.Bool.{Bool, true, false}
+use mathlib.Core.List.{List}
+use mathlib.Core.Path.{_≡_, refl, sym, ap, _∙_}
+use native.Mathlib.Omega.{arith}
+use borrow.Author.Tests.{le-leb, lt-leb, ltb-true, ltb-false}
+use lib.Dec.{ltb, leb}
+use lib.ListN.{length, take, replicate}
+use lib.Seq.{take-length}
+use Rattle.chain.specs.Chain.{_if_else_}
+use Rattle.chain.specs.Lists.{count, foundIn}
+use Rattle.chain.specs.declared.Found.{Found}
+use Rattle.chain.specs.declared.Found.the-variants as found
+use Rattle.chain.proofs.Chain.{caseB, takes, passes, through}
+use Rattle.words.specs.Records.{splice}
+use Rattle.models.specs.Kinds.{isIn}
+use Rattle.models.specs.declared.PortReading.{PortReading}
+use Rattle.models.specs.declared.Refusal.{Refusal}
+use Rattle.models.specs.declared.RequestId.{RequestId}
+use Rattle.models.specs.declared.RequestMetadata.{RequestMetadata}
+use Rattle.models.specs.declared.Verdict.{Verdict}
+use Rattle.models.specs.declared.Verdict.the-variants as verdict
+use Rattle.rows.specs.Table.{isHeld}
+use Rattle.rows.specs.Store.{Store, putIn}
+use Rattle.rows.specs.declared.Row.{Row}
+use Rattle.ledger.specs.Search.{isFree}
+use Rattle.ledger.specs.Tally.{saturate, heldCount}
+use Rattle.rules.specs.Rules.{pendingRow, spendSequence}
+use Rattle.rules.specs.declared.Spent.{Spent}
+use Rattle.rules.specs.declared.Spent.the-variants as spent
+use Rattle.ledger.proofs.Found.{found-in}
+use Rattle.ledger.proofs.tally.Laws.{saturate-plain, saturate-top, saturate-le}
+use Rattle.bus.specs.Tables.{Bus}
+use Rattle.bus.specs.Ports.{verdictTo}
+use Rattle.targets.specs.Target.{checkTarget}
+use Rattle.session.specs.Session.{isInitialized}
+use Rattle.session.specs.Session as session
+use Rattle.session.specs.declared.Session.{Session}
+use Rattle.submissions.specs.Begin.{roomIn, newId, startRefused, writeOf, startTo, beginBy, beginOf, targetTo, withBus, targetBy, targetOf}
+use Rattle.submissions.specs.declared.begin.Start.the-variants as start
+use Rattle.submissions.specs.declared.begin.Started.{Started}
+
+-- a tally of 16 bits that is below 128 is the number itself
+below-128 : (n : ℕ) → saturate 16 n < 128 → n < 128
+below-128 n h =
+    caseB (ltb n (2 ^ 16))
+    (λ e. let p : saturate 16 n ≡ n = saturate-plain 16 n (ltb-true n (2 ^ 16) e) in omega arith)
+    (λ e.
+    let k : 65536 ≤ n = ltb-false n (2 ^ 16) e in
+    let g : 65535 ≤ n = omega arith in
+    let p : saturate 16 n ≡ 65535 = saturate-top 16 n g in
+    omega arith)
+
+-- the row for a new request
+module _ (rows : List Row) (n : ℕ) (e : n ≡ heldCount 16 rows) where
+  pub room-full : 128 ≤ n → found.Nothing ≡ roomIn rows
+  unfolding roomIn heldCount
+  room-full h =
+      let z : n ≡ saturate 16 (count isHeld rows) = e in
+      let l = saturate-le 16 (count isHeld rows) in
+      takes Found _ _ _ _ (le-leb 128 (count isHeld rows) (omega arith)) refl
+
+  pub room-first : (f : Found) → n < 128 → f ≡ foundIn isFree rows → f ≡ roomIn rows
+  unfolding roomIn heldCount
+  room-first f h ef =
+      let z : n ≡ saturate 16 (count isHeld rows) = e in
+      passes Found _ _ _ _ (lt-leb 128 (count isHeld rows) (below-128 (count isHeld rows) (omega arith))) ef
+
+pub found-free : (rows : List Row) (i : ℕ) → roomIn rows ≡ found.At i → foundIn isFree rows ≡ found.At i
+unfolding roomIn _if_else_
+found-free rows i =
+    caseB (leb 128 (count isHeld rows)) (λ t. rw t λ e. let z : _≡_ {A = ℕ} 0 1 = cc in absurd (omega arith)) (λ t. rw t λ e. e)
+
+-- it is inside
+pub room-in : (rows : List Row) (f : Found) (i : ℕ) → f ≡ roomIn rows → f ≡ found.At i → i < length rows
+room-in rows f i ef e = found-in isFree rows (foundIn isFree rows) i refl (found-free rows i (sym ef ∙ e))
+
+-- the buffer
+module _ (at : ℕ) (m : RequestMetadata) (bytes area after : List ℕ) (b : Bool) (eb : b ≡ isIn (m .direction)) where
+  pub write-in : b ≡ true → after ≡ splice at (replicate (m .«requested_length») 0) area → after ≡ writeOf at m bytes area
+  unfolding writeOf
+  write-in t e = e ∙ ap (λ (z : List ℕ). splice at z area) (takes (List ℕ) _ _ _ _ (through b _ true eb t) refl)
+
+  pub write-out : b ≡ false → after ≡ splice at (take (length bytes) bytes) area → after ≡ writeOf at m bytes area
+  unfolding writeOf
+  write-out t e = e ∙ ap (λ (z : List ℕ). splice at z area) (passes (List ℕ) _ _ _ _ (through b _ false eb t) (take-length bytes))
+
+-- the sequence number, then row and buffer
+module _ (s : Session) (i at : ℕ) (m : RequestMetadata) (bytes : List ℕ) (store : Store) (area : List ℕ) (v : Spent) (ev : v ≡ spendSequence (s .«next_sequence»)) where
+  begun : (w : Spent) → v ≡ w → beginBy w s i at m bytes store area ≡ beginOf s i at m bytes store area
+  unfolding beginOf
+  begun w e = ap (λ (x : Spent). beginBy x s i at m bytes store area) (sym e ∙ ev)
+
+  pub begin-stop : (r : Refusal) (x : Started) → v ≡ spent.Refused r → x ≡ startRefused s r → startTo x store area ≡ beginOf s i at m bytes store area
+  unfolding beginBy
+  begin-stop r x e ex = ap (λ (z : Started). startTo z store area) ex ∙ begun (spent.Refused r) e
+
+  pub begin-on : (next : ℕ) (id : RequestId) (row : Row) (after : Store) (written : List ℕ) (n : Session) → v ≡ spent.Next next → id ≡ newId s
+      → row ≡ pendingRow id m → after ≡ putIn store i row → written ≡ writeOf at m bytes area → n ≡ session.spent s next id
+      → startTo (record { answer = start.At id i; session = n }) after written ≡ beginOf s i at m bytes store area
+  unfolding beginBy
+  begin-on next id row after written n e ei er ea ew en = rw (en, ea, er, ew, ei) (begun (spent.Next next) e)
+
+-- device and endpoint, then the rest
+module _ (s : Session) (i at : ℕ) (m : RequestMetadata) (bytes : List ℕ) (first second : PortReading) (b : Bus) (store : Store) (area : List ℕ) (t : Bool) (v : Verdict) (after : Bus) (et : t ≡ isInitialized (s .state)) (ev : verdictTo v after ≡ checkTarget t (s .ports) m first second b) where
+  aimed : (w : Verdict) → v ≡ w → targetBy w s i at m bytes after store area ≡ targetOf s i at m bytes first second b store area
+  unfolding targetOf
+  aimed w e = rw (← et, ← ev, e)
+
+  pub target-stop : (r : Refusal) (x : Started) → v ≡ verdict.Refused r → x ≡ startRefused s r
+      → targetTo x after store area ≡ targetOf s i at m bytes first second b store area
+  unfolding targetBy
+  target-stop r x e ex = ap (λ (z : Started). targetTo z after store area) ex ∙ aimed (verdict.Refused r) e
+
+  pub target-on : (x : Started) (put : Store) (written : List ℕ) → v ≡ verdict.Pass → startTo x put written ≡ beginOf s i at m bytes store area
+      → targetTo x after put written ≡ targetOf s i at m bytes first second b store area
+  unfolding targetBy
+  target-on x put written e h = ap (withBus after) h ∙ aimed verdict.Pass e

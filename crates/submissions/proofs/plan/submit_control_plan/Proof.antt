@@ -1,0 +1,29 @@
+use Rattle.submissions.proofs.plan.Laws.{plan-stop, plan-on}
+use Rattle.session.proofs.start.Laws.{ready-sizes}
+use borrow.Author.Needs.{needs}
+use Rattle.submissions.proofs.plan.submit_control_plan.Statement.{statement}
+use Rattle.submissions.proofs.plan.submit_control_plan.Tie as tie
+
+plan-room-requires : tie.Need-plan-room-requires
+plan-room-requires c κs = search ready-sizes
+
+returns : tie.Need-returns
+returns c = search plan-stop
+
+returns-2 : tie.Need-returns-2
+returns-2 c = search plan-on
+
+pub submit-control-plan-spec : {M : Type 1} → statement M
+submit-control-plan-spec =
+    tie.close
+    (tie.spec
+    (λ c κs. search needs)
+    (λ c. search needs)
+    (λ c κs. search needs)
+    (λ c. search needs)
+    plan-room-requires
+    returns
+    (λ c. search needs)
+    (λ c. search needs)
+    (λ c. search needs)
+    returns-2)
