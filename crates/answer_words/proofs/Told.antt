@@ -11,7 +11,7 @@ use borrow.Author.Tests.{le-ltb}
 use Rattle.chain.specs.Chain.{_if_else_}
 use Rattle.chain.proofs.Chain.{passes}
 use Rattle.words.specs.Records.{tab, splice}
-use Rattle.words.specs.Words.{flagWord, flagOf, optionU32Word, optionU32Of}
+use Rattle.words.specs.Words.{flagWord, readFlag, optionU32Word, readOptionU32}
 use Rattle.words.specs.declared.OptionU32.{OptionU32}
 use Rattle.words.specs.declared.OptionU32.the-variants as u32
 use Rattle.words.proofs.Options.{low, flag-back, option-u32-back}
@@ -32,13 +32,13 @@ use Rattle.models.specs.declared.RequestState.the-variants as state
 use Rattle.models.specs.declared.Refusal.{Refusal}
 use Rattle.models.proofs.Enums.{category-back, transfer-back, direction-back, profile-back}
 use Rattle.standards.specs.Setup.{setupBytes}
-use Rattle.rows.specs.Codec.{setupOf, setupWords, readMetadata, stateOf, stateWords}
+use Rattle.rows.specs.Codec.{readSetupWords, setupWords, readMetadata, readStateWords, stateWords}
 use Rattle.rows.specs.declared.codec.SetupWords.{SetupWords}
 use Rattle.rows.specs.declared.codec.StateWords.{StateWords}
 use Rattle.scope.specs.Returned.{readError, errorWords, readOptionError, optionErrorWords}
 use Rattle.session.specs.declared.RecoveryKind.{RecoveryKind}
 use Rattle.session.specs.declared.RecoveryKind.the-variants as kind
-use Rattle.session_words.specs.State.{deviceOf, readKind, recoveryWord}
+use Rattle.session_words.specs.State.{readDeviceWords, readKind, recoveryWord}
 use Rattle.submissions.specs.declared.PlanSubmission.{PlanSubmission}
 use Rattle.submissions.specs.declared.Submission.{Submission}
 use Rattle.recovery.specs.declared.AbortReport.{AbortReport}
@@ -54,7 +54,7 @@ kind-back kind.Abort = refl
 kind-back (kind.Reset true) = refl
 kind-back (kind.Reset false) = refl
 
-u32-back : (o : OptionU32) → U32Fits o → optionU32Of (optionU32Word o) ≡ o
+u32-back : (o : OptionU32) → U32Fits o → readOptionU32 (optionU32Word o) ≡ o
 u32-back u32.None h = refl
 u32-back (u32.Some v) h = option-u32-back v h
 
@@ -67,13 +67,13 @@ option-error-back error.None h = refl
 option-error-back (error.Some e) h = ap error.Some (error-back e h)
 
 abbrev setupBy : SetupWords → OptionSetup
-setupBy p = setupOf (p .present) (p .«request_type») (p .request) (p .value) (p .index) (p .length)
+setupBy p = readSetupWords (p .present) (p .«request_type») (p .request) (p .value) (p .index) (p .length)
 
 setup-back : (o : OptionSetup) → SetupFits o → setupBy (setupWords o) ≡ o
 setup-back setup.None h = refl
 setup-back (setup.Some p) (t, r, v, i, l) = rw (low 8 t, low 8 r, low 16 v, low 16 i, low 16 l)
 
-device-back : (d : DeviceId) → DeviceFits d → deviceOf (d .session) (d .generation) (d .slot) ≡ d
+device-back : (d : DeviceId) → DeviceFits d → readDeviceWords (d .session) (d .generation) (d .slot) ≡ d
 device-back d h = rw (low 8 h)
 
 metadata-back : (m : RequestMetadata) → MetadataFits m → readMetadata (metadataTail m []) ≡ m
@@ -82,7 +82,7 @@ metadata-back m (d, e, s) =
     rw (low 8 d, low 8 e, transfer-back (m .«transfer_type»), direction-back (m .direction), setup-back (m .setup) s)
 
 abbrev stateBy : StateWords → RequestState
-stateBy s = stateOf (s .tag) (s .a) (s .b) (s .c) (s .d) (s .e) (s .f)
+stateBy s = readStateWords (s .tag) (s .a) (s .b) (s .c) (s .d) (s .e) (s .f)
 
 state-back : (s : RequestState) → StateFits s → stateBy (stateWords s) ≡ s
 state-back (state.Pending cancel late) h = rw (flag-back cancel, flag-back late)
@@ -99,7 +99,7 @@ begun-back : (x : Submission) → MetadataFits (x .metadata) → readAnswer (beg
 unfolding readAnswer begunWords _if_else_
 begun-back x h =
     let f : RequestMetadata → Bool → Answer = λ m p. answer.Begun (record { id = x .id; row = x .row; metadata = m; «has_packets» = p }) in
-    ap (λ (m : RequestMetadata). f m (flagOf (flagWord (x .«has_packets»)))) (metadata-back (x .metadata) h) ∙ ap (f (x .metadata)) (flag-back (x .«has_packets»))
+    ap (λ (m : RequestMetadata). f m (readFlag (flagWord (x .«has_packets»)))) (metadata-back (x .metadata) h) ∙ ap (f (x .metadata)) (flag-back (x .«has_packets»))
 
 plan-back : (x : PlanSubmission) → MetadataFits (x .plan .metadata) → readAnswer (planWords x) ≡ answer.PlanBegun x
 unfolding readAnswer planWords _if_else_

@@ -7,10 +7,10 @@ use lib.Dec.{eqb}
 use lib.ListN.{getD}
 use Rattle.chain.specs.Chain.{_if_else_}
 use Rattle.words.specs.Records.{tab}
-use Rattle.words.specs.Words.{flagOf, isSigned}
+use Rattle.words.specs.Words.{readFlag, isSigned}
 use Rattle.words.specs.declared.OptionU32.{OptionU32}
 use Rattle.words.specs.declared.OptionU32.the-variants as u32
-use Rattle.models.specs.Codes.{directionOf, profileOf}
+use Rattle.models.specs.Codes.{readDirection, readProfile}
 use Rattle.models.specs.declared.DeviceId.{DeviceId}
 use Rattle.models.specs.declared.OperationError.{OperationError}
 use Rattle.models.specs.declared.OptionError.{OptionError}
@@ -20,7 +20,7 @@ use Rattle.models.specs.declared.OptionSetup.the-variants as setup
 use Rattle.models.specs.declared.RequestMetadata.{RequestMetadata}
 use Rattle.models.specs.declared.RequestState.{RequestState}
 use Rattle.models.specs.declared.RequestState.the-variants as state
-use Rattle.rows.specs.Codec.{readMetadata, stateOf}
+use Rattle.rows.specs.Codec.{readMetadata, readStateWords}
 use Rattle.scope.specs.Returned.{readError, readOptionError}
 use Rattle.session_words.specs.State.{readRequestId, readDeviceId, readKind}
 use Rattle.calls.specs.declared.Answer.{Answer}
@@ -35,25 +35,25 @@ unfoldable pub readAnswer : List ℕ → Answer
 readAnswer w =
     answer.Refused (record { number = getD w 1 0; error = readError w 2 }) if eqb (getD w 0 0) 0 else
     answer.Pass if eqb (getD w 0 0) 1 else
-    answer.Begun (record { id = readRequestId w 1; row = getD w 4 0; metadata = readMetadata (wordsFrom w 5 13); «has_packets» = flagOf (getD w 18 0) })
+    answer.Begun (record { id = readRequestId w 1; row = getD w 4 0; metadata = readMetadata (wordsFrom w 5 13); «has_packets» = readFlag (getD w 18 0) })
     if eqb (getD w 0 0) 2 else
     answer.PlanBegun (record {
       id = readRequestId w 1;
       row = getD w 4 0;
       plan = record {
         metadata = readMetadata (wordsFrom w 5 13);
-        «has_data» = flagOf (getD w 18 0);
-        «data_direction» = directionOf (getD w 19 0);
-        «status_direction» = directionOf (getD w 20 0);
-        profile = profileOf (getD w 21 0);
+        «has_data» = readFlag (getD w 18 0);
+        «data_direction» = readDirection (getD w 19 0);
+        «status_direction» = readDirection (getD w 20 0);
+        profile = readProfile (getD w 21 0);
       };
     }) if eqb (getD w 0 0) 3 else
     answer.Report (record {
       id = readRequestId w 1;
       metadata = readMetadata (wordsFrom w 4 13);
-      state = stateOf (getD w 17 0) (getD w 18 0) (getD w 19 0) (getD w 20 0) (getD w 21 0) (getD w 22 0) (getD w 23 0);
-      «logical_cancel» = flagOf (getD w 24 0);
-      «timed_out» = flagOf (getD w 25 0);
+      state = readStateWords (getD w 17 0) (getD w 18 0) (getD w 19 0) (getD w 20 0) (getD w 21 0) (getD w 22 0) (getD w 23 0);
+      «logical_cancel» = readFlag (getD w 24 0);
+      «timed_out» = readFlag (getD w 25 0);
     }) if eqb (getD w 0 0) 4 else
     answer.NoReport if eqb (getD w 0 0) 5 else
     answer.Asked (getD w 1 0) if eqb (getD w 0 0) 6 else
@@ -66,7 +66,7 @@ readAnswer w =
       endpoint = getD w 7 0;
       completed = getD w 8 0;
       aborted = getD w 9 0;
-      «restart_ready» = flagOf (getD w 10 0);
+      «restart_ready» = readFlag (getD w 10 0);
       error = readOptionError w 11;
     })
 

@@ -9,11 +9,11 @@ use native.Mathlib.Numerals.{add-one}
 use lib.ListN.{length, getD, set, take, drop, length-append, length-drop, take-append-drop}
 use lib.Seq.{take-all, take-at, take-take, take-suc-set, drop-set-lt, drop-drop, drop-append-le}
 use borrow.Author.Tests.{ne-eqb}
-use Rattle.words.specs.Words.{flagOf, flagWord, optionU32Of, optionU32Word}
+use Rattle.words.specs.Words.{readFlag, flagWord, readOptionU32, optionU32Word}
 use Rattle.words.specs.Records.{splice, part, chunks}
 use Rattle.words.specs.declared.OptionU32.{OptionU32}
 use Rattle.words.proofs.Records.{part-getD, part-first, part-length, splice-set, chunks-at, chunks-put, chunks-kept}
-use Rattle.models.specs.Codes.{deviceStateOf}
+use Rattle.models.specs.Codes.{readDeviceState}
 use Rattle.models.specs.declared.DeviceSnapshot.{DeviceSnapshot}
 use Rattle.models.specs.declared.DeviceState.{DeviceState}
 use Rattle.models.specs.declared.OptionDevice.the-variants as device
@@ -40,14 +40,14 @@ module _ (l : List ℕ) (at : ℕ) (p : List ℕ) (sized : length l ≡ busWords
   keeps-marks h = chunks-kept marksAt 1 readMark 256 l at p (omega arith) (inl h)
 
 -- a port row
-pub port-is : (l : List ℕ) (number i : ℕ) (r : OptionU32) → i ≡ portIndex number → i < 255 → r ≡ optionU32Of (getD l (i * 2 + 1) 0)
+pub port-is : (l : List ℕ) (number i : ℕ) (r : OptionU32) → i ≡ portIndex number → i < 255 → r ≡ readOptionU32 (getD l (i * 2 + 1) 0)
     → _≡_ {A = PortRow} (record { generation = getD l (i * 2) 0; reading = r }) (portAt (busOf l) number)
 unfolding busOf
 port-is l number i r ei h e =
     let z : 0 + i * 2 ≡ i * 2 = omega arith in
     rw (← ei, chunks-at 0 2 readPort 255 l i newPort h, e, z, part-first 0 (i * 2) 2 l (omega arith), part-getD 0 (i * 2) 2 l 1 (omega arith))
 
-pub put-port : (l x : List ℕ) (number i w : ℕ) (r : PortRow) → length l ≡ busWords → i ≡ portIndex number → i < 255 → optionU32Of w ≡ r .reading
+pub put-port : (l x : List ℕ) (number i w : ℕ) (r : PortRow) → length l ≡ busWords → i ≡ portIndex number → i < 255 → readOptionU32 w ≡ r .reading
     → w ≡ optionU32Word (r .reading) → x ≡ splice (i * 2) (r .generation ∷ w ∷ []) l → busOf x ≡ putPort (busOf l) number r
 unfolding busOf putPort
 put-port l x number i w r sized ei h e f ex =
@@ -83,7 +83,7 @@ module _ (l : List ℕ) (slot : ℕ) (h : slot < 256) where
   unfolding readDevice
   device-none e = rw (device-row, part-first 0 at 8 l (omega arith), e)
 
-  pub device-some : (s : DeviceState) → (getD l at 0 ≡ 0 → ⊥) → s ≡ deviceStateOf (getD l (at + 7) 0)
+  pub device-some : (s : DeviceState) → (getD l at 0 ≡ 0 → ⊥) → s ≡ readDeviceState (getD l (at + 7) 0)
       → device.Some (record {
         id = record { session = getD l (at + 1) 0; generation = getD l (at + 2) 0; slot = getD l (at + 3) 0 % 256 };
         port = record { session = getD l (at + 4) 0; generation = getD l (at + 5) 0; number = getD l (at + 6) 0 % 256 };
@@ -128,13 +128,13 @@ put-device l x w d sized h e f ex =
     )
 
 -- a mark
-pub mark-is : (l : List ℕ) (slot : ℕ) (r : Bool) → slot < 256 → r ≡ flagOf (getD l (marksAt + slot) 0) → r ≡ markAt (busOf l) slot
+pub mark-is : (l : List ℕ) (slot : ℕ) (r : Bool) → slot < 256 → r ≡ readFlag (getD l (marksAt + slot) 0) → r ≡ markAt (busOf l) slot
 unfolding busOf
 mark-is l slot r h e =
     let z : marksAt + slot * 1 ≡ marksAt + slot = omega arith in
     e ∙ rw (chunks-at marksAt 1 readMark 256 l slot false h, part-first 0 (marksAt + slot * 1) 1 l (omega arith), z)
 
-pub put-mark : (l : List ℕ) (slot w : ℕ) (m : Bool) → length l ≡ busWords → slot < 256 → flagOf w ≡ m → w ≡ flagWord m
+pub put-mark : (l : List ℕ) (slot w : ℕ) (m : Bool) → length l ≡ busWords → slot < 256 → readFlag w ≡ m → w ≡ flagWord m
     → busOf (set l (marksAt + slot) w) ≡ putMark (busOf l) slot m
 unfolding busOf putMark
 put-mark l slot w m sized h e f =

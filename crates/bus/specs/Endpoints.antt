@@ -5,20 +5,20 @@ use mathlib.Core.List.{List}
 use lib.ListN.{length}
 use lib.Dec.{eqb, ltb}
 use Rattle.chain.specs.Chain.{_if_else_}
+use Rattle.chain.specs.After.{After, after}
 use Rattle.chain.specs.Lists.{anyIn}
 use Rattle.models.specs.Refusals.{refusalOf}
 use Rattle.models.specs.declared.TransferType.{TransferType}
 use Rattle.models.specs.declared.Verdict.the-variants as verdict
 use Rattle.bus.specs.Layout.{endpointWord}
 use Rattle.bus.specs.Tables.{Bus, endpointsAt, putEndpoints}
-use Rattle.bus.specs.Ports.{VerdictTo, verdictTo}
 
 -- whether an endpoint of this address and type was placed; a word whose type is none of the four equals no endpoint's
 abbrev pub hasEndpoint : ℕ → ℕ → TransferType → Bus → Bool
 hasEndpoint slot address type b = anyIn (eqb (endpointWord address type)) (endpointsAt b slot)
 
 -- 53: more than 30
-unfoldable pub setEndpoints : ℕ → List ℕ → Bus → VerdictTo
+unfoldable pub setEndpoints : ℕ → List ℕ → Bus → After Verdict Bus
 setEndpoints slot l b =
-    verdictTo (verdict.Refused (refusalOf 53)) b if ltb 30 (length l) else
-    verdictTo verdict.Pass (putEndpoints b slot l)
+    after (verdict.Refused (refusalOf 53)) b if ltb 30 (length l) else
+    after verdict.Pass (putEndpoints b slot l)

@@ -5,8 +5,8 @@ use mathlib.Core.Bool.{Bool, cond}
 use mathlib.Core.List.{List, [], _∷_}
 use lib.ListN.{getD, take, drop}
 use lib.Dec.{eqb}
-use Rattle.words.specs.Words.{flagOf, flagWord, optionU32Of, optionU32Word}
-use Rattle.models.specs.Codes.{deviceStateOf, deviceStateWord, transferWord}
+use Rattle.words.specs.Words.{readFlag, flagWord, readOptionU32, optionU32Word}
+use Rattle.models.specs.Codes.{readDeviceState, deviceStateWord, transferWord}
 use Rattle.models.specs.declared.DeviceSnapshot.{DeviceSnapshot}
 use Rattle.models.specs.declared.OptionDevice.{OptionDevice}
 use Rattle.models.specs.declared.OptionDevice.the-variants as device
@@ -38,7 +38,7 @@ busWords = 10750
 
 -- a port row: its generation, and its last reading or none
 abbrev pub readPort : List ℕ → PortRow
-readPort w = record { generation = getD w 0 0; reading = optionU32Of (getD w 1 0) }
+readPort w = record { generation = getD w 0 0; reading = readOptionU32 (getD w 1 0) }
 
 abbrev pub portRecord : PortRow → List ℕ
 portRecord r = r .generation ∷ optionU32Word (r .reading) ∷ []
@@ -50,7 +50,7 @@ readDevice w =
     (device.Some (record {
       id = record { session = getD w 1 0; generation = getD w 2 0; slot = getD w 3 0 % 2 ^ 8 };
       port = record { session = getD w 4 0; generation = getD w 5 0; number = getD w 6 0 % 2 ^ 8 };
-      state = deviceStateOf (getD w 7 0);
+      state = readDeviceState (getD w 7 0);
     }))
 
 unfoldable pub deviceRecord : DeviceSnapshot → List ℕ
@@ -66,4 +66,4 @@ unfoldable pub readEndpoints : List ℕ → List ℕ
 readEndpoints w = take (getD w 0 0) (take 30 (drop 1 w))
 
 abbrev pub readMark : List ℕ → Bool
-readMark w = flagOf (getD w 0 0)
+readMark w = readFlag (getD w 0 0)

@@ -3,6 +3,7 @@ use Prim.Native.Nat.{ℕ, _+_, _-_, _^_}
 use mathlib.Core.Bool.{Bool, false, not, _||_, Bool·beq}
 use lib.Dec.{eqb, ltb}
 use Rattle.chain.specs.Chain.{_if_else_}
+use Rattle.chain.specs.After.{After, after}
 use Rattle.words.specs.declared.OptionU32.{OptionU32}
 use Rattle.words.specs.declared.OptionU32.the-variants as u32
 use Rattle.models.specs.Refusals.{refusalOf, fromBackend}
@@ -26,19 +27,12 @@ unfoldable pub numberChecked : OptionPorts → ℕ → Verdict
 numberChecked ports.None number = verdict.Refused (refusalOf 29)
 numberChecked (ports.Some p) number = verdict.Refused (refusalOf 30) if eqb number 0 || ltb (p .count) number else verdict.Pass
 
--- a verdict and the bus after it
-pub record VerdictTo : Type 0 where
-  pub answer : Verdict
-  pub bus : Bus
+-- 29, 30, or the row takes its place
+unfoldable pub setPortBy : Verdict → ℕ → PortRow → Bus → After Verdict Bus
+setPortBy (verdict.Refused r) number row b = after (verdict.Refused r) b
+setPortBy verdict.Pass number row b = after verdict.Pass (putPort b number row)
 
-abbrev pub verdictTo : Verdict → Bus → VerdictTo
-verdictTo v b = record { answer = v; bus = b }
-
-unfoldable pub setPortBy : Verdict → ℕ → PortRow → Bus → VerdictTo
-setPortBy (verdict.Refused r) number row b = verdictTo (verdict.Refused r) b
-setPortBy verdict.Pass number row b = verdictTo verdict.Pass (putPort b number row)
-
-unfoldable pub setPort : OptionPorts → ℕ → PortRow → Bus → VerdictTo
+unfoldable pub setPort : OptionPorts → ℕ → PortRow → Bus → After Verdict Bus
 setPort ports number row b = setPortBy (numberChecked ports number) number row b
 
 -- 32: no reading
@@ -80,48 +74,33 @@ observedBy (u32.Some old) row raw =
 unfoldable pub observedRow : PortRow → ℕ → Observed
 observedRow row raw = observedBy (row .reading) row raw
 
--- a row after a reading, and the bus after it
-pub record ObservedTo : Type 0 where
-  pub answer : Observed
-  pub bus : Bus
+-- 34, or the row written
+unfoldable pub observePortBy : Observed → ℕ → Bus → After Observed Bus
+observePortBy (observed.Refused r) number b = after (observed.Refused r) b
+observePortBy (observed.To row) number b = after (observed.To row) (putPort b number row)
 
-abbrev pub observedTo : Observed → Bus → ObservedTo
-observedTo o b = record { answer = o; bus = b }
-
-unfoldable pub observePortBy : Observed → ℕ → Bus → ObservedTo
-observePortBy (observed.Refused r) number b = observedTo (observed.Refused r) b
-observePortBy (observed.To row) number b = observedTo (observed.To row) (putPort b number row)
-
-unfoldable pub observePort : ℕ → ℕ → Bus → ObservedTo
+unfoldable pub observePort : ℕ → ℕ → Bus → After Observed Bus
 observePort number raw b = observePortBy (observedRow (portAt b number) raw) number b
 
--- a port with a fresh reading, and the bus after it
-pub record FreshTo : Type 0 where
-  pub answer : PortChecked
-  pub bus : Bus
-
-abbrev pub freshTo : PortChecked → Bus → FreshTo
-freshTo c b = record { answer = c; bus = b }
-
--- 31 again: the id is validated against the row that was written
+-- a port with a fresh reading. 31 again: the id is validated against the row that was written
 unfoldable pub freshObserved : Observed → OptionPorts → PortId → PortChecked
 freshObserved (observed.Refused r) ports id = checked.Refused r
 freshObserved (observed.To row) ports id = validatedRow ports id row
 
 -- 34 with nothing written, or the row written
-unfoldable pub freshWord : ℕ → OptionPorts → PortId → Bus → FreshTo
+unfoldable pub freshWord : ℕ → OptionPorts → PortId → Bus → After PortChecked Bus
 freshWord raw ports id b =
-    freshTo (freshObserved (observePort (id .number) raw b .answer) ports id) (observePort (id .number) raw b .bus)
+    after (freshObserved (observePort (id .number) raw b .result) ports id) (observePort (id .number) raw b .lent)
 
 -- 33: the reading failed, with the backend's error
-unfoldable pub freshReading : PortReading → OptionPorts → PortId → Bus → FreshTo
-freshReading (Error e) ports id b = freshTo (checked.Refused (fromBackend 33 e)) b
+unfoldable pub freshReading : PortReading → OptionPorts → PortId → Bus → After PortChecked Bus
+freshReading (Error e) ports id b = after (checked.Refused (fromBackend 33 e)) b
 freshReading (Word raw) ports id b = freshWord raw ports id b
 
-unfoldable pub freshPortBy : PortChecked → PortReading → OptionPorts → PortId → Bus → FreshTo
-freshPortBy (checked.Refused r) reading ports id b = freshTo (checked.Refused r) b
+unfoldable pub freshPortBy : PortChecked → PortReading → OptionPorts → PortId → Bus → After PortChecked Bus
+freshPortBy (checked.Refused r) reading ports id b = after (checked.Refused r) b
 freshPortBy (checked.Read raw) reading ports id b = freshReading reading ports id b
 
 -- 29, 30, 31, 32, then 33, 34, and 31 again
-unfoldable pub freshPort : OptionPorts → PortId → PortReading → Bus → FreshTo
+unfoldable pub freshPort : OptionPorts → PortId → PortReading → Bus → After PortChecked Bus
 freshPort ports id reading b = freshPortBy (validated ports id b) reading ports id b

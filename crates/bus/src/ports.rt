@@ -11,9 +11,10 @@ use words::slices;
 ghost use mathlib.Core.Path.{_≡_};
 ghost use Prim.Native.Nat.{_<_};
 ghost use lib.ListN.{length};
+ghost use Rattle.chain.specs.After.{after};
 ghost use Rattle.bus.specs.Layout.{busWords};
 ghost use Rattle.bus.specs.Tables.{busOf, portIndex, portAt, putPort};
-ghost use Rattle.bus.specs.Ports.{numberChecked, verdictTo, setPort, readingChecked, ofOpening, validatedRow, validated, raisedRow, observedRow, observedTo, observePort, freshTo, freshWord, freshReading, freshPort};
+ghost use Rattle.bus.specs.Ports.{numberChecked, setPort, readingChecked, ofOpening, validatedRow, validated, raisedRow, observedRow, observePort, freshWord, freshReading, freshPort};
 
 // The greatest generation, 2^64 - 1.
 const LAST_GENERATION: u64 = 18446744073709551615;
@@ -79,7 +80,7 @@ fn check_number(ports: OptionPorts, number: u8) -> Verdict
 // Puts a port row, whatever its old words.
 pub fn set_port(bus: &mut [u64], ports: OptionPorts, number: u8, row: PortRow) -> Verdict
     requires { ⌜ length (now bus) ≡ busWords ⌝ }
-    ensures { λ r. ⌜ verdictTo r (busOf (now (bus .exit))) ≡ setPort ports number row (busOf (now (bus .entry))) ⌝ }
+    ensures { λ r. ⌜ after r (busOf (now (bus .exit))) ≡ setPort ports number row (busOf (now (bus .entry))) ⌝ }
 {
     let checked = check_number(ports, number);
     let Verdict::Pass = checked else {
@@ -170,7 +171,7 @@ fn observe_row(row: PortRow, raw: u32) -> Observed
 // Observes a port, and writes its row unless 34.
 fn observe(bus: &mut [u64], number: u8, raw: u32) -> Observed
     requires { ⌜ length (now bus) ≡ busWords ⌝ }
-    ensures { λ r. ⌜ observedTo r (busOf (now (bus .exit))) ≡ observePort number raw (busOf (now (bus .entry))) ⌝ }
+    ensures { λ r. ⌜ after r (busOf (now (bus .exit))) ≡ observePort number raw (busOf (now (bus .entry))) ⌝ }
 {
     let row = read_port(bus, number);
     let next = observe_row(row, raw);
@@ -186,7 +187,7 @@ fn observe(bus: &mut [u64], number: u8, raw: u32) -> Observed
 // 34 with nothing written, or 31 again with the row written.
 fn observe_word(bus: &mut [u64], ports: OptionPorts, id: PortId, raw: u32) -> PortChecked
     requires { ⌜ length (now bus) ≡ busWords ⌝ }
-    ensures { λ r. ⌜ freshTo r (busOf (now (bus .exit))) ≡ freshWord raw ports id (busOf (now (bus .entry))) ⌝ }
+    ensures { λ r. ⌜ after r (busOf (now (bus .exit))) ≡ freshWord raw ports id (busOf (now (bus .entry))) ⌝ }
 {
     let next = observe(bus, id.number, raw);
     match next {
@@ -203,7 +204,7 @@ fn observe_reading(
     reading: PortReading,
 ) -> PortChecked
     requires { ⌜ length (now bus) ≡ busWords ⌝ }
-    ensures { λ r. ⌜ freshTo r (busOf (now (bus .exit))) ≡ freshReading reading ports id (busOf (now (bus .entry))) ⌝ }
+    ensures { λ r. ⌜ after r (busOf (now (bus .exit))) ≡ freshReading reading ports id (busOf (now (bus .entry))) ⌝ }
 {
     match reading {
         PortReading::Error(error) => PortChecked::Refused(models::refuse_backend(33, error)),
@@ -219,7 +220,7 @@ pub fn fresh_port(
     reading: PortReading,
 ) -> PortChecked
     requires { ⌜ length (now bus) ≡ busWords ⌝ }
-    ensures { λ r. ⌜ freshTo r (busOf (now (bus .exit))) ≡ freshPort ports id reading (busOf (now (bus .entry))) ⌝ }
+    ensures { λ r. ⌜ after r (busOf (now (bus .exit))) ≡ freshPort ports id reading (busOf (now (bus .entry))) ⌝ }
 {
     let checked = validate(bus, ports, id);
     let PortChecked::Read(_) = checked else {

@@ -11,7 +11,7 @@ use borrow.Author.Tests.{eqb-true, eqb-false, leb-true, leb-false}
 use Rattle.chain.specs.Chain.{_if_else_}
 use Rattle.chain.proofs.Chain.{caseB, both, and3, if-by}
 use Rattle.words.specs.Records.{tab, part}
-use Rattle.words.specs.Words.{flagOf, optionU64Of}
+use Rattle.words.specs.Words.{readFlag, readOptionU64}
 use Rattle.words.proofs.Records.{part-length}
 use Rattle.scope.specs.Returned.{completionWords, readOptionError, readCompletion}
 use Rattle.session_words.specs.State.{readRequestId}
@@ -20,7 +20,7 @@ use Rattle.calls.specs.Calls.{Call, Open, Place, Device, Port, Endpoints, Recon
 use Rattle.call_words.specs.Parts.{isZero, isFlag, isByte, areZero, byFlag, zeros, requestIdWords, backendCompletionWords, isError, isOptionError, readReading, isCompletion}
 use Rattle.call_words.specs.Form.{has, isOpenCall, isSetDevice, isSetPort, isSetEndpoints, isSetReconcile, isAcquire, isInitialize, isClose, isSubmit, isPlan, isSubmitReply, isPollReply, isReports, isReset, isRecovered, isRecoveryReply, isPlacing, isMoving, isSubmission, isReplying, isReporting, isRecoveryCall, isCall}
 use Rattle.call_words.specs.Arguments.{readOpening, readSnapshot, readPortRow, readAcquireReply, readSpec, readPlan, readSubmitReply, readPollReply, readOptionId, readRecoveryReply, readCompleted, readCompletions, readAborted}
-use Rattle.call_words.specs.Decode.{placingOf, movingOf, submissionOf, replyingOf, changingOf, reportingOf, recoveringOf, callOf}
+use Rattle.call_words.specs.Decode.{readPlacing, readMoving, readSubmission, readReplying, readChanging, readReporting, readRecovering, readCall}
 use Rattle.call_words.specs.Encode.{recoveryReplyWords, callWords}
 use Rattle.call_words.proofs.Told.{and4, opening-told, device-told, port-told, endpoints-told, reconcile-told, acquire-told, initialize-told, close-told, submit-reply-told, reports-told, reset-told, recovery-reply-told, submit-told, plan-told}
 use Rattle.call_words.proofs.PartWords.{word, from, cut, whole, by-flag, zeros-words, flag-word, transfer-word, direction-word, device-state-word, profile-word, status-word, byte-word, option-u32-word, number-words, error-words, setup-words, option-error-words, option-setup-words, reading-words, stage-words, ports-words, completion-words}
@@ -76,7 +76,7 @@ module _ (w : List ℕ) where
       let p = endpoints-told w t in
       rw (byte 1 (p .1)) (rw e at (cut w 2 (leb-true 2 (length w) (p .0))))
 
-  reconcile-says : getD w 0 0 ≡ 4 → isSetReconcile w ≡ true → Says (Place (Reconcile (getD w 1 0 % 2 ^ 8) (flagOf (getD w 2 0))))
+  reconcile-says : getD w 0 0 ≡ 4 → isSetReconcile w ≡ true → Says (Place (Reconcile (getD w 1 0 % 2 ^ 8) (readFlag (getD w 2 0))))
   unfolding callWords
   reconcile-says e t =
       let p = reconcile-told w t in
@@ -97,7 +97,7 @@ module _ (w : List ℕ) where
       let p = initialize-told w t in
       rw (option-error-words (after 1) (p .1)) (all 5 6 (p .0) e)
 
-  close-says : getD w 0 0 ≡ 7 → isClose w ≡ true → Says (Move (Close (optionU64Of (getD w 1 0) (getD w 2 0)) (readOptionError w 3)))
+  close-says : getD w 0 0 ≡ 7 → isClose w ≡ true → Says (Move (Close (readOptionU64 (getD w 1 0) (getD w 2 0)) (readOptionError w 3)))
   unfolding callWords
   close-says e t =
       let p = close-told w t in
@@ -111,7 +111,7 @@ module _ (w : List ℕ) where
       (λ k z. (leb-true 27 (length w) z, rw k))
 
   submit-says : (bytes : List ℕ) → getD w 0 0 ≡ 8 → isSubmit w ≡ true
-      → Says (Begin (Submit (readSpec w) bytes (flagOf (getD w 26 0)) (drop 27 w) (readReading w 14) (readReading w 20)))
+      → Says (Begin (Submit (readSpec w) bytes (readFlag (getD w 26 0)) (drop 27 w) (readReading w 14) (readReading w 20)))
   unfolding readSpec callWords
   submit-says bytes e t =
       let p = submit-told w t in
@@ -187,7 +187,7 @@ module _ (w : List ℕ) where
       let h = all 4 17 (p .0) e in
       by-flag (getD w 1 0) (areZero w 2 3) true (p .1) (λ k z. rw k (rw (k, zeros-words (after 2) 3 z) at h)) (λ k z. rw k (rw k at h))
 
-  reset-says : getD w 0 0 ≡ 23 → isReset w ≡ true → Says (Begin (Recover (readRequestId w 1) (kind.Reset (flagOf (getD w 4 0)))))
+  reset-says : getD w 0 0 ≡ 23 → isReset w ≡ true → Says (Begin (Recover (readRequestId w 1) (kind.Reset (readFlag (getD w 4 0)))))
   unfolding callWords
   reset-says e t = let p = reset-told w t in rw (flag-word (getD w 4 0) (p .1)) (all 4 23 (p .0) e)
 
@@ -229,8 +229,8 @@ module _ (w : List ℕ) where
     to : (k : ℕ) → eqb n k ≡ true → getD w 0 0 ≡ k
     to k t = e ∙ eqb-true n k t
 
-    placing-says : n ≤ 4 → isPlacing n w ≡ true → Says (placingOf n w)
-    unfolding isPlacing placingOf
+    placing-says : n ≤ 4 → isPlacing n w ≡ true → Says (readPlacing n w)
+    unfolding isPlacing readPlacing
     placing-says h =
         same-way Says (eqb n 0) (λ t. opening-says (to 0 t)) λ n0.
         same-way Says (eqb n 1) (λ t. device-says (to 1 t)) λ n1.
@@ -238,28 +238,28 @@ module _ (w : List ℕ) where
         same-way Says (eqb n 3) (λ t. endpoints-says (to 3 t)) λ n3.
         reconcile-says (e ∙ omega (arith, eqb-false n 0 n0, eqb-false n 1 n1, eqb-false n 2 n2, eqb-false n 3 n3))
 
-    moving-says : 5 ≤ n → n ≤ 7 → isMoving n w ≡ true → Says (movingOf n w)
-    unfolding isMoving movingOf
+    moving-says : 5 ≤ n → n ≤ 7 → isMoving n w ≡ true → Says (readMoving n w)
+    unfolding isMoving readMoving
     moving-says l h =
         same-way Says (eqb n 5) (λ t. acquire-says (to 5 t)) λ n5.
         same-way Says (eqb n 6) (λ t. initialize-says (to 6 t)) λ n6.
         close-says (e ∙ omega (arith, eqb-false n 5 n5, eqb-false n 6 n6))
 
-    submission-says : (bytes : List ℕ) → 8 ≤ n → n ≤ 9 → isSubmission n w ≡ true → Says (submissionOf n w bytes)
-    unfolding isSubmission submissionOf
+    submission-says : (bytes : List ℕ) → 8 ≤ n → n ≤ 9 → isSubmission n w ≡ true → Says (readSubmission n w bytes)
+    unfolding isSubmission readSubmission
     submission-says bytes l h =
         same-way Says (eqb n 8) (λ t. submit-says bytes (to 8 t)) λ n8.
         plan-says bytes (e ∙ omega (arith, eqb-false n 8 n8))
 
-    replying-says : (bytes : List ℕ) → 10 ≤ n → n ≤ 12 → isReplying n w ≡ true → Says (replyingOf n w bytes)
-    unfolding isReplying replyingOf callWords
+    replying-says : (bytes : List ℕ) → 10 ≤ n → n ≤ 12 → isReplying n w ≡ true → Says (readReplying n w bytes)
+    unfolding isReplying readReplying callWords
     replying-says bytes l h =
         same-way Says (eqb n 10) (λ t. submit-reply-says (to 10 t)) λ n10.
         same-way Says (eqb n 11) (λ t. id-says 11 (to 11 t)) λ n11.
         poll-reply-says bytes (e ∙ omega (arith, eqb-false n 10 n10, eqb-false n 11 n11))
 
-    changing-says : 13 ≤ n → n ≤ 15 → has w 4 ≡ true → Says (changingOf n w)
-    unfolding changingOf callWords
+    changing-says : 13 ≤ n → n ≤ 15 → has w 4 ≡ true → Says (readChanging n w)
+    unfolding readChanging callWords
     changing-says l h t =
         if-by Says (Change (readRequestId w 1) Cancel) (eqb n 13) _ (λ q. id-says 13 (to 13 q) t) λ n13.
         if-by Says (Change (readRequestId w 1) Timeout) (eqb n 14) _ (λ q. id-says 14 (to 14 q) t) λ n14.
@@ -268,8 +268,8 @@ module _ (w : List ℕ) where
     count-says : (k : ℕ) → getD w 0 0 ≡ k → has w 1 ≡ true → (k ∷ []) ≡ w
     count-says k q t = all 0 k t q
 
-    reporting-says : 16 ≤ n → n ≤ 21 → isReporting n w ≡ true → Says (reportingOf n w)
-    unfolding isReporting reportingOf callWords
+    reporting-says : 16 ≤ n → n ≤ 21 → isReporting n w ≡ true → Says (readReporting n w)
+    unfolding isReporting readReporting callWords
     reporting-says l h =
         same-way Says (eqb n 16) (λ t. id-says 16 (to 16 t)) λ n16.
         same-way Says (eqb n 17) (λ t. reports-says (to 17 t)) λ n17.
@@ -278,15 +278,15 @@ module _ (w : List ℕ) where
         if-by Says (Read HeldCount) (eqb n 20) (Read HeldBytes) (λ q. count-says 20 (to 20 q) t) λ n20.
         count-says 21 (e ∙ omega (arith, eqb-false n 16 n16, eqb-false n 17 n17, eqb-false n 18 n18, eqb-false n 19 n19, eqb-false n 20 n20)) t
 
-    recovering-says : (bytes : List ℕ) → 22 ≤ n → n ≤ 24 → isRecoveryCall n w ≡ true → Says (recoveringOf n w bytes)
-    unfolding isRecoveryCall recoveringOf callWords
+    recovering-says : (bytes : List ℕ) → 22 ≤ n → n ≤ 24 → isRecoveryCall n w ≡ true → Says (readRecovering n w bytes)
+    unfolding isRecoveryCall readRecovering callWords
     recovering-says bytes l h =
         same-way Says (eqb n 22) (λ t. id-says 22 (to 22 t)) λ n22.
         same-way Says (eqb n 23) (λ t. reset-says (to 23 t)) λ n23.
         recovery-reply-says bytes (e ∙ omega (arith, eqb-false n 22 n22, eqb-false n 23 n23))
 
-  pub call-words : (bytes : List ℕ) → isCall w ≡ true → callWords (callOf w bytes) ≡ w
-  unfolding isCall callOf
+  pub call-words : (bytes : List ℕ) → isCall w ≡ true → callWords (readCall w bytes) ≡ w
+  unfolding isCall readCall
   call-words bytes =
       let n = getD w 0 0 in
       same-way Says (leb n 4) (λ a. placing-says n refl (leb-true n 4 a)) λ a.
@@ -299,5 +299,5 @@ module _ (w : List ℕ) where
       recovering-says n refl bytes (leb-false n 21 g) (leb-true n 24 (z .0)) (z .1)
 
 -- so different words are different calls
-pub one-words : (w v bytes other : List ℕ) → isCall w ≡ true → isCall v ≡ true → callOf w bytes ≡ callOf v other → w ≡ v
+pub one-words : (w v bytes other : List ℕ) → isCall w ≡ true → isCall v ≡ true → readCall w bytes ≡ readCall v other → w ≡ v
 one-words w v bytes other tw tv e = sym (call-words w bytes tw) ∙ ap callWords e ∙ call-words v other tv

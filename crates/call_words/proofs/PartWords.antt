@@ -11,12 +11,12 @@ use lib.Seq.{getD-take, length-take-le}
 use borrow.Author.Tests.{eqb-true, eqb-false, leb-true}
 use Rattle.chain.proofs.Chain.{caseB, both}
 use Rattle.words.specs.Records.{tab}
-use Rattle.words.specs.Words.{flagOf, flagWord, optionU64Words, optionU32Of, optionU32Word, optionU64Of}
+use Rattle.words.specs.Words.{readFlag, flagWord, optionU64Words, readOptionU32, optionU32Word, readOptionU64}
 use Rattle.words.specs.declared.OptionWords.{OptionWords}
 use Rattle.words.proofs.Options.{low}
 use Rattle.words.proofs.Signed.{option-i32-word}
 use Rattle.words.proofs.Records.{getD-tab, tab-all, tab-same, tab-list}
-use Rattle.models.specs.Codes.{categoryOf, categoryWord, transferOf, transferWord, directionOf, directionWord, profileOf, profileWord, deviceStateOf, deviceStateWord}
+use Rattle.models.specs.Codes.{readCategory, categoryWord, readTransfer, transferWord, readDirection, directionWord, readProfile, profileWord, readDeviceState, deviceStateWord}
 use Rattle.rows.specs.Codec.{setupWords}
 use Rattle.rows.specs.declared.codec.SetupWords.{SetupWords}
 use Rattle.scope.specs.Returned.{readError, errorWords, readOptionError, optionErrorWords, readCompletion}
@@ -33,23 +33,23 @@ module _ {A : Type 0} (f : A → ℕ) (g : ℕ → A) (n : ℕ) where
       sym (getD-tab (λ (i : ℕ). f (g i)) n x 0 (omega arith)) ∙ ap (λ (m : List ℕ). getD m x 0) e ∙ getD-tab (λ (i : ℕ). i) n x 0 (omega arith)
 
 module _ (x : ℕ) where
-  pub flag-word : leb x 1 ≡ true → flagWord (flagOf x) ≡ x
-  flag-word t = coded flagWord flagOf 2 refl x t (omega arith)
+  pub flag-word : leb x 1 ≡ true → flagWord (readFlag x) ≡ x
+  flag-word t = coded flagWord readFlag 2 refl x t (omega arith)
 
-  pub category-word : leb x 6 ≡ true → categoryWord (categoryOf x) ≡ x
-  category-word t = coded categoryWord categoryOf 7 refl x t (omega arith)
+  pub category-word : leb x 6 ≡ true → categoryWord (readCategory x) ≡ x
+  category-word t = coded categoryWord readCategory 7 refl x t (omega arith)
 
-  pub transfer-word : leb x 3 ≡ true → transferWord (transferOf x) ≡ x
-  transfer-word t = coded transferWord transferOf 4 refl x t (omega arith)
+  pub transfer-word : leb x 3 ≡ true → transferWord (readTransfer x) ≡ x
+  transfer-word t = coded transferWord readTransfer 4 refl x t (omega arith)
 
-  pub direction-word : leb x 1 ≡ true → directionWord (directionOf x) ≡ x
-  direction-word t = coded directionWord directionOf 2 refl x t (omega arith)
+  pub direction-word : leb x 1 ≡ true → directionWord (readDirection x) ≡ x
+  direction-word t = coded directionWord readDirection 2 refl x t (omega arith)
 
-  pub device-state-word : leb x 6 ≡ true → deviceStateWord (deviceStateOf x) ≡ x
-  device-state-word t = coded deviceStateWord deviceStateOf 7 refl x t (omega arith)
+  pub device-state-word : leb x 6 ≡ true → deviceStateWord (readDeviceState x) ≡ x
+  device-state-word t = coded deviceStateWord readDeviceState 7 refl x t (omega arith)
 
-  pub profile-word : leb x 1 ≡ true → profileWord (profileOf x) ≡ x
-  profile-word t = coded profileWord profileOf 2 refl x t (omega arith)
+  pub profile-word : leb x 1 ≡ true → profileWord (readProfile x) ≡ x
+  profile-word t = coded profileWord readProfile 2 refl x t (omega arith)
 
   pub status-word : leb x 2 ≡ true → statusWord (readStatus x) ≡ x
   status-word t = coded statusWord readStatus 3 refl x t (omega arith)
@@ -63,7 +63,7 @@ module _ (x : ℕ) where
   pub full-word : leb x (2 ^ 32 - 1) ≡ true → x % 2 ^ 32 ≡ x
   full-word t = low 32 (omega (arith, leb-true x (2 ^ 32 - 1) t))
 
-  pub option-u32-word : leb x (2 ^ 32) ≡ true → optionU32Word (optionU32Of x) ≡ x
+  pub option-u32-word : leb x (2 ^ 32) ≡ true → optionU32Word (readOptionU32 x) ≡ x
   option-u32-word t =
       let l = leb-true x (2 ^ 32) t in
       caseB (eqb x 0) (λ e. rw e (sym (eqb-true x 0 e)))
@@ -92,7 +92,7 @@ module _ (f : ℕ → ℕ) where
   abbrev pub from : ℕ → ℕ → ℕ
   from at k = f (at + k)
 
-  pub number-words : isOptionNumber (tab f 2) 0 ≡ true → _≡_ {A = OptionWords} (optionU64Words (optionU64Of (f 0) (f 1))) (record { present = f 0; value = f 1 })
+  pub number-words : isOptionNumber (tab f 2) 0 ≡ true → _≡_ {A = OptionWords} (optionU64Words (readOptionU64 (f 0) (f 1))) (record { present = f 0; value = f 1 })
   number-words t = by-flag (f 0) (eqb (f 1) 0) true t (λ e z. rw (e, eqb-true (f 1) 0 z)) (λ e z. rw e)
 
   pub error-words : isError (tab f 4) 0 ≡ true → errorWords (readError (tab f 4) 0) ≡ tab f 4
@@ -135,7 +135,7 @@ module _ (f : ℕ → ℕ) where
       by-flag (f 0) (areZero (tab f 3) 1 2) (leb (f 1) 1) t (λ e z. rw (e, zeros-words (from f 1) 2 z)) (λ e z. rw (e, direction-word (f 1) z))
 
   -- ports: a flag, the count
-  pub ports-words : byFlag (f 0) (eqb (f 1) 0) (leb (f 1) 255) ≡ true → (flagWord (flagOf (f 0)) ≡ f 0) × (f 1 % 2 ^ 8 ≡ f 1)
+  pub ports-words : byFlag (f 0) (eqb (f 1) 0) (leb (f 1) 255) ≡ true → (flagWord (readFlag (f 0)) ≡ f 0) × (f 1 % 2 ^ 8 ≡ f 1)
   ports-words t =
       by-flag (f 0) (eqb (f 1) 0) (leb (f 1) 255) t (λ e z. (rw e, rw (eqb-true (f 1) 0 z))) (λ e z. (rw e, byte-word (f 1) z))
 

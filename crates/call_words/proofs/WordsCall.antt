@@ -11,7 +11,7 @@ use borrow.Author.Tests.{eqb-true, leb-true}
 use Rattle.chain.specs.Chain.{_if_else_}
 use Rattle.chain.proofs.Chain.{both, and3}
 use Rattle.words.specs.Records.{tab, part}
-use Rattle.words.specs.Words.{flagWord, optionU32Of, optionU32Word, optionU64Of, optionU64Words, optionI32Word, isSigned}
+use Rattle.words.specs.Words.{flagWord, readOptionU32, optionU32Word, readOptionU64, optionU64Words, optionI32Word, isSigned}
 use Rattle.words.specs.declared.OptionU32.{OptionU32}
 use Rattle.words.specs.declared.OptionU32.the-variants as u32
 use Rattle.words.specs.declared.OptionU64.{OptionU64}
@@ -36,7 +36,7 @@ use Rattle.models.specs.declared.ControlPlan.{ControlPlan}
 use Rattle.models.specs.declared.RequestId.{RequestId}
 use Rattle.models.specs.declared.RequestSpec.{RequestSpec}
 use Rattle.models.proofs.Enums.{category-back, transfer-back, direction-back, profile-back, device-state-back}
-use Rattle.rows.specs.Codec.{setupOf, setupWords}
+use Rattle.rows.specs.Codec.{readSetupWords, setupWords}
 use Rattle.scope.specs.Returned.{completionWords, readError, errorWords, readOptionError, optionErrorWords, readCompletion}
 use Rattle.session.specs.declared.RecoveryKind.the-variants as kind
 use Rattle.session.specs.declared.lifecycle.AcquireReply.the-variants as acquire
@@ -50,18 +50,18 @@ use Rattle.calls.specs.Calls.{Call, Open, Placing, Place, Device, Port, Endpoin
 use Rattle.call_words.specs.Parts.{isZero, isFlag, isByte, isHalf, areZero, deviceIdWords, packetWords, isError, isOptionError, isOptionSetup, optionSetupWords, isReading, readReading, readingWords, isCompletion, backendCompletionWords, readStage, stageWords, readStatus, statusWord}
 use Rattle.call_words.specs.Form.{has, isOpenCall, isSetDevice, isSetPort, isSetEndpoints, isSetReconcile, isAcquire, isInitialize, isClose, isSubmit, isPlan, isSubmitReply, isPollReply, isReports, isReset, isRecovered, isRecoveryReply, isPlacing, isMoving, isSubmission, isReplying, isReporting, isRecoveryCall, isCall}
 use Rattle.call_words.specs.Arguments.{readOpening, readSnapshot, readPortRow, readAcquireReply, readSpec, readPlan, readSubmitReply, readPollReply, readOptionId, readRecoveryReply, readCompleted, readCompletions, readAborted}
-use Rattle.call_words.specs.Decode.{placingOf, movingOf, submissionOf, replyingOf, changingOf, reportingOf, recoveringOf, callOf}
+use Rattle.call_words.specs.Decode.{readPlacing, readMoving, readSubmission, readReplying, readChanging, readReporting, readRecovering, readCall}
 use Rattle.call_words.specs.Encode.{specWords, recoveryReplyWords, callWords, callBytes}
 use Rattle.call_words.specs.Typed.{signedError, signedReading, signedRecovery, typedMoving, typedBeginning, typedReplying, isTyped}
 use Rattle.call_words.proofs.Told.{and4, and5, opening-told, device-told, port-told, endpoints-told, reconcile-told, acquire-told, initialize-told, close-told, submit-reply-told, recovery-reply-told, submit-told, plan-told}
 use Rattle.call_words.proofs.PartWords.{byte-word, half-word, full-word, ports-words}
 
 -- ---- one word
-option-u32-says : (o : OptionU32) → leb (optionU32Word o) (2 ^ 32) ≡ true → optionU32Of (optionU32Word o) ≡ o
+option-u32-says : (o : OptionU32) → leb (optionU32Word o) (2 ^ 32) ≡ true → readOptionU32 (optionU32Word o) ≡ o
 option-u32-says u32.None t = refl
 option-u32-says (u32.Some v) t = option-u32-back v (omega (arith, leb-true (v + 1) (2 ^ 32) t))
 
-number-says : (o : OptionU64) → optionU64Of (optionU64Words o .present) (optionU64Words o .value) ≡ o
+number-says : (o : OptionU64) → readOptionU64 (optionU64Words o .present) (optionU64Words o .value) ≡ o
 number-says u64.None = refl
 number-says (u64.Some v) = refl
 
@@ -79,7 +79,7 @@ reading-shape (reading.Word v) = refl
 reading-shape (reading.Error e) = refl
 
 option-setup-says : (o : OptionSetup) → isOptionSetup (optionSetupWords o) 0 ≡ true
-    → setupOf (setupWords o .present) (setupWords o .«request_type») (setupWords o .request) (setupWords o .value) (setupWords o .index) (setupWords o .length) ≡ o
+    → readSetupWords (setupWords o .present) (setupWords o .«request_type») (setupWords o .request) (setupWords o .value) (setupWords o .index) (setupWords o .length) ≡ o
 option-setup-says setup.None t = refl
 option-setup-says (setup.Some x) t =
     let p = and5 _ _ _ _ _ t in
@@ -154,17 +154,17 @@ module _ (w a b c : List ℕ) (d : drop 10 w ≡ (a ++ b) ++ c) (m : ℕ) (em : 
 
 -- ---- calls
 abbrev Back : Call → Type 0
-Back c = isCall (callWords c) ≡ true → callOf (callWords c) (callBytes c) ≡ c
+Back c = isCall (callWords c) ≡ true → readCall (callWords c) (callBytes c) ≡ c
 
 open-back : (o : Opening) → Back (Open o)
-unfolding isCall isPlacing isOpenCall callOf placingOf readOpening callWords _if_else_
+unfolding isCall isPlacing isOpenCall readCall readPlacing readOpening callWords _if_else_
 open-back o t =
     let p = opening-told (callWords (Open o)) t in
     let q = ports-words (λ (k : ℕ). getD (flagWord (o .«has_ports») ∷ o .«port_count» ∷ []) k 0) (p .2) in
     rw (number-says (o .«recovery_revision»), flag-back (o .«has_ports»), q .1)
 
 place-back : (p : Placing) → Back (Place p)
-unfolding isCall isPlacing isSetDevice isSetPort isSetEndpoints isSetReconcile callOf placingOf readSnapshot readPortRow callWords _if_else_
+unfolding isCall isPlacing isSetDevice isSetPort isSetEndpoints isSetReconcile readCall readPlacing readSnapshot readPortRow callWords _if_else_
 place-back (Device x) t =
     let p = device-told (callWords (Place (Device x))) t in
     rw (byte-word (x .id .slot) (p .1), byte-word (x .port .number) (p .2), device-state-back (x .state))
@@ -179,7 +179,7 @@ place-back (Reconcile slot mark) t =
     rw (byte-word slot (p .1), flag-back mark)
 
 move-back : (m : Moving) → typedMoving m ≡ true → Back (Move m)
-unfolding isCall isMoving isAcquire isInitialize isClose callOf movingOf readAcquireReply callWords _if_else_
+unfolding isCall isMoving isAcquire isInitialize isClose readCall readMoving readAcquireReply callWords _if_else_
 move-back (Acquire acquire.Acquired) s t = refl
 move-back (Acquire (acquire.Failed e retained)) s t =
     let w = callWords (Move (Acquire (acquire.Failed e retained))) in
@@ -195,7 +195,7 @@ move-back (Close fresh e) s t =
 
 submit-back : (q : RequestSpec) (bytes : List ℕ) (given : Bool) (packets : List ℕ) (first second : PortReading) → signedReading first ≡ true → signedReading second ≡ true
     → Back (Begin (Submit q bytes given packets first second))
-unfolding isCall isSubmission isSubmit callOf submissionOf readSpec callWords _if_else_
+unfolding isCall isSubmission isSubmit readCall readSubmission readSpec callWords _if_else_
 submit-back q bytes given packets first second sf ss =
     rw (reading-shape first, reading-shape second) λ t.
     let w : List ℕ =
@@ -213,7 +213,7 @@ submit-back q bytes given packets first second sf ss =
     )
 
 plan-back : (p : ControlPlan) (bytes : List ℕ) (r : PortReading) → signedReading r ≡ true → Back (Begin (SubmitPlan p bytes r))
-unfolding isCall isSubmission isPlan callOf submissionOf readPlan callWords _if_else_
+unfolding isCall isSubmission isPlan readCall readSubmission readPlan callWords _if_else_
 plan-back x bytes r s =
     rw (stage-shape (x .«data_stage»)) λ t.
     let w : List ℕ =
@@ -235,7 +235,7 @@ plan-back x bytes r s =
     )
 
 begin-back : (b : Beginning) → typedBeginning b ≡ true → Back (Begin b)
-unfolding isCall isReplying isRecoveryCall isReset callOf replyingOf recoveringOf callWords _if_else_
+unfolding isCall isReplying isRecoveryCall isReset readCall readReplying readRecovering callWords _if_else_
 begin-back (Submit q bytes given packets first second) s t =
     let p = both (signedReading first) (signedReading second) s in
     submit-back q bytes given packets first second (p .0) (p .1) t
@@ -245,7 +245,7 @@ begin-back (Recover id kind.Abort) s t = refl
 begin-back (Recover id (kind.Reset preserve)) s t = rw (flag-back preserve)
 
 recovery-back : (r : RecoveryReply) (a b c bytes : List ℕ) → signedRecovery r ≡ true → length b % completionWords ≡ 0 → Back (Reply (ToRecovery r a b c bytes))
-unfolding isCall isRecoveryCall isRecoveryReply callOf recoveringOf readRecoveryReply readCompleted readCompletions readAborted callWords _if_else_
+unfolding isCall isRecoveryCall isRecoveryReply readCall readRecovering readRecoveryReply readCompleted readCompletions readAborted callWords _if_else_
 recovery-back r a b c bytes s whole =
     let m = length b / completionWords in
     let em : m * completionWords ≡ length b = omega arith in
@@ -256,7 +256,7 @@ recovery-back r a b c bytes s whole =
     (ap (λ (x : RecoveryReply). Reply (ToRecovery x a b c bytes)) (recovered-says r (p .1) s))
 
 reply-back : (r : Replying) → typedReplying r ≡ true → Back (Reply r)
-unfolding isCall isReplying isSubmitReply isPollReply callOf replyingOf readSubmitReply readPollReply callWords _if_else_
+unfolding isCall isReplying isSubmitReply isPollReply readCall readReplying readSubmitReply readPollReply callWords _if_else_
 reply-back (ToSubmit (submit.Token x)) s t = refl
 reply-back (ToSubmit (submit.Error e)) s t =
     let w = callWords (Reply (ToSubmit (submit.Error e))) in
@@ -277,13 +277,13 @@ reply-back (ToRecovery r a b c bytes) s t =
     recovery-back r a b c bytes (p .0) (eqb-true (length b % completionWords) 0 (p .1)) t
 
 change-back : (id : RequestId) (c : Changing) → Back (Change id c)
-unfolding isCall callOf changingOf callWords _if_else_
+unfolding isCall readCall readChanging callWords _if_else_
 change-back id Cancel t = refl
 change-back id Timeout t = refl
 change-back id Reclaim t = refl
 
 read-back : (r : Reading) → Back (Read r)
-unfolding isCall isReporting isReports callOf reportingOf readOptionId callWords _if_else_
+unfolding isCall isReporting isReports readCall readReporting readOptionId callWords _if_else_
 read-back (Status id) t = refl
 read-back (Reports option.None) t = refl
 read-back (Reports (option.Some id)) t = refl
@@ -292,7 +292,7 @@ read-back (CompletedBytes id) t = refl
 read-back HeldCount t = refl
 read-back HeldBytes t = refl
 
-pub words-call : (c : Call) → isTyped c ≡ true → isCall (callWords c) ≡ true → callOf (callWords c) (callBytes c) ≡ c
+pub words-call : (c : Call) → isTyped c ≡ true → isCall (callWords c) ≡ true → readCall (callWords c) (callBytes c) ≡ c
 words-call (Open o) s = open-back o
 words-call (Place p) s = place-back p
 words-call (Move m) s = move-back m s

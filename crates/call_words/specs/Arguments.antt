@@ -4,9 +4,9 @@ use mathlib.Core.Bool.{cond}
 use mathlib.Core.List.{List}
 use lib.ListN.{getD, drop}
 use lib.Dec.{eqb}
-use Rattle.words.specs.Words.{flagOf, optionU32Of, optionU64Of}
+use Rattle.words.specs.Words.{readFlag, readOptionU32, readOptionU64}
 use Rattle.words.specs.Records.{part}
-use Rattle.models.specs.Codes.{transferOf, directionOf, profileOf, deviceStateOf}
+use Rattle.models.specs.Codes.{readTransfer, readDirection, readProfile, readDeviceState}
 use Rattle.models.specs.declared.ControlPlan.{ControlPlan}
 use Rattle.models.specs.declared.DeviceSnapshot.{DeviceSnapshot}
 use Rattle.models.specs.declared.RequestSpec.{RequestSpec}
@@ -30,28 +30,28 @@ unfoldable pub readOpening : List ℕ → Opening
 readOpening w = record {
   session = getD w 1 0;
   «first_sequence» = getD w 2 0;
-  «recovery_revision» = optionU64Of (getD w 3 0) (getD w 4 0);
-  «has_ports» = flagOf (getD w 5 0);
+  «recovery_revision» = readOptionU64 (getD w 3 0) (getD w 4 0);
+  «has_ports» = readFlag (getD w 5 0);
   «port_count» = getD w 6 0 % 2 ^ 8;
   «row_count» = getD w 7 0;
   «row_bytes» = getD w 8 0;
 }
 
 unfoldable pub readSnapshot : List ℕ → DeviceSnapshot
-readSnapshot w = record { id = readDeviceId w 1; port = readPortId w 4; state = deviceStateOf (getD w 7 0) }
+readSnapshot w = record { id = readDeviceId w 1; port = readPortId w 4; state = readDeviceState (getD w 7 0) }
 
 unfoldable pub readPortRow : List ℕ → PortRow
-readPortRow w = record { generation = getD w 2 0; reading = optionU32Of (getD w 3 0) }
+readPortRow w = record { generation = getD w 2 0; reading = readOptionU32 (getD w 3 0) }
 
 unfoldable pub readAcquireReply : List ℕ → AcquireReply
-readAcquireReply w = cond (eqb (getD w 1 0) 0) acquire.Acquired (acquire.Failed (readError w 3) (flagOf (getD w 2 0)))
+readAcquireReply w = cond (eqb (getD w 1 0) 0) acquire.Acquired (acquire.Failed (readError w 3) (readFlag (getD w 2 0)))
 
 unfoldable pub readSpec : List ℕ → RequestSpec
 readSpec w = record {
   device = readDeviceId w 1;
   endpoint = getD w 4 0 % 2 ^ 8;
-  «transfer_type» = transferOf (getD w 5 0);
-  direction = directionOf (getD w 6 0);
+  «transfer_type» = readTransfer (getD w 5 0);
+  direction = readDirection (getD w 6 0);
   length = getD w 7 0;
   setup = readOptionSetup w 8;
 }
@@ -59,7 +59,7 @@ readSpec w = record {
 unfoldable pub readPlan : List ℕ → ControlPlan
 readPlan w = record {
   device = readDeviceId w 1;
-  profile = profileOf (getD w 4 0);
+  profile = readProfile (getD w 4 0);
   setup = readSetup w 5;
   «data_stage» = readStage w 10;
   «status_direction» = readStatus (getD w 13 0);
@@ -81,7 +81,7 @@ readOptionId w = cond (eqb (getD w 1 0) 0) option.None (option.Some (readRequest
 -- 0: whether the endpoint is ready, and an error; 1: the backend's error
 unfoldable pub readRecoveryReply : List ℕ → RecoveryReply
 readRecoveryReply w =
-    cond (eqb (getD w 1 0) 0) (recovery.Done (record { «restart_ready» = flagOf (getD w 2 0); error = readOptionError w 3 })) (recovery.Error (readError w 4))
+    cond (eqb (getD w 1 0) 0) (recovery.Done (record { «restart_ready» = readFlag (getD w 2 0); error = readOptionError w 3 })) (recovery.Error (readError w 4))
 
 -- its lists, from word 10 on: tokens of completed requests, as many as word 8 says, their completions, as many as word 9 says, and
 -- tokens of aborted requests

@@ -4,7 +4,7 @@ use mathlib.Core.List.{List}
 use lib.ListN.{getD, drop}
 use lib.Dec.{eqb, leb}
 use Rattle.chain.specs.Chain.{_if_else_}
-use Rattle.words.specs.Words.{flagOf, optionU64Of}
+use Rattle.words.specs.Words.{readFlag, readOptionU64}
 use Rattle.session.specs.declared.RecoveryKind.the-variants as kind
 use Rattle.scope.specs.Returned.{readOptionError}
 use Rattle.calls.specs.Calls.{Call, Open, Place, Device, Port, Endpoints, Reconcile, Move, Acquire, Initialize, Close, Begin, Submit, SubmitPlan, Poll, Recover, Reply, ToSubmit, ToPoll, ToRecovery, Change, Cancel, Timeout, Reclaim, Read, Status, Reports, CountReports, CompletedBytes, HeldCount, HeldBytes}
@@ -13,44 +13,44 @@ use Rattle.call_words.specs.Parts.{readReading}
 use Rattle.call_words.specs.Arguments.{readOpening, readSnapshot, readPortRow, readAcquireReply, readSpec, readPlan, readSubmitReply, readPollReply, readOptionId, readRecoveryReply, readCompleted, readCompletions, readAborted}
 
 -- 0 to 4
-unfoldable pub placingOf : ℕ → List ℕ → Call
-placingOf n w =
+unfoldable pub readPlacing : ℕ → List ℕ → Call
+readPlacing n w =
     Open (readOpening w) if eqb n 0 else
     Place (Device (readSnapshot w)) if eqb n 1 else
     Place (Port (getD w 1 0 % 2 ^ 8) (readPortRow w)) if eqb n 2 else
     Place (Endpoints (getD w 1 0 % 2 ^ 8) (drop 2 w)) if eqb n 3 else
-    Place (Reconcile (getD w 1 0 % 2 ^ 8) (flagOf (getD w 2 0)))
+    Place (Reconcile (getD w 1 0 % 2 ^ 8) (readFlag (getD w 2 0)))
 
 -- 5 to 7
-unfoldable pub movingOf : ℕ → List ℕ → Call
-movingOf n w =
+unfoldable pub readMoving : ℕ → List ℕ → Call
+readMoving n w =
     Move (Acquire (readAcquireReply w)) if eqb n 5 else
     Move (Initialize (readOptionError w 1)) if eqb n 6 else
-    Move (Close (optionU64Of (getD w 1 0) (getD w 2 0)) (readOptionError w 3))
+    Move (Close (readOptionU64 (getD w 1 0) (getD w 2 0)) (readOptionError w 3))
 
 -- 8 and 9
-unfoldable pub submissionOf : ℕ → List ℕ → List ℕ → Call
-submissionOf n w bytes =
-    Begin (Submit (readSpec w) bytes (flagOf (getD w 26 0)) (drop 27 w) (readReading w 14) (readReading w 20)) if eqb n 8 else
+unfoldable pub readSubmission : ℕ → List ℕ → List ℕ → Call
+readSubmission n w bytes =
+    Begin (Submit (readSpec w) bytes (readFlag (getD w 26 0)) (drop 27 w) (readReading w 14) (readReading w 20)) if eqb n 8 else
     Begin (SubmitPlan (readPlan w) bytes (readReading w 14))
 
 -- 10 to 12
-unfoldable pub replyingOf : ℕ → List ℕ → List ℕ → Call
-replyingOf n w bytes =
+unfoldable pub readReplying : ℕ → List ℕ → List ℕ → Call
+readReplying n w bytes =
     Reply (ToSubmit (readSubmitReply w)) if eqb n 10 else
     Begin (Poll (readRequestId w 1)) if eqb n 11 else
     Reply (ToPoll (readPollReply w) bytes)
 
 -- 13 to 15
-unfoldable pub changingOf : ℕ → List ℕ → Call
-changingOf n w =
+unfoldable pub readChanging : ℕ → List ℕ → Call
+readChanging n w =
     Change (readRequestId w 1) Cancel if eqb n 13 else
     Change (readRequestId w 1) Timeout if eqb n 14 else
     Change (readRequestId w 1) Reclaim
 
 -- 16 to 21
-unfoldable pub reportingOf : ℕ → List ℕ → Call
-reportingOf n w =
+unfoldable pub readReporting : ℕ → List ℕ → Call
+readReporting n w =
     Read (Status (readRequestId w 1)) if eqb n 16 else
     Read (Reports (readOptionId w)) if eqb n 17 else
     Read CountReports if eqb n 18 else
@@ -59,18 +59,18 @@ reportingOf n w =
     Read HeldBytes
 
 -- 22 to 24
-unfoldable pub recoveringOf : ℕ → List ℕ → List ℕ → Call
-recoveringOf n w bytes =
+unfoldable pub readRecovering : ℕ → List ℕ → List ℕ → Call
+readRecovering n w bytes =
     Begin (Recover (readRequestId w 1) kind.Abort) if eqb n 22 else
-    Begin (Recover (readRequestId w 1) (kind.Reset (flagOf (getD w 4 0)))) if eqb n 23 else
+    Begin (Recover (readRequestId w 1) (kind.Reset (readFlag (getD w 4 0)))) if eqb n 23 else
     Reply (ToRecovery (readRecoveryReply w) (readCompleted w) (readCompletions w) (readAborted w) bytes)
 
-unfoldable pub callOf : List ℕ → List ℕ → Call
-callOf w bytes =
-    placingOf (getD w 0 0) w if leb (getD w 0 0) 4 else
-    movingOf (getD w 0 0) w if leb (getD w 0 0) 7 else
-    submissionOf (getD w 0 0) w bytes if leb (getD w 0 0) 9 else
-    replyingOf (getD w 0 0) w bytes if leb (getD w 0 0) 12 else
-    changingOf (getD w 0 0) w if leb (getD w 0 0) 15 else
-    reportingOf (getD w 0 0) w if leb (getD w 0 0) 21 else
-    recoveringOf (getD w 0 0) w bytes
+unfoldable pub readCall : List ℕ → List ℕ → Call
+readCall w bytes =
+    readPlacing (getD w 0 0) w if leb (getD w 0 0) 4 else
+    readMoving (getD w 0 0) w if leb (getD w 0 0) 7 else
+    readSubmission (getD w 0 0) w bytes if leb (getD w 0 0) 9 else
+    readReplying (getD w 0 0) w bytes if leb (getD w 0 0) 12 else
+    readChanging (getD w 0 0) w if leb (getD w 0 0) 15 else
+    readReporting (getD w 0 0) w if leb (getD w 0 0) 21 else
+    readRecovering (getD w 0 0) w bytes

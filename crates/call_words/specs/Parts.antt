@@ -7,7 +7,7 @@ use lib.ListN.{getD, replicate}
 use lib.Dec.{eqb, leb}
 use Rattle.words.specs.Words.{flagWord, optionU32Word, optionU64Words}
 use Rattle.words.specs.declared.OptionU64.{OptionU64}
-use Rattle.models.specs.Codes.{directionOf, directionWord}
+use Rattle.models.specs.Codes.{readDirection, directionWord}
 use Rattle.models.specs.declared.BackendCompletion.{BackendCompletion}
 use Rattle.models.specs.declared.DeviceId.{DeviceId}
 use Rattle.models.specs.declared.OptionDirection.{OptionDirection}
@@ -20,7 +20,7 @@ use Rattle.models.specs.declared.PortReading.{PortReading}
 use Rattle.models.specs.declared.PortReading.the-variants as reading
 use Rattle.models.specs.declared.RequestId.{RequestId}
 use Rattle.models.specs.declared.SetupPacket.{SetupPacket}
-use Rattle.rows.specs.Codec.{setupOf, setupWords, setupTail}
+use Rattle.rows.specs.Codec.{readSetupWords, setupWords, setupTail}
 use Rattle.scope.specs.Returned.{readError, errorWords, optionErrorWords}
 
 -- ---- one word
@@ -114,7 +114,7 @@ abbrev pub isOptionSetup : List ℕ → ℕ → Bool
 isOptionSetup w at = byFlag (getD w at 0) (areZero w (at + 1) 5) (isSetup w (at + 1))
 
 abbrev pub readOptionSetup : List ℕ → ℕ → OptionSetup
-readOptionSetup w at = setupOf (getD w at 0) (getD w (at + 1) 0) (getD w (at + 2) 0) (getD w (at + 3) 0) (getD w (at + 4) 0) (getD w (at + 5) 0)
+readOptionSetup w at = readSetupWords (getD w at 0) (getD w (at + 1) 0) (getD w (at + 2) 0) (getD w (at + 3) 0) (getD w (at + 4) 0) (getD w (at + 5) 0)
 
 abbrev pub optionSetupWords : OptionSetup → List ℕ
 optionSetupWords o = setupTail (setupWords o) []
@@ -150,7 +150,7 @@ isStage w at = byFlag (getD w at 0) (areZero w (at + 1) 2) (isFlag w (at + 1))
 
 abbrev pub readStage : List ℕ → ℕ → OptionStage
 readStage w at =
-    cond (eqb (getD w at 0) 0) stage.None (stage.Some (record { direction = directionOf (getD w (at + 1) 0); length = getD w (at + 2) 0 }))
+    cond (eqb (getD w at 0) 0) stage.None (stage.Some (record { direction = readDirection (getD w (at + 1) 0); length = getD w (at + 2) 0 }))
 
 abbrev pub stageWords : OptionStage → List ℕ
 stageWords stage.None = zeros 3
@@ -158,7 +158,7 @@ stageWords (stage.Some x) = 1 ∷ directionWord (x .direction) ∷ x .length ∷
 
 -- 0 none, 1 IN, 2 OUT
 abbrev pub readStatus : ℕ → OptionDirection
-readStatus w = cond (eqb w 0) direction.None (direction.Some (directionOf (w - 1)))
+readStatus w = cond (eqb w 0) direction.None (direction.Some (readDirection (w - 1)))
 
 abbrev pub statusWord : OptionDirection → ℕ
 statusWord direction.None = 0

@@ -12,7 +12,7 @@ use Rattle.calls.specs.Calls.{Call}
 use Rattle.calls.specs.Step.{World, After, world, stepOf}
 use Rattle.session_words.specs.State.{Kept, keptAs, isSession}
 use Rattle.call_words.specs.Form.{isCall}
-use Rattle.call_words.specs.Decode.{callOf}
+use Rattle.call_words.specs.Decode.{readCall}
 use Rattle.answer_words.specs.Encode.{answerSize, answerWords, written}
 use Rattle.answer_words.specs.Lists.{listSize, listsOf, putLists}
 
@@ -71,4 +71,4 @@ dispatchOf call bytes l =
     done 2 l if not (isSession (l .kept .words)) else
     done 3 l if ltb (length (l .out)) answerSize else
     done 4 l if ltb (length (l .lists)) listSize else
-    done 0 (answered (callOf call bytes) l)
+    done 0 (answered (readCall call bytes) l)

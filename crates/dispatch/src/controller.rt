@@ -13,7 +13,7 @@ ghost use Prim.Native.Nat.{_%_, _^_};
 ghost use lib.ListN.{getD};
 ghost use Rattle.session.specs.Lent.{storeOut, busOut};
 ghost use Rattle.calls.specs.Step.{after, stepOf};
-ghost use Rattle.call_words.specs.Decode.{placingOf, movingOf};
+ghost use Rattle.call_words.specs.Decode.{readPlacing, readMoving};
 ghost use Rattle.dispatch.specs.Slices.{worldIn, StepsRows};
 
 fn byte_at(w: &[u64], i: usize) -> u8
@@ -32,7 +32,7 @@ pub fn place_call(
     call: &[u64],
 ) -> Outcome
     ensures { λ r. ⌜ after r (busOut bus) (storeOut rows) (now (area .entry))
-        ≡ stepOf (placingOf number (now (call .entry))) (worldIn session bus rows area) ⌝ }
+        ≡ stepOf (readPlacing number (now (call .entry))) (worldIn session bus rows area) ⌝ }
 {
     if number == 0 {
         let o = arguments::opening(call);
@@ -58,7 +58,7 @@ pub fn place_call(
 
 // 5 to 7: the calls that move the controller's state, whatever the bus and the area.
 pub fn move_call(number: u64, session: Session, rows: &mut [u64], call: &[u64]) -> Outcome
-    ensures { λ r. ⌜ StepsRows r (movingOf number (now (call .entry))) session rows ⌝ }
+    ensures { λ r. ⌜ StepsRows r (readMoving number (now (call .entry))) session rows ⌝ }
 {
     if number == 5 {
         let reply = arguments::acquire_reply(call);

@@ -7,7 +7,7 @@ use session::Session;
 use session_words::state;
 use words::slices::word_at;
 ghost use mathlib.Core.Path.{_≡_};
-ghost use Rattle.call_words.specs.Decode.{callOf};
+ghost use Rattle.call_words.specs.Decode.{readCall};
 ghost use Rattle.dispatch.specs.Apply.{ran, runOf, ranOn, done, dispatchOf};
 ghost use Rattle.dispatch.specs.Slices.{worldIn, afterOut, lentIn, lentOut};
 
@@ -24,7 +24,7 @@ fn step(
     lists: &mut [u64],
 ) -> Outcome
     ensures { λ r. ⌜ ran (afterOut r bus rows area) (now (lists .exit))
-        ≡ runOf (callOf (now (call .entry)) (now (bytes .entry))) (worldIn session bus rows area)
+        ≡ runOf (readCall (now (call .entry)) (now (bytes .entry))) (worldIn session bus rows area)
         (now (lists .entry)) ⌝ }
 {
     let number = word_at(call, 0);
@@ -61,7 +61,7 @@ fn answer(
     lists: &mut [u64],
 )
     ensures { λ _. ⌜ lentOut session bus rows area out lists
-        ≡ ranOn (callOf (now (call .entry)) (now (bytes .entry))) (lentIn session bus rows area out lists) ⌝ }
+        ≡ ranOn (readCall (now (call .entry)) (now (bytes .entry))) (lentIn session bus rows area out lists) ⌝ }
 {
     let before = state::to_session(session);
     let outcome = step(before, bus, rows, area, call, bytes, lists);

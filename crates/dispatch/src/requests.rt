@@ -19,7 +19,7 @@ use words::slices::word_at;
 ghost use mathlib.Core.Path.{_≡_};
 ghost use Rattle.calls.specs.Answers.{outcome};
 ghost use Rattle.calls.specs.Step.{stepOf};
-ghost use Rattle.call_words.specs.Decode.{submissionOf, replyingOf, changingOf, reportingOf, recoveringOf};
+ghost use Rattle.call_words.specs.Decode.{readSubmission, readReplying, readChanging, readReporting, readRecovering};
 ghost use Rattle.dispatch.specs.Slices.{worldIn, afterOut, StepsRows, StepsStore, ReadsStore, RunsStore};
 
 // 8 and 9: submissions.
@@ -33,7 +33,7 @@ pub fn submit_call(
     bytes: &[u8],
 ) -> Outcome
     ensures { λ r. ⌜ afterOut r bus rows area
-        ≡ stepOf (submissionOf number (now (call .entry)) (now (bytes .entry))) (worldIn session bus rows area) ⌝ }
+        ≡ stepOf (readSubmission number (now (call .entry)) (now (bytes .entry))) (worldIn session bus rows area) ⌝ }
 {
     let first = arguments::reading_at(call, 14);
     if number == 8 {
@@ -67,7 +67,7 @@ pub fn reply_call(
     call: &[u64],
     bytes: &[u8],
 ) -> Outcome
-    ensures { λ r. ⌜ StepsStore r (replyingOf number (now (call .entry)) (now (bytes .entry))) session rows area ⌝ }
+    ensures { λ r. ⌜ StepsStore r (readReplying number (now (call .entry)) (now (bytes .entry))) session rows area ⌝ }
 {
     if number == 10 {
         let answer = arguments::submit_reply(call);
@@ -83,7 +83,7 @@ pub fn reply_call(
 
 // 13 to 15: changes of one request, whatever the bus and the area.
 pub fn change_call(number: u64, session: Session, rows: &mut [u64], call: &[u64]) -> Outcome
-    ensures { λ r. ⌜ StepsRows r (changingOf number (now (call .entry))) session rows ⌝ }
+    ensures { λ r. ⌜ StepsRows r (readChanging number (now (call .entry))) session rows ⌝ }
 {
     let id = state::id_at(call, 1);
     if number == 13 {
@@ -103,14 +103,14 @@ pub fn report_call(
     area: &[u8],
     call: &[u64],
 ) -> Outcome
-    ensures { λ r. ⌜ ReadsStore r (reportingOf number (now (call .entry))) session rows area ⌝ }
+    ensures { λ r. ⌜ ReadsStore r (readReporting number (now (call .entry))) session rows area ⌝ }
 {
     let answer = report_answer(number, session, rows, area, call);
     Outcome { answer, session }
 }
 
 fn report_answer(number: u64, session: Session, rows: &[u64], area: &[u8], call: &[u64]) -> Answer
-    ensures { λ r. ⌜ ReadsStore (outcome r session) (reportingOf number (now (call .entry))) session rows area ⌝ }
+    ensures { λ r. ⌜ ReadsStore (outcome r session) (readReporting number (now (call .entry))) session rows area ⌝ }
 {
     let id = state::id_at(call, 1);
     if number == 16 {
@@ -142,7 +142,7 @@ pub fn recover_call(
     bytes: &[u8],
     lists: &mut [u64],
 ) -> Outcome
-    ensures { λ r. ⌜ RunsStore r (recoveringOf number (now (call .entry)) (now (bytes .entry)))
+    ensures { λ r. ⌜ RunsStore r (readRecovering number (now (call .entry)) (now (bytes .entry)))
         session rows area lists ⌝ }
 {
     let id = state::id_at(call, 1);
@@ -168,7 +168,7 @@ fn recovered(
     bytes: &[u8],
     lists: &mut [u64],
 ) -> Outcome
-    ensures { λ r. ⌜ RunsStore r (recoveringOf 24 (now (call .entry)) (now (bytes .entry))) session rows area lists ⌝ }
+    ensures { λ r. ⌜ RunsStore r (readRecovering 24 (now (call .entry)) (now (bytes .entry))) session rows area lists ⌝ }
 {
     let answer = arguments::backend_abort(call);
     let tokens = arguments::completed(call);

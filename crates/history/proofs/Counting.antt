@@ -46,7 +46,7 @@ use Rattle.submissions.specs.Submit.{submitOf, submitPlanOf}
 use Rattle.submissions.specs.Reply.{submitReplyOf}
 use Rattle.submissions.specs.declared.SubmitReply.{SubmitReply}
 use Rattle.submissions.specs.declared.SubmitReply.the-variants as submitReply
-use Rattle.scope.specs.Returned.{Returned, returnedOf}
+use Rattle.scope.specs.Returned.{Returned, readReturned}
 use Rattle.recovery.specs.declared.BeginAnswer.{BeginAnswer}
 use Rattle.recovery.specs.declared.BeginAnswer.the-variants as begin
 use Rattle.recovery.specs.declared.RecoveryAnswer.{RecoveryAnswer}
@@ -240,7 +240,7 @@ module _ (x : RequestId) where
       (caseB (endsBy a) (λ e. rw e (polled-ids reply (length bytes) j)) (λ e. rw e))
   step-ids (Reply (ToRecovery reply tokens words aborted bytes)) w j f =
       recovery-still (recoversOf reply tokens words aborted bytes w .result .answer) _ _
-      (recovered-ids (ofRecovery (recoversOf reply tokens words aborted bytes w .result .answer)) (returnedOf tokens words) aborted bytes j)
+      (recovered-ids (ofRecovery (recoversOf reply tokens words aborted bytes w .result .answer)) (readReturned tokens words) aborted bytes j)
   step-ids (Change id c) w j f = report-still (changeOf (w .session) (rowsMatch w) id (changeBy c) (w .store) .result .answer) _ _ refl
   step-ids (Read r) w j f = read-still r w (number (j .entries))
 

@@ -28,9 +28,9 @@ use Rattle.models.specs.declared.RequestId.{RequestId}
 use Rattle.models.specs.declared.RequestState.{RequestState}
 use Rattle.models.specs.declared.RequestState.the-variants.{Pending, Completed, Failed, Aborted}
 use Rattle.models.specs.declared.TransferType.the-variants.{Bulk}
-use Rattle.rows.specs.Codec.{rowOf, recordOf}
+use Rattle.rows.specs.Codec.{readRow, recordOf}
 use Rattle.rows.specs.Store.{storeOf, putIn, emptied}
-use Rattle.rows.specs.Table.{emptyRow, isHeld, putRow, putWords, rowCount, rowsOf, isUncertain}
+use Rattle.rows.specs.Table.{emptyRow, isHeld, putRow, putWords, rowCount, readRows, isUncertain}
 use Rattle.rows.specs.declared.Row.{Row}
 use Rattle.ledger.specs.Apply.{applyBy, applyAt, applyOf}
 use Rattle.rules.specs.Rules.{pendingRow, spendSequence, moved, freed, accepted, whilePending, timeOut, completed, failed, abortConfirmed, reclaimed, changeRow}
@@ -66,7 +66,7 @@ use Rattle.submissions.specs.Reply.{acceptedBy, discardedBy, submitReplyBy, sub
 use Rattle.submissions.specs.Submit.{submittedBy, preparedBy, roomBy, packetsBy, submitBy, submitOf}
 use Rattle.submissions.specs.declared.SubmitReply.the-variants as submit
 use Rattle.scope.specs.Affected.{isAffected, joined, affectedOf}
-use Rattle.scope.specs.Returned.{broughtOf, broughtAt, returnedOf, listsAgree}
+use Rattle.scope.specs.Returned.{readBrought, broughtAt, readReturned, listsAgree}
 use Rattle.scope.specs.Scope.{inScope}
 use Rattle.recovery.specs.Begin as recoveryBegin
 use Rattle.recovery.specs.Entries.{storedAt, rowCompletedBy, testedBy, completeOne, abortedBy, abortOne}
@@ -310,7 +310,7 @@ two-apart (r ∷ q ∷ []) e = go
 two-apart (r ∷ q ∷ p ∷ l) e = let z : _≡_ {A = ℕ} 2 3 = ap (λ (m : List ℕ). length (take 3 m)) (sym e) ∙ refl in absurd (omega arith)
 
 pub shown : Shown
-unfolding stepOf placedOf movedOf begunOf repliedOf readOf openOf openFits rowsFit areaFits cleared _if_else_ foundIn splice putIn emptied emptyRow isHeld putRow putWords rowCount rowOf recordOf applyBy applyAt applyOf pendingRow spendSequence moved freed accepted whilePending timeOut completed failed reclaimed changeRow isAt isFree saturate heldCount heldBytes putDevice putEndpoints putPort codeTested testCode testLength testCompletion packetsChecked marked acquiredBy acquireOf initializedBy initializeOf placed setDeviceOf setPortOf setEndpointsOf effect roomIn writeOf beginBy beginOf targetBy targetOf reportedBy changeOf failedAs judgedTest judgedBy judged storedIn settled finishAt finishBy finishFound finishIn finishOf pollRow pollBy pollOf acceptedBy discardedBy submitReplyBy submitReplyIn submitReplyOf heldCountOf heldBytesOf submittedBy preparedBy roomBy packetsBy guarded readyOf submitBy submitOf bus.numberChecked bus.setPortBy bus.setPort bus.readingChecked bus.validatedRow bus.validatedBy bus.validated bus.observedBy bus.observedRow bus.observePortBy bus.observePort bus.freshObserved bus.freshWord bus.freshReading bus.freshPortBy bus.freshPort lists.setEndpoints prepare.dataChecked prepare.otherChecked prepare.specChecked prepare.preparedIf prepare.prepared target.knownBy target.knownDevice target.preparedDevice target.freshDevice target.checkDeviceBy target.checkDevice target.speedChecked target.endpointBy target.checkEndpoint target.checkTargetBy target.checkTarget layout.deviceRecord journalStep closeOf recoveryBegin.recoverOf recoveryBegin.recoverBy recoveryBegin.beginRow recoveryBegin.begunAs listed isAffected joined affectedOf inScope broughtOf broughtAt returnedOf listsAgree storedAt rowCompletedBy testedBy completeOne abortedBy abortOne abortConfirmed restoredBy resetBy sessionAfter refusedAfter abortsAfter applyAll concludedBy scopedOf doneOf replyBy replySized replyIn recoveryReplyOf part requestBefore storeOf rowsOf busOf raised stallOf freshBy closedBy isUncertain
+unfolding stepOf placedOf movedOf begunOf repliedOf readOf openOf openFits rowsFit areaFits cleared _if_else_ foundIn splice putIn emptied emptyRow isHeld putRow putWords rowCount readRow recordOf applyBy applyAt applyOf pendingRow spendSequence moved freed accepted whilePending timeOut completed failed reclaimed changeRow isAt isFree saturate heldCount heldBytes putDevice putEndpoints putPort codeTested testCode testLength testCompletion packetsChecked marked acquiredBy acquireOf initializedBy initializeOf placed setDeviceOf setPortOf setEndpointsOf effect roomIn writeOf beginBy beginOf targetBy targetOf reportedBy changeOf failedAs judgedTest judgedBy judged storedIn settled finishAt finishBy finishFound finishIn finishOf pollRow pollBy pollOf acceptedBy discardedBy submitReplyBy submitReplyIn submitReplyOf heldCountOf heldBytesOf submittedBy preparedBy roomBy packetsBy guarded readyOf submitBy submitOf bus.numberChecked bus.setPortBy bus.setPort bus.readingChecked bus.validatedRow bus.validatedBy bus.validated bus.observedBy bus.observedRow bus.observePortBy bus.observePort bus.freshObserved bus.freshWord bus.freshReading bus.freshPortBy bus.freshPort lists.setEndpoints prepare.dataChecked prepare.otherChecked prepare.specChecked prepare.preparedIf prepare.prepared target.knownBy target.knownDevice target.preparedDevice target.freshDevice target.checkDeviceBy target.checkDevice target.speedChecked target.endpointBy target.checkEndpoint target.checkTargetBy target.checkTarget layout.deviceRecord journalStep closeOf recoveryBegin.recoverOf recoveryBegin.recoverBy recoveryBegin.beginRow recoveryBegin.begunAs listed isAffected joined affectedOf inScope readBrought broughtAt readReturned listsAgree storedAt rowCompletedBy testedBy completeOne abortedBy abortOne abortConfirmed restoredBy resetBy sessionAfter refusedAfter abortsAfter applyAll concludedBy scopedOf doneOf replyBy replySized replyIn recoveryReplyOf part requestBefore storeOf readRows busOf raised stallOf freshBy closedBy isUncertain
 shown =
     let of-recovery = history-claim opening closed busWords (replicate 52 0) (replicate 16 0) recovery refl
     (refl, (refl, (refl, (refl, (refl, (refl, (refl, (refl, (refl, (refl, (refl, (refl, (refl, (refl, (refl, (refl, (refl, tt)))))))))))))))))

@@ -20,7 +20,7 @@ use Rattle.session.specs.declared.RecoveryKind.{RecoveryKind}
 use Rattle.session.specs.declared.Session.{Session}
 use Rattle.session.specs.declared.lifecycle.Opening.{Opening}
 use Rattle.scope.specs.Affected.{affectedOf, tokensOf}
-use Rattle.scope.specs.Returned.{returnedOf}
+use Rattle.scope.specs.Returned.{readReturned}
 use Rattle.scope.specs.Scope.{meant, inScope}
 use Rattle.recovery.specs.Begin.{begunAs, recoverOf}
 use Rattle.recovery.specs.Reports.{idLists}
@@ -92,7 +92,7 @@ module _ (s : Session) (store : Store) (entries : List Entry) (few : count isHel
   scoped-ends y o n =
       let affected : List ℕ = affectedOf (y .device) (y .endpoint) (store .rows) in
       let place : ℕ → ℕ = meant affected (tokensOf (store .rows) affected) in
-      let left : WalkTo = applyAll place (quiet .«row_bytes») (returnedOf tokens words) aborted bytes store area in
+      let left : WalkTo = applyAll place (quiet .«row_bytes») (readReturned tokens words) aborted bytes store area in
       concluded (left .verdict)
       (recovered-kept (y .device) (y .endpoint) store entries few k (isWhole o) (quiet .«row_bytes») tokens words aborted bytes area n .1)
       y o (abortReport y o (length tokens) (length aborted)) (idLists (store .rows) place tokens aborted) (left .store .rows)

@@ -28,7 +28,7 @@ use Rattle.session.specs.declared.RecoveryKind.the-variants as kind
 use Rattle.session.specs.declared.Session.{Session}
 use Rattle.scope.specs.Affected.{affectedOf, tokensOf}
 use Rattle.scope.specs.Scope.{meant, inScope}
-use Rattle.scope.specs.Returned.{returnedOf}
+use Rattle.scope.specs.Returned.{readReturned}
 use Rattle.recovery.specs.Begin.{recoveryOf, begunAs, recoverOf}
 use Rattle.recovery.specs.Reports.{idLists}
 use Rattle.recovery.specs.Reply.{RecoveredTo, isWhole, restoredBy, resetBy, sessionAfter, refusedAfter, applyAll, abortReport, concludedBy, scopedOf, recoveryReplyOf}
@@ -134,7 +134,7 @@ module _ (s : Session) (j : Journal) (seen : List ℕ) (store : Store) (k : Inv 
   -- ---- the reply
   module _ (few : count isHeld (store .rows) ≤ 128) (tokens words aborted bytes area : List ℕ) where
     abbrev Reply-kept : RecoveredTo → Type 0
-    Reply-kept o = Inv (o .result .session) (o .store .rows) (recoveredJournal (ofRecovery (o .result .answer)) (returnedOf tokens words) aborted bytes j) seen
+    Reply-kept o = Inv (o .result .session) (o .store .rows) (recoveredJournal (ofRecovery (o .result .answer)) (readReturned tokens words) aborted bytes j) seen
 
     -- the session without the recovery
     abbrev quiet : Session
@@ -145,10 +145,10 @@ module _ (s : Session) (j : Journal) (seen : List ℕ) (store : Store) (k : Inv 
 
     module _ (x : Recovery) (own : s .«in_flight» ≡ flight.Recovery (x .target) (x .device) (x .endpoint) (x .kind)) where
       abbrev entries′ : List Entry
-      entries′ = releasesAll (meantView (affectedViews (x .device) (x .endpoint) (j .entries))) (returnedOf tokens words) aborted bytes (j .entries)
+      entries′ = releasesAll (meantView (affectedViews (x .device) (x .endpoint) (j .entries))) (readReturned tokens words) aborted bytes (j .entries)
 
-      about : releasedIn (j .waiting) (returnedOf tokens words) aborted bytes (j .entries) ≡ entries′
-      about = ap (λ (f : InFlight). releasedIn f (returnedOf tokens words) aborted bytes (j .entries)) (k .agree ∙ own)
+      about : releasedIn (j .waiting) (readReturned tokens words) aborted bytes (j .entries) ≡ entries′
+      about = ap (λ (f : InFlight). releasedIn f (readReturned tokens words) aborted bytes (j .entries)) (k .agree ∙ own)
 
       abbrev released : Journal
       released = record { entries = entries′; waiting = flight.Nothing }
@@ -158,7 +158,7 @@ module _ (s : Session) (j : Journal) (seen : List ℕ) (store : Store) (k : Inv 
         base = ended s (store .rows) j seen k rows′ entries′ (kept .led) (kept .ids)
 
         concluded : (v : Verdict) → LateBy v → (o : Outcome) (report : AbortReport) (ids : Ids)
-            → Inv (concludedBy v quiet x o report ids rows′ .session) rows′ (recoveredJournal (ofRecovery (concludedBy v quiet x o report ids rows′ .answer)) (returnedOf tokens words) aborted bytes j) seen
+            → Inv (concludedBy v quiet x o report ids rows′ .session) rows′ (recoveredJournal (ofRecovery (concludedBy v quiet x o report ids rows′ .answer)) (readReturned tokens words) aborted bytes j) seen
         unfolding concludedBy refusedAfter
         concluded (verdict.Refused r) late o report ids =
             let (two, three, lists, error, scope) = late-numbers (r .number) late in
@@ -171,9 +171,9 @@ module _ (s : Session) (j : Journal) (seen : List ℕ) (store : Store) (k : Inv 
       scoped-kept o n =
           let w = recovered-kept (x .device) (x .endpoint) store (j .entries) few (k .led) (isWhole o) (quiet .«row_bytes») tokens words aborted bytes area n in
           concluded
-          (applyAll (meant (affectedOf (x .device) (x .endpoint) (store .rows)) (tokensOf (store .rows) (affectedOf (x .device) (x .endpoint) (store .rows)))) (quiet .«row_bytes») (returnedOf tokens words) aborted bytes store area .store .rows)
+          (applyAll (meant (affectedOf (x .device) (x .endpoint) (store .rows)) (tokensOf (store .rows) (affectedOf (x .device) (x .endpoint) (store .rows)))) (quiet .«row_bytes») (readReturned tokens words) aborted bytes store area .store .rows)
           (w .0)
-          (applyAll (meant (affectedOf (x .device) (x .endpoint) (store .rows)) (tokensOf (store .rows) (affectedOf (x .device) (x .endpoint) (store .rows)))) (quiet .«row_bytes») (returnedOf tokens words) aborted bytes store area .verdict)
+          (applyAll (meant (affectedOf (x .device) (x .endpoint) (store .rows)) (tokensOf (store .rows) (affectedOf (x .device) (x .endpoint) (store .rows)))) (quiet .«row_bytes») (readReturned tokens words) aborted bytes store area .verdict)
           (w .1) o (abortReport x o (length tokens) (length aborted))
           (idLists (store .rows) (meant (affectedOf (x .device) (x .endpoint) (store .rows)) (tokensOf (store .rows) (affectedOf (x .device) (x .endpoint) (store .rows)))) tokens aborted)
 

@@ -84,7 +84,7 @@ use Rattle.submissions.specs.declared.SubmitReply.the-variants as submitReply
 use Rattle.submissions.specs.declared.begin.Start.{Start}
 use Rattle.submissions.specs.declared.begin.Start.the-variants as start
 use Rattle.scope.specs.Affected.{affectedOf, tokensOf}
-use Rattle.scope.specs.Returned.{Returned, returnedOf}
+use Rattle.scope.specs.Returned.{Returned, readReturned}
 use Rattle.scope.specs.Scope.{meant}
 use Rattle.recovery.specs.Begin as recoveryBegin
 use Rattle.recovery.specs.Entries.{WalkTo, rowCompletedBy, testedBy, completeOne, abortedBy, abortOne}
@@ -518,8 +518,8 @@ module _ (w : World) where
       recovery-all (w .session) tokens words aborted bytes (w .store) (w .area) Recovers (λ e. refl) (λ e. refl) (λ e. refl) (λ x e. absurd (no _ refl e)) (λ e. absurd (no _ refl e))
       (λ y own o n.
       let place : ℕ → ℕ = meant (affectedOf (y .device) (y .endpoint) (w .store .rows)) (tokensOf (w .store .rows) (affectedOf (y .device) (y .endpoint) (w .store .rows))) in
-      let left : WalkTo = applyAll place (quiet .«row_bytes») (returnedOf tokens words) aborted bytes (w .store) (w .area) in
-      concluded (left .verdict) (other-all place (quiet .«row_bytes») (returnedOf tokens words) aborted bytes (w .store) (w .area)) y o
+      let left : WalkTo = applyAll place (quiet .«row_bytes») (readReturned tokens words) aborted bytes (w .store) (w .area) in
+      concluded (left .verdict) (other-all place (quiet .«row_bytes») (readReturned tokens words) aborted bytes (w .store) (w .area)) y o
       (abortReport y o (length tokens) (length aborted)) (idLists (w .store .rows) place tokens aborted) (left .store .rows) _)
       fits r
 

@@ -15,7 +15,7 @@ use Rattle.rows.specs.Table.{isHeld, rowIn, tokenIn}
 use Rattle.rows.specs.declared.Row.{Row}
 use Rattle.scope.specs.Affected.{affectedOf, tokensOf}
 use Rattle.scope.specs.Scope.{slotOf, isAmong, meant, inScope}
-use Rattle.scope.specs.Returned.{returnedOf}
+use Rattle.scope.specs.Returned.{readReturned}
 use Rattle.recovery.specs.Reply.{applyAll}
 use Rattle.runs.proofs.Affected.{affected-is-held, meant-affected, meant-below, returned-tokens, slot-in}
 use Rattle.runs.proofs.Tokens.{scope-each, scope-distinct}
@@ -65,15 +65,15 @@ pub recovered-kept : (d : DeviceId) (endpoint : ℕ) (store : Store) (entries : 
     (tokens words aborted bytes area : List ℕ)
     → inScope whole (tokensOf (store .rows) (affectedOf d endpoint (store .rows))) (tokens ++ aborted) ≡ true
     → Kept (store .rows) entries
-    (applyAll (meant (affectedOf d endpoint (store .rows)) (tokensOf (store .rows) (affectedOf d endpoint (store .rows)))) room (returnedOf tokens words) aborted bytes store area .store .rows)
-    (releasesAll (meantView (affectedViews d endpoint entries)) (returnedOf tokens words) aborted bytes entries)
-    × LateBy (applyAll (meant (affectedOf d endpoint (store .rows)) (tokensOf (store .rows) (affectedOf d endpoint (store .rows)))) room (returnedOf tokens words) aborted bytes store area .verdict)
+    (applyAll (meant (affectedOf d endpoint (store .rows)) (tokensOf (store .rows) (affectedOf d endpoint (store .rows)))) room (readReturned tokens words) aborted bytes store area .store .rows)
+    (releasesAll (meantView (affectedViews d endpoint entries)) (readReturned tokens words) aborted bytes entries)
+    × LateBy (applyAll (meant (affectedOf d endpoint (store .rows)) (tokensOf (store .rows) (affectedOf d endpoint (store .rows)))) room (readReturned tokens words) aborted bytes store area .verdict)
 recovered-kept d endpoint store entries few k whole room tokens words aborted bytes area s =
     let rows : List Row = store .rows in
     let ts = returned-tokens tokens words in
     let o : List ℕ = tokensOf rows (affectedOf d endpoint rows) in
     let p : ℕ → ℕ = place d endpoint rows entries few k in
     let v : ℕ → View = view d endpoint rows entries few k in
-    apply-kept p v room (returnedOf tokens words) aborted bytes store area entries k
+    apply-kept p v room (readReturned tokens words) aborted bytes store area entries k
     (rw ts (scope-distinct o whole (tokens ++ aborted) s))
     (rw ts (scope-each o whole (tokens ++ aborted) s (Ready p v rows) (ready-at d endpoint rows entries few k)))

@@ -39,7 +39,7 @@ use Rattle.session.specs.declared.RecoveryKind.{RecoveryKind}
 use Rattle.session.specs.declared.Session.{Session}
 use Rattle.scope.specs.Affected.{isAffected, affectedOf, tokensOf}
 use Rattle.scope.specs.Scope.{isAmong, slotOf, meant, eachOnce, allIn, inScope}
-use Rattle.scope.specs.Returned.{Returned, returnedOf}
+use Rattle.scope.specs.Returned.{Returned, readReturned}
 use Rattle.scope.proofs.tokens.Laws.{in-cons, in-append}
 use Rattle.recovery.specs.Entries.{WalkTo, rowCompletedBy, testedBy, completeOne, abortedBy, abortOne}
 use Rattle.recovery.specs.Reports.{idLists}
@@ -360,7 +360,7 @@ module _ (d : DeviceId) (endpoint : ℕ) (rows : List Row) (few : count isHeld r
   -- ---- every row, after a reply in scope
   module _ (different : Different d endpoint rows) (tokens words aborted : List ℕ) (scope : inScope true own (tokens ++ aborted) ≡ true) where
     abbrev es : List Returned
-    es = returnedOf tokens words
+    es = readReturned tokens words
 
     all-of-them : allIn own (tokens ++ aborted) ≡ true
     unfolding inScope
@@ -436,7 +436,7 @@ module _ (s : Session) (store : Store) (few : count isHeld (store .rows) ≤ 128
   whole-is a b e f = rw (e, f)
 
   concluded-told : (y : Recovery) (o : Outcome) → inScope (isWhole o) (mine y) (tokens ++ aborted) ≡ true → (v : Verdict) (w : WalkTo)
-      → w ≡ applyAll (means y) (quiet .«row_bytes») (returnedOf tokens words) aborted bytes store area → w .verdict ≡ v → (ids : Ids)
+      → w ≡ applyAll (means y) (quiet .«row_bytes») (readReturned tokens words) aborted bytes store area → w .verdict ≡ v → (ids : Ids)
       → ofRecovery (concludedBy v quiet y o (abortReport y o (length tokens) (length aborted)) ids (w .store .rows) .answer) ≡ answer.Recovered x → Goal (w .store .rows) x
   unfolding concludedBy
   concluded-told y o sc (verdict.Refused r) w ew ev ids e = refuses r (w .store .rows) e
@@ -447,7 +447,7 @@ module _ (s : Session) (store : Store) (few : count isHeld (store .rows) ≤ 128
       let whole = whole-is (o .«restart_ready») (hasError (o .error)) ready fine in
       let scope : inScope true (mine y) (tokens ++ aborted) ≡ true = subst (λ (b : Bool). inScope b (mine y) (tokens ++ aborted) ≡ true) whole sc in
       let rows : List Row = store .rows in
-      let a = applied-rows (means y) (quiet .«row_bytes») (returnedOf tokens words) aborted bytes store area
+      let a = applied-rows (means y) (quiet .«row_bytes») (readReturned tokens words) aborted bytes store area
       (each-token (y .device) (y .endpoint) rows few different tokens words aborted scope (Named (means y) rows) (named-row (y .device) (y .endpoint) rows few))
       (distinct (y .device) (y .endpoint) rows few different tokens words aborted scope)
       (ap (λ (z : WalkTo). z .verdict) (sym ew) ∙ ev) in
@@ -459,7 +459,7 @@ module _ (s : Session) (store : Store) (few : count isHeld (store .rows) ≤ 128
   unfolding scopedOf
   recovered-told fits r =
       recovery-all s tokens words aborted bytes store area Told (refuses _ (store .rows)) (refuses _ (store .rows)) (refuses _ (store .rows)) (λ e. refuses _ (store .rows)) (refuses _ (store .rows))
-      (λ y own o n. concluded-told y o n _ (applyAll (means y) (quiet .«row_bytes») (returnedOf tokens words) aborted bytes store area) refl refl (idLists (store .rows) (means y) tokens aborted))
+      (λ y own o n. concluded-told y o n _ (applyAll (means y) (quiet .«row_bytes») (readReturned tokens words) aborted bytes store area) refl refl (idLists (store .rows) (means y) tokens aborted))
       fits r
 
 -- ---- the report is of the operation that waited

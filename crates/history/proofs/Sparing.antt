@@ -24,7 +24,7 @@ use Rattle.session.specs.declared.InFlight.the-variants as flight
 use Rattle.session.specs.declared.Session.{Session}
 use Rattle.scope.specs.Affected.{isAffected, affectedOf, tokensOf}
 use Rattle.scope.specs.Scope.{meant, inScope}
-use Rattle.scope.specs.Returned.{Returned, returnedOf}
+use Rattle.scope.specs.Returned.{Returned, readReturned}
 use Rattle.recovery.specs.Entries.{WalkTo, rowCompletedBy, testedBy, completeOne, abortedBy, abortOne}
 use Rattle.recovery.specs.Reply.{RecoveredTo, isWhole, applyAll, scopedOf, recoveryReplyOf, recoveredTo, recoveryRefused}
 use Rattle.recovery.specs.declared.Recovery.{Recovery}
@@ -109,10 +109,10 @@ module _ (d : DeviceId) (endpoint : ℕ) (store : Store) where
   affects i = isAffected d endpoint (rowIn (store .rows) i)
 
   pub scope-spares : (whole : Bool) (room : ℕ) (tokens words aborted bytes area : List ℕ) → inScope whole own (tokens ++ aborted) ≡ true
-      → Spares affects (store .rows) (applyAll place room (returnedOf tokens words) aborted bytes store area .store .rows)
+      → Spares affects (store .rows) (applyAll place room (readReturned tokens words) aborted bytes store area .store .rows)
   scope-spares whole room tokens words aborted bytes area s =
       let ts = returned-tokens tokens words in
-      apply-spares affects place room (returnedOf tokens words) aborted bytes store area
+      apply-spares affects place room (readReturned tokens words) aborted bytes store area
       (rw ts (scope-each own whole (tokens ++ aborted) s (Marked affects place) (meant-affected d endpoint (store .rows))))
 
 -- ---- the reply
@@ -135,5 +135,5 @@ module _ (s : Session) (store : Store) (tokens words aborted bytes area : List �
       recovery-all s tokens words aborted bytes store area To same same same (λ e. same) same
       (λ x own o n.
       let k = scope-spares (x .device) (x .endpoint) store (isWhole o) (s .«row_bytes») tokens words aborted bytes area n in
-      subst (λ (f : InFlight). Spared f (store .rows) (applyAll (place (x .device) (x .endpoint) store) (s .«row_bytes») (returnedOf tokens words) aborted bytes store area .store .rows)) (sym own) (record { number = k .size; equal = λ i h e. k .row i e }))
+      subst (λ (f : InFlight). Spared f (store .rows) (applyAll (place (x .device) (x .endpoint) store) (s .«row_bytes») (readReturned tokens words) aborted bytes store area .store .rows)) (sym own) (record { number = k .size; equal = λ i h e. k .row i e }))
       fits r

@@ -28,7 +28,7 @@ use Rattle.session.specs.declared.RecoveryKind.{RecoveryKind}
 use Rattle.reports.specs.declared.OptionId.{OptionId}
 use Rattle.reports.specs.declared.OptionId.the-variants as option
 use Rattle.scope.specs.Affected.{isAffected}
-use Rattle.scope.specs.Returned.{Returned, returnedOf}
+use Rattle.scope.specs.Returned.{Returned, readReturned}
 use Rattle.scope.specs.Scope.{isAmong}
 use Rattle.recovery.specs.declared.AbortReport.{AbortReport}
 use Rattle.recovery.specs.declared.Recovery.{Recovery}
@@ -141,7 +141,7 @@ Different d endpoint rows = (i j : ℕ) → i < length rows → j < length rows 
 
 pub record Recovered (d : DeviceId) (endpoint : ℕ) (tokens words aborted : List ℕ) (rows rows′ : List Row) : Type 0 where
   -- every row, whole
-  pub rows-are : rows′ ≡ map (recoveredAs d endpoint (returnedOf tokens words) aborted) rows
+  pub rows-are : rows′ ≡ map (recoveredAs d endpoint (readReturned tokens words) aborted) rows
   -- the reply names each affected token
   pub named : (i : ℕ) → i < length rows → isAffected d endpoint (rowIn rows i) ≡ true → isAmong (tokenIn rows i) (tokens ++ aborted) ≡ true
   -- so each affected request is Completed or Aborted

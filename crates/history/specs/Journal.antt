@@ -26,7 +26,7 @@ use Rattle.polls.specs.declared.PollReply.{PollReply}
 use Rattle.polls.specs.declared.PollReply.the-variants as poll
 use Rattle.submissions.specs.declared.SubmitReply.{SubmitReply}
 use Rattle.submissions.specs.declared.SubmitReply.the-variants as submit
-use Rattle.scope.specs.Returned.{Returned, returnedOf}
+use Rattle.scope.specs.Returned.{Returned, readReturned}
 use Rattle.calls.specs.Calls.{Call, Open, Place, Move, Acquire, Initialize, Close, Begin, Submit, SubmitPlan, Poll, Recover, Reply, ToSubmit, ToPoll, ToRecovery, Change, Read}
 use Rattle.calls.specs.declared.Answer.{Answer}
 use Rattle.calls.specs.declared.Answer.the-variants as answer
@@ -364,7 +364,7 @@ journalStep (Begin (Poll id)) a j = cond (isAsked a) (pollWaits id j) j
 journalStep (Begin (Recover id kind)) a j = cond (isRecovering a) (recoveryWaits id kind j) j
 journalStep (Reply (ToSubmit reply)) a j = cond (endsBy a) (endedWith (acceptedAs reply) j) j
 journalStep (Reply (ToPoll reply bytes)) a j = cond (endsBy a) (polledBy reply (length bytes) j) j
-journalStep (Reply (ToRecovery reply tokens words aborted bytes)) a j = recoveredJournal a (returnedOf tokens words) aborted bytes j
+journalStep (Reply (ToRecovery reply tokens words aborted bytes)) a j = recoveredJournal a (readReturned tokens words) aborted bytes j
 journalStep (Change id c) a j = j
 journalStep (Read r) a j = j
 

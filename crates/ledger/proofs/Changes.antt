@@ -2,6 +2,7 @@
 use Prim.Native.Nat.{ℕ}
 use mathlib.Core.Path.{_≡_, sym, _∙_}
 use lib.ListN.{getD}
+use Rattle.chain.specs.After.{after}
 use Rattle.chain.specs.Lists.{foundIn}
 use Rattle.chain.specs.declared.Found.{Found}
 use Rattle.chain.specs.declared.Found.the-variants.{At, Nothing}
@@ -14,23 +15,23 @@ use Rattle.rows.specs.Store.{Store, putIn}
 use Rattle.rows.specs.declared.Row.{Row}
 use Rattle.ledger.specs.Search.{isAt}
 use Rattle.rules.specs.Rules.{changeRow}
-use Rattle.ledger.specs.Apply.{appliedTo, applyBy, applyAt, applyOf}
+use Rattle.ledger.specs.Apply.{applyBy, applyAt, applyOf}
 use Rattle.ledger.specs.declared.Applied.the-variants as applied
 use Rattle.rules.specs.declared.Step.{Step}
 use Rattle.rules.specs.declared.Step.the-variants as step
 use Rattle.rules.specs.declared.Change.{Change}
 
 module _ (id : RequestId) (c : Change) (s : Store) (f : Found) (ef : f ≡ foundIn (isAt id) (s .rows)) where
-  pub apply-none : (r : Refusal) → f ≡ Nothing → r ≡ refusalOf 40 → appliedTo (applied.Refused r) s ≡ applyOf id c s
+  pub apply-none : (r : Refusal) → f ≡ Nothing → r ≡ refusalOf 40 → after (applied.Refused r) s ≡ applyOf id c s
   unfolding applyOf applyAt
   apply-none r e er = rw (sym ef ∙ e, er)
 
   module _ (i : ℕ) (row : Row) (m : Step) (e : f ≡ At i) (er : row ≡ getD (s .rows) i emptyRow) (em : m ≡ changeRow row c) where
-    pub apply-no : (r : Refusal) → m ≡ step.Refused r → appliedTo (applied.Refused r) s ≡ applyOf id c s
+    pub apply-no : (r : Refusal) → m ≡ step.Refused r → after (applied.Refused r) s ≡ applyOf id c s
     unfolding applyOf applyAt applyBy
     apply-no r et = rw (sym ef ∙ e, ← er, ← em, et)
 
-    pub apply-to : (next : Row) (report : RequestReport) (after : Store) → m ≡ step.To next report → after ≡ putIn s i next
-        → appliedTo (applied.Done report) after ≡ applyOf id c s
+    pub apply-to : (next : Row) (report : RequestReport) (left : Store) → m ≡ step.To next report → left ≡ putIn s i next
+        → after (applied.Done report) left ≡ applyOf id c s
     unfolding applyOf applyAt applyBy
-    apply-to next report after et w = rw (sym ef ∙ e, ← er, ← em, et, w)
+    apply-to next report left et w = rw (sym ef ∙ e, ← er, ← em, et, w)

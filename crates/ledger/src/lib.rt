@@ -6,8 +6,9 @@ use models::RequestReport;
 use rules::Change;
 use rules::Step;
 ghost use mathlib.Core.Path.{_≡_};
+ghost use Rattle.chain.specs.After.{after};
 ghost use Rattle.rows.specs.Store.{storeOf};
-ghost use Rattle.ledger.specs.Apply.{appliedTo, applyOf};
+ghost use Rattle.ledger.specs.Apply.{applyOf};
 
 pub mod search;
 pub mod tally;
@@ -20,7 +21,7 @@ pub enum Applied {
 
 // Finds the row of an id, changes it by a rule and writes it.
 pub fn apply(rows: &mut [u64], id: RequestId, change: Change) -> Applied
-    ensures { λ r. ⌜ appliedTo r (storeOf (now (rows .exit))) ≡ applyOf id change (storeOf (now (rows .entry))) ⌝ }
+    ensures { λ r. ⌜ after r (storeOf (now (rows .exit))) ≡ applyOf id change (storeOf (now (rows .entry))) ⌝ }
 {
     let found = search::find(rows, id);
     let Found::At(i) = found else {

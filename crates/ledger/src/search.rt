@@ -7,7 +7,7 @@ ghost use mathlib.Core.Path.{_≡_};
 ghost use Prim.Native.Nat.{_<_};
 ghost use lib.ListN.{length};
 ghost use Rattle.chain.specs.Lists.{foundIn, anyIn};
-ghost use Rattle.rows.specs.Table.{rowsOf, rowAt, isUncertain};
+ghost use Rattle.rows.specs.Table.{readRows, rowAt, isUncertain};
 ghost use Rattle.ledger.specs.Search.{isAt, isFree};
 
 // The row is a request with the whole id.
@@ -20,7 +20,7 @@ fn is_at(row: Row, id: RequestId) -> bool
 
 // Row i has the id. Only a row with the id's sequence is read whole.
 fn holds(rows: &[u64], i: usize, id: RequestId) -> bool
-    requires { ⌜ i < length (rowsOf (now rows)) ⌝ }
+    requires { ⌜ i < length (readRows (now rows)) ⌝ }
     ensures { λ r. ⌜ r ≡ isAt id (rowAt (now (rows .entry)) i) ⌝ }
 {
     let own = columns::sequence_at(rows, i);
@@ -33,7 +33,7 @@ fn holds(rows: &[u64], i: usize, id: RequestId) -> bool
 
 // The row of an id.
 pub fn find(rows: &[u64], id: RequestId) -> Found
-    ensures { λ r. ⌜ r ≡ foundIn (isAt id) (rowsOf (now (rows .entry))) ⌝ }
+    ensures { λ r. ⌜ r ≡ foundIn (isAt id) (readRows (now (rows .entry))) ⌝ }
 {
     let n = rows::count(rows);
     let mut i = 0;
@@ -48,7 +48,7 @@ pub fn find(rows: &[u64], id: RequestId) -> Found
 
 // The first row without a request.
 pub fn first_free(rows: &[u64]) -> Found
-    ensures { λ r. ⌜ r ≡ foundIn isFree (rowsOf (now (rows .entry))) ⌝ }
+    ensures { λ r. ⌜ r ≡ foundIn isFree (readRows (now (rows .entry))) ⌝ }
 {
     let n = rows::count(rows);
     let mut i = 0;
@@ -63,7 +63,7 @@ pub fn first_free(rows: &[u64]) -> Found
 
 // Whether a row is Failed and not quiescent.
 pub fn any_uncertain(rows: &[u64]) -> bool
-    ensures { λ r. ⌜ r ≡ anyIn isUncertain (rowsOf (now (rows .entry))) ⌝ }
+    ensures { λ r. ⌜ r ≡ anyIn isUncertain (readRows (now (rows .entry))) ⌝ }
 {
     let n = rows::count(rows);
     let mut i = 0;

@@ -3,7 +3,7 @@ use rows::columns;
 ghost use mathlib.Core.Path.{_≡_};
 ghost use Prim.Native.Nat.{_+_, _<_};
 ghost use lib.ListN.{length};
-ghost use Rattle.rows.specs.Table.{rowsOf, rowAt};
+ghost use Rattle.rows.specs.Table.{readRows, rowAt};
 ghost use Rattle.ledger.specs.Tally.{saturate, heldLength, heldCount, heldBytes};
 
 // The greatest numbers of 16 and of 64 bits.
@@ -32,7 +32,7 @@ fn add_saturating(total: u64, length: u64) -> u64
 
 // The length of row i joins the total if the row is held.
 fn add_held(rows: &[u64], i: usize, total: u64) -> u64
-    requires { ⌜ i < length (rowsOf (now rows)) ⌝ }
+    requires { ⌜ i < length (readRows (now rows)) ⌝ }
     ensures { λ r. ⌜ r ≡ saturate 64 (total + heldLength (rowAt (now (rows .entry)) i)) ⌝ }
 {
     if !columns::held_at(rows, i) {
@@ -43,7 +43,7 @@ fn add_held(rows: &[u64], i: usize, total: u64) -> u64
 }
 
 pub fn held_count(rows: &[u64]) -> u16
-    ensures { λ r. ⌜ r ≡ heldCount 16 (rowsOf (now (rows .entry))) ⌝ }
+    ensures { λ r. ⌜ r ≡ heldCount 16 (readRows (now (rows .entry))) ⌝ }
 {
     let n = rows::count(rows);
     let mut total: u64 = 0;
@@ -56,7 +56,7 @@ pub fn held_count(rows: &[u64]) -> u16
 }
 
 pub fn held_bytes(rows: &[u64]) -> u64
-    ensures { λ r. ⌜ r ≡ heldBytes 64 (rowsOf (now (rows .entry))) ⌝ }
+    ensures { λ r. ⌜ r ≡ heldBytes 64 (readRows (now (rows .entry))) ⌝ }
 {
     let n = rows::count(rows);
     let mut total: u64 = 0;

@@ -19,8 +19,8 @@ use Rattle.models.specs.declared.ControllerState.the-variants as control
 abbrev pub categories : List ErrorCategory
 categories = category.Validation ∷ category.Unsupported ∷ category.OperatingSystem ∷ category.Controller ∷ category.Timeout ∷ category.Disconnect ∷ []
 
-abbrev pub categoryOf : ℕ → ErrorCategory
-categoryOf w = getD categories w category.RecoveryRequired
+abbrev pub readCategory : ℕ → ErrorCategory
+readCategory w = getD categories w category.RecoveryRequired
 
 abbrev pub categoryWord : ErrorCategory → ℕ
 categoryWord category.Validation = 0
@@ -35,8 +35,8 @@ categoryWord category.RecoveryRequired = 6
 abbrev pub transfers : List TransferType
 transfers = transfer.Control ∷ transfer.Bulk ∷ transfer.Interrupt ∷ []
 
-abbrev pub transferOf : ℕ → TransferType
-transferOf w = getD transfers w transfer.Isochronous
+abbrev pub readTransfer : ℕ → TransferType
+readTransfer w = getD transfers w transfer.Isochronous
 
 abbrev pub transferWord : TransferType → ℕ
 transferWord transfer.Control = 0
@@ -48,8 +48,8 @@ transferWord transfer.Isochronous = 3
 abbrev pub directions : List Direction
 directions = direction.In ∷ []
 
-abbrev pub directionOf : ℕ → Direction
-directionOf w = getD directions w direction.Out
+abbrev pub readDirection : ℕ → Direction
+readDirection w = getD directions w direction.Out
 
 abbrev pub directionWord : Direction → ℕ
 directionWord direction.In = 0
@@ -59,8 +59,8 @@ directionWord direction.Out = 1
 abbrev pub profiles : List ControlProfile
 profiles = profile.Compliant ∷ []
 
-abbrev pub profileOf : ℕ → ControlProfile
-profileOf w = getD profiles w profile.DeviceCompatibility
+abbrev pub readProfile : ℕ → ControlProfile
+readProfile w = getD profiles w profile.DeviceCompatibility
 
 abbrev pub profileWord : ControlProfile → ℕ
 profileWord profile.Compliant = 0
@@ -70,8 +70,8 @@ profileWord profile.DeviceCompatibility = 1
 abbrev pub deviceStates : List DeviceState
 deviceStates = device.Observed ∷ device.PortReset ∷ device.SlotEnabled ∷ device.DefaultAddress ∷ device.Addressed ∷ device.Configured ∷ []
 
-abbrev pub deviceStateOf : ℕ → DeviceState
-deviceStateOf w = getD deviceStates w device.Disconnected
+abbrev pub readDeviceState : ℕ → DeviceState
+readDeviceState w = getD deviceStates w device.Disconnected
 
 abbrev pub deviceStateWord : DeviceState → ℕ
 deviceStateWord device.Observed = 0
@@ -86,8 +86,8 @@ deviceStateWord device.Disconnected = 6
 abbrev pub controllers : List ControllerState
 controllers = controller.Closed ∷ controller.AcquiredUnknown ∷ controller.Initialized ∷ controller.Closing ∷ []
 
-abbrev pub controllerOf : ℕ → ControllerState
-controllerOf w = getD controllers w controller.RecoveryRequired
+abbrev pub readController : ℕ → ControllerState
+readController w = getD controllers w controller.RecoveryRequired
 
 abbrev pub controllerWord : ControllerState → ℕ
 controllerWord controller.Closed = 0

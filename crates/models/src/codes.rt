@@ -6,10 +6,10 @@ use crate::Direction;
 use crate::ErrorCategory;
 use crate::TransferType;
 ghost use mathlib.Core.Path.{_≡_};
-ghost use Rattle.models.specs.Codes.{categoryOf, categoryWord, transferOf, transferWord, directionOf, directionWord, profileOf, profileWord, deviceStateOf, deviceStateWord, controllerOf, controllerWord};
+ghost use Rattle.models.specs.Codes.{readCategory, categoryWord, readTransfer, transferWord, readDirection, directionWord, readProfile, profileWord, readDeviceState, deviceStateWord, readController, controllerWord};
 
 pub fn category_word(c: ErrorCategory) -> u64
-    ensures { λ r. ⌜ (categoryOf r ≡ c) × (r ≡ categoryWord c) ⌝ }
+    ensures { λ r. ⌜ (readCategory r ≡ c) × (r ≡ categoryWord c) ⌝ }
 {
     match c {
         ErrorCategory::Validation => 0,
@@ -23,7 +23,7 @@ pub fn category_word(c: ErrorCategory) -> u64
 }
 
 pub fn to_category(w: u64) -> ErrorCategory
-    ensures { λ r. ⌜ r ≡ categoryOf w ⌝ }
+    ensures { λ r. ⌜ r ≡ readCategory w ⌝ }
 {
     match w {
         0 => ErrorCategory::Validation,
@@ -37,7 +37,7 @@ pub fn to_category(w: u64) -> ErrorCategory
 }
 
 pub fn transfer_word(t: TransferType) -> u64
-    ensures { λ r. ⌜ (transferOf r ≡ t) × (r ≡ transferWord t) ⌝ }
+    ensures { λ r. ⌜ (readTransfer r ≡ t) × (r ≡ transferWord t) ⌝ }
 {
     match t {
         TransferType::Control => 0,
@@ -48,7 +48,7 @@ pub fn transfer_word(t: TransferType) -> u64
 }
 
 pub fn to_transfer(w: u64) -> TransferType
-    ensures { λ r. ⌜ r ≡ transferOf w ⌝ }
+    ensures { λ r. ⌜ r ≡ readTransfer w ⌝ }
 {
     match w {
         0 => TransferType::Control,
@@ -59,7 +59,7 @@ pub fn to_transfer(w: u64) -> TransferType
 }
 
 pub fn direction_word(d: Direction) -> u64
-    ensures { λ r. ⌜ (directionOf r ≡ d) × (r ≡ directionWord d) ⌝ }
+    ensures { λ r. ⌜ (readDirection r ≡ d) × (r ≡ directionWord d) ⌝ }
 {
     match d {
         Direction::In => 0,
@@ -68,7 +68,7 @@ pub fn direction_word(d: Direction) -> u64
 }
 
 pub fn to_direction(w: u64) -> Direction
-    ensures { λ r. ⌜ r ≡ directionOf w ⌝ }
+    ensures { λ r. ⌜ r ≡ readDirection w ⌝ }
 {
     match w {
         0 => Direction::In,
@@ -77,7 +77,7 @@ pub fn to_direction(w: u64) -> Direction
 }
 
 pub fn profile_word(p: ControlProfile) -> u64
-    ensures { λ r. ⌜ (profileOf r ≡ p) × (r ≡ profileWord p) ⌝ }
+    ensures { λ r. ⌜ (readProfile r ≡ p) × (r ≡ profileWord p) ⌝ }
 {
     match p {
         ControlProfile::Compliant => 0,
@@ -86,7 +86,7 @@ pub fn profile_word(p: ControlProfile) -> u64
 }
 
 pub fn to_profile(w: u64) -> ControlProfile
-    ensures { λ r. ⌜ r ≡ profileOf w ⌝ }
+    ensures { λ r. ⌜ r ≡ readProfile w ⌝ }
 {
     match w {
         0 => ControlProfile::Compliant,
@@ -95,7 +95,7 @@ pub fn to_profile(w: u64) -> ControlProfile
 }
 
 pub fn device_state_word(s: DeviceState) -> u64
-    ensures { λ r. ⌜ (deviceStateOf r ≡ s) × (r ≡ deviceStateWord s) ⌝ }
+    ensures { λ r. ⌜ (readDeviceState r ≡ s) × (r ≡ deviceStateWord s) ⌝ }
 {
     match s {
         DeviceState::Observed => 0,
@@ -109,7 +109,7 @@ pub fn device_state_word(s: DeviceState) -> u64
 }
 
 pub fn to_device_state(w: u64) -> DeviceState
-    ensures { λ r. ⌜ r ≡ deviceStateOf w ⌝ }
+    ensures { λ r. ⌜ r ≡ readDeviceState w ⌝ }
 {
     match w {
         0 => DeviceState::Observed,
@@ -123,7 +123,7 @@ pub fn to_device_state(w: u64) -> DeviceState
 }
 
 pub fn controller_word(s: ControllerState) -> u64
-    ensures { λ r. ⌜ (controllerOf r ≡ s) × (r ≡ controllerWord s) ⌝ }
+    ensures { λ r. ⌜ (readController r ≡ s) × (r ≡ controllerWord s) ⌝ }
 {
     match s {
         ControllerState::Closed => 0,
@@ -135,7 +135,7 @@ pub fn controller_word(s: ControllerState) -> u64
 }
 
 pub fn to_controller(w: u64) -> ControllerState
-    ensures { λ r. ⌜ r ≡ controllerOf w ⌝ }
+    ensures { λ r. ⌜ r ≡ readController w ⌝ }
 {
     match w {
         0 => ControllerState::Closed,

@@ -28,7 +28,7 @@ use words::slices;
 ghost use mathlib.Core.Path.{_≡_};
 ghost use Prim.Native.Nat.{_+_, _<_, _≤_};
 ghost use lib.ListN.{length};
-ghost use Rattle.rows.specs.Table.{rowsOf};
+ghost use Rattle.rows.specs.Table.{readRows};
 ghost use Rattle.rules.specs.Rules.{changeRow};
 ghost use mathlib.Core.Bool.{_&&_};
 ghost use Rattle.session.specs.Lent.{storeIn, storeOut, rowsFitIn, areaFitsIn};
@@ -190,7 +190,7 @@ fn settle(
     room: usize,
     bytes: &[u8],
 ) -> Reported
-    requires { ⌜ (i < length (rowsOf (now rows))) × (at + room ≤ length (now area)) ⌝ }
+    requires { ⌜ (i < length (readRows (now rows))) × (at + room ≤ length (now area)) ⌝ }
     ensures { λ r. ⌜ finishTo r (storeOut rows) (now (area .exit))
         ≡ settled (changeRow row (j .change)) j idle i at room (now (bytes .entry)) (storeIn rows) (now (area .entry)) ⌝ }
 {
@@ -221,7 +221,7 @@ fn finish_at(
     reply: PollReply,
     bytes: &[u8],
 ) -> Reported
-    requires { ⌜ (i < length (rowsOf (now rows))) × (at + room ≤ length (now area)) ⌝ }
+    requires { ⌜ (i < length (readRows (now rows))) × (at + room ≤ length (now area)) ⌝ }
     ensures { λ r. ⌜ finishTo r (storeOut rows) (now (area .exit))
         ≡ finishAt reply idle i at room (now (bytes .entry)) (storeIn rows) (now (area .entry)) ⌝ }
 {

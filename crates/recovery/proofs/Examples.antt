@@ -28,7 +28,7 @@ use Rattle.session.specs.declared.RecoveryKind.the-variants as kind
 use Rattle.session.specs.declared.Session.{Session}
 use Rattle.scope.specs.Affected.{isAffected, joined, affectedOf}
 use Rattle.scope.specs.Scope.{inScope}
-use Rattle.scope.specs.Returned.{returnedOf, listsAgree}
+use Rattle.scope.specs.Returned.{readReturned, listsAgree}
 use Rattle.recovery.specs.Entries.{abortedBy, abortOne}
 use Rattle.recovery.specs.Reply.{RecoveredTo, resetBy, sessionAfter, abortsAfter, applyAll, concludedBy, scopedOf, doneOf, replyBy, replySized, replyIn, recoveryReplyOf}
 use Rattle.recovery.specs.declared.Outcome.{Outcome}
@@ -108,5 +108,5 @@ pending = Pending false false
 pub starred-shown :
     (after true (7 ∷ []) (row 2 9 ∷ row 1 7 ∷ []) ∷ after false (7 ∷ []) (row 2 9 ∷ row 1 7 ∷ []) ∷ after true (7 ∷ []) (row 2 7 ∷ row 1 7 ∷ []) ∷ [])
     ≡ (seen 46 RecoveryRequired (pending ∷ pending ∷ []) ∷ seen 0 RecoveryRequired (pending ∷ Aborted ∷ []) ∷ seen 0 Initialized (pending ∷ Aborted ∷ []) ∷ [])
-unfolding recoveryReplyOf replyIn replySized replyBy doneOf scopedOf concludedBy sessionAfter resetBy applyAll abortsAfter listsAgree returnedOf inScope affectedOf joined isAffected isHeld requestBefore marked raised _if_else_ abortOne abortedBy changeRow abortConfirmed moved putIn
+unfolding recoveryReplyOf replyIn replySized replyBy doneOf scopedOf concludedBy sessionAfter resetBy applyAll abortsAfter listsAgree readReturned inScope affectedOf joined isAffected isHeld requestBefore marked raised _if_else_ abortOne abortedBy changeRow abortConfirmed moved putIn
 starred-shown = refl

@@ -12,10 +12,10 @@ use Rattle.words.proofs.Records.{map-tab, tab-same}
 use Rattle.models.specs.declared.Verdict.{Verdict}
 use Rattle.models.specs.declared.Verdict.the-variants as verdict
 use Rattle.rows.specs.Store.{Store}
-use Rattle.rows.specs.Table.{rowsOf}
+use Rattle.rows.specs.Table.{readRows}
 use Rattle.session.specs.declared.Session.{Session}
 use Rattle.scope.specs.Scope.{meant}
-use Rattle.scope.specs.Returned.{broughtAt, Returned, returnedAt, returnedOf, listsAgree}
+use Rattle.scope.specs.Returned.{broughtAt, Returned, returnedAt, readReturned, listsAgree}
 use Rattle.recovery.specs.Entries.{WalkTo, completeOne, onwardBy, itself, completeAll, AbortTo, abortOne, furtherBy, abortAll}
 use Rattle.recovery.specs.Places.{Below, Places}
 use Rattle.recovery.specs.Reports.{idsOf}
@@ -32,8 +32,8 @@ module _ (place : ℕ → ℕ) where
   abbrev placed : Returned → Returned
   placed e = record { token = place (e .token); brought = e .brought }
 
-  returned-placed : (tokens words : List ℕ) → returnedOf (map place tokens) words ≡ map placed (returnedOf tokens words)
-  unfolding returnedOf
+  returned-placed : (tokens words : List ℕ) → readReturned (map place tokens) words ≡ map placed (readReturned tokens words)
+  unfolding readReturned
   returned-placed tokens words =
       rw (length-map tokens place, map-tab placed (returnedAt tokens words) (length tokens))
       (tab-same (λ (k : ℕ). placed (returnedAt tokens words k)) (returnedAt (map place tokens) words) (length tokens)
@@ -58,11 +58,11 @@ module _ (place : ℕ → ℕ) where
 
   module _ (tokens words aborted : List ℕ) where
     apply-placed : (room : ℕ) (bytes : List ℕ) (store : Store) (area : List ℕ)
-        → applyAll itself room (returnedOf (map place tokens) words) (map place aborted) bytes store area ≡ applyAll place room (returnedOf tokens words) aborted bytes store area
+        → applyAll itself room (readReturned (map place tokens) words) (map place aborted) bytes store area ≡ applyAll place room (readReturned tokens words) aborted bytes store area
     unfolding applyAll
     apply-placed room bytes store area =
-        rw (returned-placed tokens words, complete-placed room (returnedOf tokens words) bytes store area)
-        (aborts-placed (completeAll place room (returnedOf tokens words) bytes store area .verdict) (completeAll place room (returnedOf tokens words) bytes store area) aborted)
+        rw (returned-placed tokens words, complete-placed room (readReturned tokens words) bytes store area)
+        (aborts-placed (completeAll place room (readReturned tokens words) bytes store area .verdict) (completeAll place room (readReturned tokens words) bytes store area) aborted)
 
     settled-placed : (idle : Session) (x : Recovery) (o : Outcome) (bytes : List ℕ) (store : Store) (area : List ℕ)
         → settledOf idle x o itself (map place tokens) words (map place aborted) bytes store area ≡ settledOf idle x o place tokens words aborted bytes store area
@@ -84,7 +84,7 @@ module _ (affected own l list : List ℕ) (n : ℕ) (e : list ≡ listed 128 0 (
   first-below : (w : List ℕ) → n ≤ 128 → Below w affected → Below w (take n list)
   first-below w few b = rw (first-is few) (record { some = b .some; inside = λ k h. inside k (omega (arith, h, length-map l (meant affected own))) })
     where
-      inside : (k : ℕ) → k < length l → getD (map (meant affected own) l) k 0 < length (rowsOf w)
+      inside : (k : ℕ) → k < length l → getD (map (meant affected own) l) k 0 < length (readRows w)
       inside k h = meant-in w affected own (getD l k 0) (getD (map (meant affected own) l) k 0) b (map-at (meant affected own) l k h)
 
   module _ (k : ℕ) (w area : List ℕ) (room : ℕ) (p : Places w area room affected) where

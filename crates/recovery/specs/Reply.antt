@@ -29,7 +29,7 @@ use Rattle.session.specs.declared.RecoveryKind.the-variants as kind
 use Rattle.session.specs.declared.Session.{Session}
 use Rattle.scope.specs.Affected.{affectedOf, tokensOf}
 use Rattle.scope.specs.Scope.{meant, inScope}
-use Rattle.scope.specs.Returned.{Returned, returnedOf, listsAgree}
+use Rattle.scope.specs.Returned.{Returned, readReturned, listsAgree}
 use Rattle.recovery.specs.Entries.{WalkTo, walkTo, completeAll, abortAll}
 use Rattle.recovery.specs.Reports.{idLists, noIds}
 use Rattle.recovery.specs.declared.AbortReport.{AbortReport}
@@ -115,7 +115,7 @@ concludedBy verdict.Pass idle x o report ids rows = record { answer = answer.Rep
 -- the entries, then the session and the report; the ids are those of the rows before the entries
 abbrev pub settledOf : Session → Recovery → Outcome → (ℕ → ℕ) → List ℕ → List ℕ → List ℕ → List ℕ → Store → List ℕ → RecoveredTo
 settledOf idle x o place tokens words aborted bytes store area =
-    let w = applyAll place (idle .«row_bytes») (returnedOf tokens words) aborted bytes store area in
+    let w = applyAll place (idle .«row_bytes») (readReturned tokens words) aborted bytes store area in
     recoveredTo
     (concludedBy (w .verdict) idle x o (abortReport x o (length tokens) (length aborted)) (idLists (store .rows) place tokens aborted) (w .store .rows))
     (w .store) (w .area)

@@ -15,9 +15,9 @@ ghost use Prim.Native.Nat.{_+_, _*_, _<_, _≤_};
 ghost use mathlib.Core.List.{map};
 ghost use lib.ListN.{length, take};
 ghost use Rattle.chain.specs.Lists.{listed};
-ghost use Rattle.rows.specs.Table.{rowsOf};
+ghost use Rattle.rows.specs.Table.{readRows};
 ghost use Rattle.scope.specs.Scope.{meant};
-ghost use Rattle.scope.specs.Returned.{returnedOf, listsAgree};
+ghost use Rattle.scope.specs.Returned.{readReturned, listsAgree};
 ghost use Rattle.session.specs.Lent.{storeIn, storeOut};
 ghost use Rattle.recovery.specs.Entries.{walkTo, rowCompletedBy, completeOne, itself, completeAll, abortTo, abortOne, abortAll};
 ghost use Rattle.recovery.specs.Places.{Below, Places};
@@ -31,7 +31,7 @@ fn complete_row(
     i: usize,
     bytes: &[u8],
 ) -> Verdict
-    requires { ⌜ (i < length (rowsOf (now rows))) × (i * room + room ≤ length (now area)) ⌝ }
+    requires { ⌜ (i < length (readRows (now rows))) × (i * room + room ≤ length (now area)) ⌝ }
     ensures { λ r. ⌜ walkTo r (storeOut rows) (now (area .exit))
         ≡ rowCompletedBy step i (i * room) room (now (bytes .entry)) (storeIn rows) (now (area .entry)) ⌝ }
 {
@@ -54,7 +54,7 @@ fn complete_one(
     completion: BackendCompletion,
     bytes: &[u8],
 ) -> Verdict
-    requires { ⌜ (i < length (rowsOf (now rows))) × (i * room + room ≤ length (now area)) ⌝ }
+    requires { ⌜ (i < length (readRows (now rows))) × (i * room + room ≤ length (now area)) ⌝ }
     ensures { λ r. ⌜ walkTo r (storeOut rows) (now (area .exit))
         ≡ completeOne i (i * room) room completion (now (bytes .entry)) (storeIn rows) (now (area .entry)) ⌝ }
 {
@@ -110,7 +110,7 @@ fn complete_next(
     brought: Brought,
     left: &[u8],
 ) -> Verdict
-    requires { ⌜ (i < length (rowsOf (now rows))) × (i * room + room ≤ length (now area)) × (brought .given ≤ length (now left)) ⌝ }
+    requires { ⌜ (i < length (readRows (now rows))) × (i * room + room ≤ length (now area)) × (brought .given ≤ length (now left)) ⌝ }
     ensures { λ r. ⌜ walkTo r (storeOut rows) (now (area .exit))
         ≡ completeOne i (i * room) room (brought .completion) (take (brought .given) (now (left .entry))) (storeIn rows) (now (area .entry)) ⌝ }
 {
@@ -130,7 +130,7 @@ pub(crate) fn complete_all(
 ) -> Verdict
     requires { ⌜ Places (now rows) (now area) room (now places) × (listsAgree (now places) (now completions) (length (now bytes)) ≡ true) ⌝ }
     ensures { λ r. ⌜ walkTo r (storeOut rows) (now (area .exit))
-        ≡ completeAll itself room (returnedOf (now (places .entry)) (now (completions .entry))) (now (bytes .entry)) (storeIn rows) (now (area .entry)) ⌝ }
+        ≡ completeAll itself room (readReturned (now (places .entry)) (now (completions .entry))) (now (bytes .entry)) (storeIn rows) (now (area .entry)) ⌝ }
 {
     let n = places.len();
     let mut at = 0;
@@ -149,7 +149,7 @@ pub(crate) fn complete_all(
 }
 
 fn abort_one(rows: &mut [u64], i: usize) -> Verdict
-    requires { ⌜ i < length (rowsOf (now rows)) ⌝ }
+    requires { ⌜ i < length (readRows (now rows)) ⌝ }
     ensures { λ r. ⌜ abortTo r (storeOut rows) ≡ abortOne i (storeIn rows) ⌝ }
 {
     let row = rows::read_row(rows, i);

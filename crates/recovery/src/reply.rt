@@ -34,7 +34,7 @@ ghost use lib.Dec.{eqb};
 ghost use Rattle.chain.specs.Lists.{listed};
 ghost use Rattle.models.specs.Refusals.{refusalOf};
 ghost use Rattle.models.specs.Requests.{sameDevice};
-ghost use Rattle.scope.specs.Returned.{returnedOf, listsAgree};
+ghost use Rattle.scope.specs.Returned.{readReturned, listsAgree};
 ghost use Rattle.session.specs.Lent.{rowsIn, storeIn, storeOut, rowsFitIn, areaFitsIn};
 ghost use Rattle.recovery.specs.Entries.{itself, walkTo};
 ghost use Rattle.recovery.specs.Places.{Below, Sized, Places};
@@ -220,7 +220,7 @@ fn apply_all(
 ) -> Verdict
     requires { ⌜ Places (now rows) (now area) room (now completed) × Below (now rows) (now aborted) × (listsAgree (now completed) (now completions) (length (now bytes)) ≡ true) ⌝ }
     ensures { λ r. ⌜ walkTo r (storeOut rows) (now (area .exit))
-        ≡ applyAll itself room (returnedOf (now (completed .entry)) (now (completions .entry))) (now (aborted .entry)) (now (bytes .entry)) (storeIn rows) (now (area .entry)) ⌝ }
+        ≡ applyAll itself room (readReturned (now (completed .entry)) (now (completions .entry))) (now (aborted .entry)) (now (bytes .entry)) (storeIn rows) (now (area .entry)) ⌝ }
 {
     let verdict = entries::complete_all(rows, area, room, completed, completions, bytes);
     let Verdict::Pass = verdict else {

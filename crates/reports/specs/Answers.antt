@@ -5,7 +5,6 @@ use Rattle.models.specs.declared.ErrorCategory.{ErrorCategory}
 use Rattle.models.specs.declared.ErrorCategory.the-variants as category
 use Rattle.models.specs.declared.OperationError.{OperationError}
 use Rattle.models.specs.declared.Refusal.{Refusal}
-use Rattle.rows.specs.Store.{Store}
 use Rattle.session.specs.Session.{marked}
 use Rattle.session.specs.declared.Session.{Session}
 use Rattle.reports.specs.declared.Reported.{Reported}
@@ -23,14 +22,6 @@ isMild category.RecoveryRequired = false
 
 unfoldable pub effect : OperationError → Session → Session
 effect e s = s if isMild (e .category) else marked s
-
--- a report's answer with its session, and the store after it
-pub record ReportedTo : Type 0 where
-  pub result : Reported
-  pub store : Store
-
-abbrev pub reportedTo : Reported → Store → ReportedTo
-reportedTo r store = record { result = r; store = store }
 
 abbrev pub reportRefused : Session → Refusal → Reported
 reportRefused s r = record { answer = report.Refused r; session = s }

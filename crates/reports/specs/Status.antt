@@ -2,7 +2,7 @@
 use Prim.Native.Nat.{ℕ, _*_, min}
 use mathlib.Core.Bool.{Bool, true, false, not, _&&_}
 use mathlib.Core.List.{List, [], _∷_}
-use lib.ListN.{getD, take, drop}
+use lib.ListN.{length, getD, take, drop}
 use Rattle.chain.specs.Chain.{_if_else_}
 use Rattle.chain.specs.Lists.{count, foundIn}
 use Rattle.chain.specs.declared.Found.{Found}
@@ -13,10 +13,13 @@ use Rattle.models.specs.declared.RequestId.{RequestId}
 use Rattle.models.specs.declared.RequestState.{RequestState}
 use Rattle.models.specs.declared.RequestState.the-variants.{Pending, Completed, Failed, Aborted}
 use Rattle.rows.specs.Table.{emptyRow}
+use Rattle.rows.specs.Store.{Store}
 use Rattle.rows.specs.declared.Row.{Row}
 use Rattle.rules.specs.Rules.{reportOf}
 use Rattle.ledger.specs.Search.{isAt}
 use Rattle.ledger.specs.Tally.{heldCount, heldBytes}
+use Rattle.session.specs.Lent.{storeFits}
+use Rattle.session.specs.Sizes.{memorySizes}
 use Rattle.session.specs.declared.InFlight.{InFlight}
 use Rattle.session.specs.declared.InFlight.the-variants as flight
 use Rattle.session.specs.declared.Session.{Session}
@@ -37,7 +40,7 @@ abbrev pub isSubmitting : InFlight → RequestId → Bool
 isSubmitting flight.Nothing id = false
 isSubmitting (flight.Submission own) id = sameRequest own id
 isSubmitting (flight.Poll own) id = false
-isSubmitting (flight.Recovery target device endpoint kind) id = false
+isSubmitting (flight.Recovery x) id = false
 
 -- the row of an id that has a report
 unfoldable pub shownAt : InFlight → RequestId → List Row → Found
@@ -49,8 +52,10 @@ statusBy found.Nothing rows = report.Refused (refusalOf 40)
 statusBy (found.At i) rows = report.Report (reportOf (getD rows i emptyRow))
 
 -- 3
-unfoldable pub statusOf : Session → Bool → RequestId → List Row → ReportAnswer
-statusOf s fits id rows = report.Refused (refusalOf 3) if not fits else statusBy (shownAt (s .«in_flight») id rows) rows
+unfoldable pub statusOf : RequestId → Session → Store → ReportAnswer
+statusOf id s store =
+    report.Refused (refusalOf 3) if not (storeFits (s .size) store) else
+    statusBy (shownAt (s .«in_flight») id (store .rows)) (store .rows)
 
 -- a request that has a report
 unfoldable pub isShown : InFlight → Row → Bool
@@ -74,12 +79,16 @@ abbrev pub bestFrom : InFlight → OptionId → NextReport → List Row → Next
 bestFrom f after best [] = best
 bestFrom f after best (r ∷ rows) = bestFrom f after (better f after best r) rows
 
-unfoldable pub nextOf : Session → Bool → OptionId → List Row → NextReport
-nextOf s fits after rows = next.Refused (refusalOf 3) if not fits else bestFrom (s .«in_flight») after next.None rows
+unfoldable pub nextOf : OptionId → Session → Store → NextReport
+nextOf from s store =
+    next.Refused (refusalOf 3) if not (storeFits (s .size) store) else
+    bestFrom (s .«in_flight») from next.None (store .rows)
 
 -- how many requests have a report
-unfoldable pub shownCount : Session → Bool → List Row → Tally
-shownCount s fits rows = tally.Refused (refusalOf 3) if not fits else tally.Number (count (isShown (s .«in_flight»)) rows)
+unfoldable pub shownCount : Session → Store → Tally
+shownCount s store =
+    tally.Refused (refusalOf 3) if not (storeFits (s .size) store) else
+    tally.Number (count (isShown (s .«in_flight»)) (store .rows))
 
 -- the actual length of a Completed request, else 0
 abbrev pub completedLength : RequestState → ℕ
@@ -96,11 +105,11 @@ unfoldable pub partBy : Found → ℕ → List Row → PartAnswer
 partBy found.Nothing room rows = bytes.Refused (refusalOf 40)
 partBy (found.At i) room rows = bytes.Part (bytesPart (i * room) (min (completedLength (getD rows i emptyRow .state)) room))
 
--- 3
-unfoldable pub completedPart : Session → Bool → RequestId → List Row → PartAnswer
-completedPart s fits id rows =
-    bytes.Refused (refusalOf 3) if not fits else
-    partBy (shownAt (s .«in_flight») id rows) (s .«row_bytes») rows
+-- 3; `size` is the area's
+unfoldable pub completedPart : RequestId → ℕ → Session → Store → PartAnswer
+completedPart id size s store =
+    bytes.Refused (refusalOf 3) if not (memorySizes (s .size) (length (store .words)) size) else
+    partBy (shownAt (s .«in_flight») id (store .rows)) (s .size .«row_bytes») (store .rows)
 
 -- the lent form: no bytes where it is refused, and the refusal's number, or 0
 abbrev pub partOf : PartAnswer → Part
@@ -114,8 +123,8 @@ partNumber (bytes.Part p) = 0
 unfoldable pub bytesOf : PartAnswer → List ℕ → List ℕ
 bytesOf a area = take (partOf a .length) (drop (partOf a .start) area)
 
-unfoldable pub heldCountOf : Bool → List Row → Tally
-heldCountOf fits rows = tally.Refused (refusalOf 3) if not fits else tally.Number (heldCount 16 rows)
+unfoldable pub heldCountOf : Session → Store → Tally
+heldCountOf s store = tally.Refused (refusalOf 3) if not (storeFits (s .size) store) else tally.Number (heldCount 16 (store .rows))
 
-unfoldable pub heldBytesOf : Bool → List Row → Tally
-heldBytesOf fits rows = tally.Refused (refusalOf 3) if not fits else tally.Number (heldBytes 64 rows)
+unfoldable pub heldBytesOf : Session → Store → Tally
+heldBytesOf s store = tally.Refused (refusalOf 3) if not (storeFits (s .size) store) else tally.Number (heldBytes 64 (store .rows))

@@ -9,9 +9,9 @@ use rules::Change;
 use session::Session;
 use session::start;
 ghost use mathlib.Core.Path.{_≡_};
+ghost use Rattle.chain.specs.After.{after};
 ghost use Rattle.rules.specs.declared.Change.the-variants as Change;
-ghost use Rattle.session.specs.Lent.{storeIn, storeOut, rowsFitIn};
-ghost use Rattle.reports.specs.Answers.{reportedTo};
+ghost use Rattle.session.specs.Lent.{storeIn, storeOut};
 ghost use Rattle.reports.specs.Change.{reportedBy, changeOf};
 
 fn reported(applied: Applied, session: Session) -> Reported
@@ -27,8 +27,7 @@ fn reported(applied: Applied, session: Session) -> Reported
 }
 
 fn change_request(session: Session, rows: &mut [u64], id: RequestId, change: Change) -> Reported
-    ensures { λ r. ⌜ reportedTo r (storeOut rows)
-        ≡ changeOf session (rowsFitIn session rows) id change (storeIn rows) ⌝ }
+    ensures { λ r. ⌜ after r (storeOut rows) ≡ changeOf id change session (storeIn rows) ⌝ }
 {
     let verdict = start::rows_ready(session, rows.len());
     match verdict {
@@ -41,23 +40,20 @@ fn change_request(session: Session, rows: &mut [u64], id: RequestId, change: Cha
 }
 
 pub fn logical_cancel_request(session: Session, rows: &mut [u64], id: RequestId) -> Reported
-    ensures { λ r. ⌜ reportedTo r (storeOut rows)
-        ≡ changeOf session (rowsFitIn session rows) id Change.LogicalCancel (storeIn rows) ⌝ }
+    ensures { λ r. ⌜ after r (storeOut rows) ≡ changeOf id Change.LogicalCancel session (storeIn rows) ⌝ }
 {
     change_request(session, rows, id, Change::LogicalCancel)
 }
 
 pub fn timeout_request(session: Session, rows: &mut [u64], id: RequestId) -> Reported
-    ensures { λ r. ⌜ reportedTo r (storeOut rows)
-        ≡ changeOf session (rowsFitIn session rows) id Change.Timeout (storeIn rows) ⌝ }
+    ensures { λ r. ⌜ after r (storeOut rows) ≡ changeOf id Change.Timeout session (storeIn rows) ⌝ }
 {
     change_request(session, rows, id, Change::Timeout)
 }
 
 // The report is of the request as it was; its row is free.
 pub fn reclaim_request(session: Session, rows: &mut [u64], id: RequestId) -> Reported
-    ensures { λ r. ⌜ reportedTo r (storeOut rows)
-        ≡ changeOf session (rowsFitIn session rows) id Change.Reclaim (storeIn rows) ⌝ }
+    ensures { λ r. ⌜ after r (storeOut rows) ≡ changeOf id Change.Reclaim session (storeIn rows) ⌝ }
 {
     change_request(session, rows, id, Change::Reclaim)
 }

@@ -18,10 +18,9 @@ ghost use mathlib.Core.Path.{_≡_};
 ghost use lib.ListN.{length};
 ghost use mathlib.Core.Bool.{_&&_, cond};
 ghost use Rattle.chain.specs.Lists.{count};
-ghost use Rattle.session.specs.Lent.{rowsIn, rowsFitIn, areaFitsIn};
+ghost use Rattle.session.specs.Lent.{rowsIn, storeIn};
 ghost use Rattle.reports.specs.declared.NextReport.the-variants as NextReport;
 ghost use Prim.Native.Nat.{_+_, _<_, min};
-ghost use Rattle.session.specs.Sizes.{areaFits};
 ghost use Rattle.reports.specs.Status.{isSubmitting, shownAt, statusOf, isShown, comesAfter, beats, better, bestFrom, nextOf, shownCount, completedLength, completedPart, partOf, partNumber, bytesOf, heldCountOf, heldBytesOf};
 
 // The id's submission is in flight.
@@ -32,7 +31,7 @@ fn is_submitting(flight: InFlight, id: RequestId) -> bool
         InFlight::Nothing => false,
         InFlight::Submission(own) => models::same_request(own, id),
         InFlight::Poll(_) => false,
-        InFlight::Recovery(_, _, _, _) => false,
+        InFlight::Recovery(_) => false,
     }
 }
 
@@ -48,10 +47,11 @@ fn find_shown(rows: &[u64], flight: InFlight, id: RequestId) -> Found
 
 // 3; 40: no row has the id, or its submission is in flight.
 pub fn request_status(session: Session, rows: &[u64], id: RequestId) -> ReportAnswer
-    ensures { λ r. ⌜ r ≡ statusOf session (rowsFitIn session rows) id (rowsIn rows) ⌝ }
+    ensures { λ r. ⌜ r ≡ statusOf id session (storeIn rows) ⌝ }
 {
     let flight = session.in_flight;
-    if !sizes::rows_fit(session.row_count, session.row_bytes, rows.len()) {
+    let size = session.size;
+    if !sizes::rows_fit(size, rows.len()) {
         return ReportAnswer::Refused(models::refuse(3));
     }
     let found = find_shown(rows, flight, id);
@@ -118,10 +118,11 @@ fn better_of(best: NextReport, row: Row, flight: InFlight, after: OptionId) -> N
 
 // 3; the report with the least id, or the least after an id. The row of a submission in flight is left out.
 pub fn request_reports(session: Session, rows: &[u64], after: OptionId) -> NextReport
-    ensures { λ r. ⌜ r ≡ nextOf session (rowsFitIn session rows) after (rowsIn rows) ⌝ }
+    ensures { λ r. ⌜ r ≡ nextOf after session (storeIn rows) ⌝ }
 {
     let flight = session.in_flight;
-    if !sizes::rows_fit(session.row_count, session.row_bytes, rows.len()) {
+    let size = session.size;
+    if !sizes::rows_fit(size, rows.len()) {
         return NextReport::Refused(models::refuse(3));
     }
     best_of(rows, flight, after)
@@ -168,10 +169,11 @@ fn count_shown(rows: &[u64], flight: InFlight) -> u64
 
 // 3; how many requests have a report.
 pub fn count_reports(session: Session, rows: &[u64]) -> Tally
-    ensures { λ r. ⌜ r ≡ shownCount session (rowsFitIn session rows) (rowsIn rows) ⌝ }
+    ensures { λ r. ⌜ r ≡ shownCount session (storeIn rows) ⌝ }
 {
     let flight = session.in_flight;
-    if !sizes::rows_fit(session.row_count, session.row_bytes, rows.len()) {
+    let size = session.size;
+    if !sizes::rows_fit(size, rows.len()) {
         return Tally::Refused(models::refuse(3));
     }
     Tally::Number(count_shown(rows, flight))
@@ -199,13 +201,11 @@ fn cut(length: u64, room: u64) -> u64
 
 // 3; 40 as `request_status`; else where the bytes of a request that is Completed now stand, and an empty part of any other.
 pub fn completed_part(session: Session, rows: &[u64], bytes: usize, id: RequestId) -> PartAnswer
-    ensures { λ r. ⌜ r
-        ≡ completedPart session (rowsFitIn session rows && areaFits (session .«row_count») (session .«row_bytes») bytes) id (rowsIn rows) ⌝ }
+    ensures { λ r. ⌜ r ≡ completedPart id bytes session (storeIn rows) ⌝ }
 {
     let flight = session.in_flight;
-    let rows_fit = sizes::rows_fit(session.row_count, session.row_bytes, rows.len());
-    let area_fits = sizes::area_fits(session.row_count, session.row_bytes, bytes);
-    if !(rows_fit & area_fits) {
+    let size = session.size;
+    if !sizes::memory_fits(size, rows.len(), bytes) {
         return PartAnswer::Refused(models::refuse(3));
     }
     let found = find_shown(rows, flight, id);
@@ -214,7 +214,7 @@ pub fn completed_part(session: Session, rows: &[u64], bytes: usize, id: RequestI
     };
     let row = rows::read_row(rows, i);
     let state = row.state;
-    let room = session.row_bytes;
+    let room = size.row_bytes;
     let start = i as u64 * room;
     let length = cut(completed_length(state), room);
     PartAnswer::Part(Part { start, length })
@@ -251,10 +251,8 @@ pub fn completed_bytes<'a>(
     id: RequestId,
     number: &mut u16,
 ) -> &'a [u8]
-    ensures { λ r. ⌜ (now r
-        ≡ bytesOf (completedPart session (rowsFitIn session rows && areaFitsIn session area) id (rowsIn rows)) (now (area .entry)))
-        × (now (number .exit)
-        ≡ partNumber (completedPart session (rowsFitIn session rows && areaFitsIn session area) id (rowsIn rows))) ⌝ }
+    ensures { λ r. ⌜ (now r ≡ bytesOf (completedPart id (length (now (area .entry))) session (storeIn rows)) (now (area .entry)))
+        × (now (number .exit) ≡ partNumber (completedPart id (length (now (area .entry))) session (storeIn rows))) ⌝ }
 {
     let answer = completed_part(session, rows, area.len(), id);
     *number = number_of(answer);
@@ -266,9 +264,10 @@ pub fn completed_bytes<'a>(
 
 // 3; how many rows the device holds.
 pub fn held_count(session: Session, rows: &[u64]) -> Tally
-    ensures { λ r. ⌜ r ≡ heldCountOf (rowsFitIn session rows) (rowsIn rows) ⌝ }
+    ensures { λ r. ⌜ r ≡ heldCountOf session (storeIn rows) ⌝ }
 {
-    if !sizes::rows_fit(session.row_count, session.row_bytes, rows.len()) {
+    let size = session.size;
+    if !sizes::rows_fit(size, rows.len()) {
         return Tally::Refused(models::refuse(3));
     }
     Tally::Number(tally::held_count(rows) as u64)
@@ -276,9 +275,10 @@ pub fn held_count(session: Session, rows: &[u64]) -> Tally
 
 // 3; the sum of their requested lengths.
 pub fn held_bytes(session: Session, rows: &[u64]) -> Tally
-    ensures { λ r. ⌜ r ≡ heldBytesOf (rowsFitIn session rows) (rowsIn rows) ⌝ }
+    ensures { λ r. ⌜ r ≡ heldBytesOf session (storeIn rows) ⌝ }
 {
-    if !sizes::rows_fit(session.row_count, session.row_bytes, rows.len()) {
+    let size = session.size;
+    if !sizes::rows_fit(size, rows.len()) {
         return Tally::Refused(models::refuse(3));
     }
     Tally::Number(tally::held_bytes(rows))

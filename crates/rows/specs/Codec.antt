@@ -4,9 +4,9 @@ use mathlib.Core.List.{List, [], _∷_}
 use mathlib.Core.Bool.{Bool, true, false, cond}
 use lib.ListN.{getD, take, drop}
 use lib.Dec.{eqb, ltb}
-use Rattle.words.specs.Words.{flagOf, flagWord, optionU32Of, optionU32Word, optionI32Of, optionI32Word}
+use Rattle.words.specs.Words.{readFlag, flagWord, readOptionU32, optionU32Word, readOptionI32, optionI32Word}
 use Rattle.words.specs.declared.OptionU32.{OptionU32}
-use Rattle.models.specs.Codes.{categoryOf, categoryWord, transferOf, transferWord, directionOf, directionWord}
+use Rattle.models.specs.Codes.{readCategory, categoryWord, readTransfer, transferWord, readDirection, directionWord}
 use Rattle.models.specs.declared.OperationError.{OperationError}
 use Rattle.models.specs.declared.OptionSetup.{OptionSetup}
 use Rattle.models.specs.declared.OptionSetup.the-variants as setup
@@ -18,8 +18,8 @@ use Rattle.rows.specs.declared.codec.SetupWords.{SetupWords}
 use Rattle.rows.specs.declared.codec.StateWords.{StateWords}
 use Rattle.rows.specs.declared.codec.StatusWords.{StatusWords}
 
-abbrev pub setupOf : ℕ → ℕ → ℕ → ℕ → ℕ → ℕ → OptionSetup
-setupOf present type request value index length =
+abbrev pub readSetupWords : ℕ → ℕ → ℕ → ℕ → ℕ → ℕ → OptionSetup
+readSetupWords present type request value index length =
     cond (eqb present 0) setup.None
     (setup.Some (record { «request_type» = type % 2 ^ 8; request = request % 2 ^ 8; value = value % 2 ^ 16; index = index % 2 ^ 16; length = length % 2 ^ 16 }))
 
@@ -31,21 +31,21 @@ unfoldable pub readMetadata : List ℕ → RequestMetadata
 readMetadata w = record {
   device = record { session = getD w 0 0; generation = getD w 1 0; slot = getD w 2 0 % 2 ^ 8 };
   endpoint = getD w 3 0 % 2 ^ 8;
-  «transfer_type» = transferOf (getD w 4 0);
-  direction = directionOf (getD w 5 0);
+  «transfer_type» = readTransfer (getD w 4 0);
+  direction = readDirection (getD w 5 0);
   «requested_length» = getD w 6 0;
-  setup = setupOf (getD w 7 0) (getD w 8 0) (getD w 9 0) (getD w 10 0) (getD w 11 0) (getD w 12 0);
+  setup = readSetupWords (getD w 7 0) (getD w 8 0) (getD w 9 0) (getD w 10 0) (getD w 11 0) (getD w 12 0);
 }
 
-abbrev pub errorOf : ℕ → ℕ → ℕ → ℕ → OperationError
-errorOf a b d e = record { category = categoryOf a; message = b % 2 ^ 16; «os_code» = optionI32Of d; «completion_code» = optionU32Of e }
+abbrev pub readErrorWords : ℕ → ℕ → ℕ → ℕ → OperationError
+readErrorWords a b d e = record { category = readCategory a; message = b % 2 ^ 16; «os_code» = readOptionI32 d; «completion_code» = readOptionU32 e }
 
 -- a report's state by its words; tags: 0 Pending, 1 Completed, 2 Failed, any other Aborted
-abbrev pub stateOf : ℕ → ℕ → ℕ → ℕ → ℕ → ℕ → ℕ → RequestState
-stateOf tag a b c d e f =
-    cond (eqb tag 0) (Pending (flagOf a) (flagOf b))
-    (cond (eqb tag 1) (Completed a (b % 2 ^ 32) (flagOf c))
-    (cond (eqb tag 2) (Failed (errorOf a b d e) (optionU32Of f) (flagOf c))
+abbrev pub readStateWords : ℕ → ℕ → ℕ → ℕ → ℕ → ℕ → ℕ → RequestState
+readStateWords tag a b c d e f =
+    cond (eqb tag 0) (Pending (readFlag a) (readFlag b))
+    (cond (eqb tag 1) (Completed a (b % 2 ^ 32) (readFlag c))
+    (cond (eqb tag 2) (Failed (readErrorWords a b d e) (readOptionU32 f) (readFlag c))
     Aborted))
 
 -- the words of a state: three beside its tag, or six where it has an error
@@ -79,10 +79,10 @@ kindWord Aborted = 6
 -- a row's state by its kind and its words. Of the other kinds 0 says what 1 says, an odd one what 3 says, an even one what 6 says
 abbrev pub stateByKind : ℕ → ℕ → ℕ → ℕ → ℕ → ℕ → RequestState
 stateByKind k a b d e f =
-    cond (ltb k 2) (Pending (flagOf a) (flagOf b))
-    (cond (eqb k 2) (Completed a (b % 2 ^ 32) (flagOf d))
-    (cond (eqb (k % 2) 1) (Failed (errorOf a b d e) (optionU32Of f) false)
-    (cond (eqb k 4) (Failed (errorOf a b d e) (optionU32Of f) true)
+    cond (ltb k 2) (Pending (readFlag a) (readFlag b))
+    (cond (eqb k 2) (Completed a (b % 2 ^ 32) (readFlag d))
+    (cond (eqb (k % 2) 1) (Failed (readErrorWords a b d e) (readOptionU32 f) false)
+    (cond (eqb k 4) (Failed (readErrorWords a b d e) (readOptionU32 f) true)
     Aborted)))
 
 -- a row's status: 0 where it is free, else the kind of its state. A free row keeps the kind (0: Pending) in a word of its record, `rest`,
@@ -112,14 +112,14 @@ abbrev pub statusWords : Bool → RequestState → StatusWords
 statusWords used s = rowStatusWords used (kindWord s) (stateWords s)
 
 -- a row's words: the two that stand in columns (sequence, status), then its record
-unfoldable pub rowOf : List ℕ → Row
-rowOf w = record {
-  used = flagOf (getD w 1 0);
+unfoldable pub readRow : List ℕ → Row
+readRow w = record {
+  used = readFlag (getD w 1 0);
   id = record { session = getD w 2 0; generation = getD w 3 0; sequence = getD w 0 0 };
   metadata = readMetadata (take 13 (drop 4 w));
   token = getD w 17 0;
-  «logical_cancel» = flagOf (getD w 18 0);
-  «timed_out» = flagOf (getD w 19 0);
+  «logical_cancel» = readFlag (getD w 18 0);
+  «timed_out» = readFlag (getD w 19 0);
   state = stateByKind (kindBy (getD w 1 0) (getD w 22 0)) (getD w 20 0) (getD w 21 0) (getD w 23 0) (getD w 24 0) (getD w 25 0);
 }
 

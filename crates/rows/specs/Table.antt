@@ -7,7 +7,7 @@ use lib.ListN.{length, getD, set}
 use Rattle.words.specs.Records.{tab, splice, part}
 use Rattle.models.specs.Requests.{deviceMayAccess, isUncertainFailure}
 use Rattle.models.specs.declared.RequestId.{RequestId}
-use Rattle.rows.specs.Codec.{rowOf, recordOf, statusWords}
+use Rattle.rows.specs.Codec.{readRow, recordOf, statusWords}
 use Rattle.rows.specs.declared.Row.{Row}
 
 -- how many words of a row stand in columns, how many in its record, and how many it has
@@ -35,8 +35,8 @@ wordsAt n l i = getD l i 0 ∷ getD l (n + i) 0 ∷ part (recordAt n i) recordWo
 abbrev pub wordAt : List ℕ → ℕ → ℕ → ℕ
 wordAt l i k = getD (wordsAt (rowCount l) l i) k 0
 
-unfoldable pub rowsOf : List ℕ → List Row
-rowsOf l = tab (λ (i : ℕ). rowOf (wordsAt (rowCount l) l i)) (rowCount l)
+unfoldable pub readRows : List ℕ → List Row
+readRows l = tab (λ (i : ℕ). readRow (wordsAt (rowCount l) l i)) (rowCount l)
 
 -- l with the words s, t and the record p as those of row i of n
 unfoldable pub putWords : ℕ → List ℕ → ℕ → ℕ → ℕ → List ℕ → List ℕ
@@ -48,7 +48,7 @@ putRow l i r = putWords (rowCount l) l i (r .id .sequence) (statusWords (r .used
 
 -- the free row, whose words are all 0
 unfoldable pub emptyRow : Row
-emptyRow = rowOf []
+emptyRow = readRow []
 
 -- row i, and its id and token; outside, those of the free row
 abbrev pub rowIn : List Row → ℕ → Row
@@ -62,7 +62,7 @@ tokenIn rows i = rowIn rows i .token
 
 -- row i of the words
 abbrev pub rowAt : List ℕ → ℕ → Row
-rowAt l i = rowIn (rowsOf l) i
+rowAt l i = rowIn (readRows l) i
 
 -- document 01's "held" row: the controller may still write to its bytes
 unfoldable pub isHeld : Row → Bool

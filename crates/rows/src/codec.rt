@@ -14,8 +14,8 @@ ghost use mathlib.Core.List.{_∷_};
 ghost use mathlib.Core.Bool.{cond};
 ghost use lib.Dec.{eqb};
 ghost use lib.ListN.{length};
-ghost use Rattle.words.specs.Words.{flagOf, optionU32Of};
-ghost use Rattle.rows.specs.Codec.{setupOf, setupWords, readMetadata, stateOf, shortWords, failedWords, stateWords, errorOf, kindWord, stateByKind, kindBy, rowStatusWords, statusWords, rowOf, recordOf};
+ghost use Rattle.words.specs.Words.{readFlag, readOptionU32};
+ghost use Rattle.rows.specs.Codec.{readSetupWords, setupWords, readMetadata, readStateWords, shortWords, failedWords, stateWords, readErrorWords, kindWord, stateByKind, kindBy, rowStatusWords, statusWords, readRow, recordOf};
 ghost use Rattle.models.specs.declared.RequestState.the-variants as RequestState;
 
 // The kinds of a row's state: odd, where the row is held.
@@ -63,7 +63,7 @@ pub struct StatusWords {
 }
 
 pub fn setup_words(o: OptionSetup) -> SetupWords
-    ensures { λ r. ⌜ (setupOf (r .present) (r .«request_type») (r .request) (r .value) (r .index) (r .length) ≡ o) × (r ≡ setupWords o) ⌝ }
+    ensures { λ r. ⌜ (readSetupWords (r .present) (r .«request_type») (r .request) (r .value) (r .index) (r .length) ≡ o) × (r ≡ setupWords o) ⌝ }
 {
     match o {
         OptionSetup::None => SetupWords {
@@ -93,7 +93,7 @@ pub fn to_setup(
     index: u64,
     length: u64,
 ) -> OptionSetup
-    ensures { λ r. ⌜ r ≡ setupOf present «request_type» request value index length ⌝ }
+    ensures { λ r. ⌜ r ≡ readSetupWords present «request_type» request value index length ⌝ }
 {
     if present == 0 {
         return OptionSetup::None;
@@ -144,7 +144,7 @@ fn short_words(tag: u64, a: u64, b: u64, c: u64) -> StateWords
 }
 
 fn failed_words(error: OperationError, code: OptionU32, quiescent: bool) -> StateWords
-    ensures { λ r. ⌜ (stateOf (r .tag) (r .a) (r .b) (r .c) (r .d) (r .e) (r .f) ≡ RequestState.Failed error code quiescent) × (r ≡ failedWords error code quiescent) ⌝ }
+    ensures { λ r. ⌜ (readStateWords (r .tag) (r .a) (r .b) (r .c) (r .d) (r .e) (r .f) ≡ RequestState.Failed error code quiescent) × (r ≡ failedWords error code quiescent) ⌝ }
 {
     let category = error.category;
     let os_code = error.os_code;
@@ -161,7 +161,7 @@ fn failed_words(error: OperationError, code: OptionU32, quiescent: bool) -> Stat
 }
 
 pub fn state_words(s: RequestState) -> StateWords
-    ensures { λ r. ⌜ (stateOf (r .tag) (r .a) (r .b) (r .c) (r .d) (r .e) (r .f) ≡ s) × (r ≡ stateWords s) ⌝ }
+    ensures { λ r. ⌜ (readStateWords (r .tag) (r .a) (r .b) (r .c) (r .d) (r .e) (r .f) ≡ s) × (r ≡ stateWords s) ⌝ }
 {
     match s {
         RequestState::Pending {
@@ -221,7 +221,7 @@ fn kind_word(s: RequestState) -> u64
 }
 
 pub fn to_error(category: u64, message: u64, os_code: u64, code: u64) -> OperationError
-    ensures { λ r. ⌜ r ≡ errorOf category message «os_code» code ⌝ }
+    ensures { λ r. ⌜ r ≡ readErrorWords category message «os_code» code ⌝ }
 {
     OperationError {
         category: codes::to_category(category),
@@ -232,7 +232,7 @@ pub fn to_error(category: u64, message: u64, os_code: u64, code: u64) -> Operati
 }
 
 fn to_failed(a: u64, b: u64, d: u64, e: u64, f: u64, quiescent: bool) -> RequestState
-    ensures { λ r. ⌜ r ≡ RequestState.Failed (errorOf a b d e) (optionU32Of f) quiescent ⌝ }
+    ensures { λ r. ⌜ r ≡ RequestState.Failed (readErrorWords a b d e) (readOptionU32 f) quiescent ⌝ }
 {
     RequestState::Failed {
         error: to_error(a, b, d, e),
@@ -313,7 +313,7 @@ fn status_by(used: bool, kind: u64, w: StateWords) -> StatusWords
 }
 
 pub(crate) fn status_words(used: bool, s: RequestState) -> StatusWords
-    ensures { λ r. ⌜ (flagOf (r .status) ≡ used) × (stateByKind (kindBy (r .status) (r .rest)) (r .a) (r .b) (r .d) (r .e) (r .f) ≡ s) × (r ≡ statusWords used s) ⌝ }
+    ensures { λ r. ⌜ (readFlag (r .status) ≡ used) × (stateByKind (kindBy (r .status) (r .rest)) (r .a) (r .b) (r .d) (r .e) (r .f) ≡ s) × (r ≡ statusWords used s) ⌝ }
 {
     let w = state_words(s);
     let kind = kind_word(s);
@@ -332,7 +332,7 @@ fn kind_by(status: u64, rest: u64) -> u64
 // The row that its two column words and its record say.
 pub(crate) fn decode(sequence: u64, status: u64, w: &[u64]) -> Row
     requires { ⌜ length (now w) ≡ 24 ⌝ }
-    ensures { λ r. ⌜ r ≡ rowOf (sequence ∷ status ∷ now (w .entry)) ⌝ }
+    ensures { λ r. ⌜ r ≡ readRow (sequence ∷ status ∷ now (w .entry)) ⌝ }
 {
     let id = RequestId {
         session: w[0],
@@ -355,8 +355,8 @@ pub(crate) fn decode(sequence: u64, status: u64, w: &[u64]) -> Row
 
 // The record of a row whose SETUP has the words p and whose state the words s.
 pub(crate) fn encode(r: Row, p: SetupWords, s: StatusWords) -> [u64; 24]
-    requires { ⌜ (setupOf (p .present) (p .«request_type») (p .request) (p .value) (p .index) (p .length) ≡ r .metadata .setup) × (p ≡ setupWords (r .metadata .setup)) × (flagOf (s .status) ≡ r .used) × (stateByKind (kindBy (s .status) (s .rest)) (s .a) (s .b) (s .d) (s .e) (s .f) ≡ r .state) × (s ≡ statusWords (r .used) (r .state)) ⌝ }
-    ensures { λ w. ⌜ (rowOf (r .id .sequence ∷ s .status ∷ w) ≡ r) × (w ≡ recordOf r) ⌝ }
+    requires { ⌜ (readSetupWords (p .present) (p .«request_type») (p .request) (p .value) (p .index) (p .length) ≡ r .metadata .setup) × (p ≡ setupWords (r .metadata .setup)) × (readFlag (s .status) ≡ r .used) × (stateByKind (kindBy (s .status) (s .rest)) (s .a) (s .b) (s .d) (s .e) (s .f) ≡ r .state) × (s ≡ statusWords (r .used) (r .state)) ⌝ }
+    ensures { λ w. ⌜ (readRow (r .id .sequence ∷ s .status ∷ w) ≡ r) × (w ≡ recordOf r) ⌝ }
 {
     let m = r.metadata;
     let transfer_type = m.transfer_type;

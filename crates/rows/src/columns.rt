@@ -11,7 +11,7 @@ ghost use mathlib.Core.Path.{_≡_};
 ghost use Prim.Native.Nat.{_+_, _<_, _≤_};
 ghost use mathlib.Core.Bool.{cond};
 ghost use lib.ListN.{length};
-ghost use Rattle.rows.specs.Table.{columnWords, recordWords, rowCount, recordAt, wordAt, rowsOf, rowAt, idIn, tokenIn, isHeld, isUncertain};
+ghost use Rattle.rows.specs.Table.{columnWords, recordWords, rowCount, recordAt, wordAt, readRows, rowAt, idIn, tokenIn, isHeld, isUncertain};
 
 // Words of a record.
 const SESSION: usize = 0;
@@ -32,7 +32,7 @@ const TOKEN: usize = 15;
 
 // Where the record of row i starts.
 pub(crate) fn record_at(rows: &[u64], i: usize) -> usize
-    requires { ⌜ i < length (rowsOf (now rows)) ⌝ }
+    requires { ⌜ i < length (readRows (now rows)) ⌝ }
     ensures { λ r. ⌜ (r ≡ recordAt (rowCount (now (rows .entry))) i) × (r + recordWords ≤ length (now (rows .entry))) ⌝ }
 {
     let n = rows.len() / ROW_WORDS;
@@ -41,7 +41,7 @@ pub(crate) fn record_at(rows: &[u64], i: usize) -> usize
 
 // Word k of row i, one of the two that stand in columns.
 pub(crate) fn column(rows: &[u64], i: usize, k: usize) -> u64
-    requires { ⌜ (i < length (rowsOf (now rows))) × (k < columnWords) ⌝ }
+    requires { ⌜ (i < length (readRows (now rows))) × (k < columnWords) ⌝ }
     ensures { λ r. ⌜ r ≡ wordAt (now (rows .entry)) i k ⌝ }
 {
     let n = rows.len() / ROW_WORDS;
@@ -50,7 +50,7 @@ pub(crate) fn column(rows: &[u64], i: usize, k: usize) -> u64
 
 // Word k of the record of row i.
 fn field(rows: &[u64], i: usize, k: usize) -> u64
-    requires { ⌜ (i < length (rowsOf (now rows))) × (k < recordWords) ⌝ }
+    requires { ⌜ (i < length (readRows (now rows))) × (k < recordWords) ⌝ }
     ensures { λ r. ⌜ r ≡ wordAt (now (rows .entry)) i (columnWords + k) ⌝ }
 {
     let at = record_at(rows, i);
@@ -58,14 +58,14 @@ fn field(rows: &[u64], i: usize, k: usize) -> u64
 }
 
 pub fn sequence_at(rows: &[u64], i: usize) -> u64
-    requires { ⌜ i < length (rowsOf (now rows)) ⌝ }
+    requires { ⌜ i < length (readRows (now rows)) ⌝ }
     ensures { λ r. ⌜ r ≡ rowAt (now (rows .entry)) i .id .sequence ⌝ }
 {
     column(rows, i, SEQUENCE)
 }
 
 fn id_at(rows: &[u64], i: usize) -> RequestId
-    requires { ⌜ i < length (rowsOf (now rows)) ⌝ }
+    requires { ⌜ i < length (readRows (now rows)) ⌝ }
     ensures { λ r. ⌜ r ≡ rowAt (now (rows .entry)) i .id ⌝ }
 {
     RequestId {
@@ -77,7 +77,7 @@ fn id_at(rows: &[u64], i: usize) -> RequestId
 
 // The id of row i; that of the free row, where there is no row i.
 pub fn id_in(rows: &[u64], i: usize) -> RequestId
-    ensures { λ r. ⌜ r ≡ idIn (rowsOf (now (rows .entry))) i ⌝ }
+    ensures { λ r. ⌜ r ≡ idIn (readRows (now (rows .entry))) i ⌝ }
 {
     if i < crate::count(rows) {
         return id_at(rows, i);
@@ -90,7 +90,7 @@ pub fn id_in(rows: &[u64], i: usize) -> RequestId
 }
 
 pub fn device_at(rows: &[u64], i: usize) -> DeviceId
-    requires { ⌜ i < length (rowsOf (now rows)) ⌝ }
+    requires { ⌜ i < length (readRows (now rows)) ⌝ }
     ensures { λ r. ⌜ r ≡ rowAt (now (rows .entry)) i .metadata .device ⌝ }
 {
     DeviceId {
@@ -101,28 +101,28 @@ pub fn device_at(rows: &[u64], i: usize) -> DeviceId
 }
 
 pub fn endpoint_at(rows: &[u64], i: usize) -> u8
-    requires { ⌜ i < length (rowsOf (now rows)) ⌝ }
+    requires { ⌜ i < length (readRows (now rows)) ⌝ }
     ensures { λ r. ⌜ r ≡ rowAt (now (rows .entry)) i .metadata .endpoint ⌝ }
 {
     (field(rows, i, ENDPOINT) % 256) as u8
 }
 
 pub fn used_at(rows: &[u64], i: usize) -> bool
-    requires { ⌜ i < length (rowsOf (now rows)) ⌝ }
+    requires { ⌜ i < length (readRows (now rows)) ⌝ }
     ensures { λ r. ⌜ r ≡ rowAt (now (rows .entry)) i .used ⌝ }
 {
     words::to_flag(column(rows, i, STATUS))
 }
 
 pub fn requested_length_at(rows: &[u64], i: usize) -> u64
-    requires { ⌜ i < length (rowsOf (now rows)) ⌝ }
+    requires { ⌜ i < length (readRows (now rows)) ⌝ }
     ensures { λ r. ⌜ r ≡ rowAt (now (rows .entry)) i .metadata .«requested_length» ⌝ }
 {
     field(rows, i, REQUESTED_LENGTH)
 }
 
 fn token_at(rows: &[u64], i: usize) -> u64
-    requires { ⌜ i < length (rowsOf (now rows)) ⌝ }
+    requires { ⌜ i < length (readRows (now rows)) ⌝ }
     ensures { λ r. ⌜ r ≡ rowAt (now (rows .entry)) i .token ⌝ }
 {
     field(rows, i, TOKEN)
@@ -130,7 +130,7 @@ fn token_at(rows: &[u64], i: usize) -> u64
 
 // The token of row i; 0, where there is no row i.
 pub fn token_in(rows: &[u64], i: usize) -> u64
-    ensures { λ r. ⌜ r ≡ tokenIn (rowsOf (now (rows .entry))) i ⌝ }
+    ensures { λ r. ⌜ r ≡ tokenIn (readRows (now (rows .entry))) i ⌝ }
 {
     if i < crate::count(rows) {
         return token_at(rows, i);
@@ -140,7 +140,7 @@ pub fn token_in(rows: &[u64], i: usize) -> u64
 
 // The row is Failed and not quiescent.
 pub fn uncertain_at(rows: &[u64], i: usize) -> bool
-    requires { ⌜ i < length (rowsOf (now rows)) ⌝ }
+    requires { ⌜ i < length (readRows (now rows)) ⌝ }
     ensures { λ r. ⌜ r ≡ isUncertain (rowAt (now (rows .entry)) i) ⌝ }
 {
     let status = column(rows, i, STATUS);
@@ -149,7 +149,7 @@ pub fn uncertain_at(rows: &[u64], i: usize) -> bool
 
 // The controller may still write to the row's bytes.
 pub fn held_at(rows: &[u64], i: usize) -> bool
-    requires { ⌜ i < length (rowsOf (now rows)) ⌝ }
+    requires { ⌜ i < length (readRows (now rows)) ⌝ }
     ensures { λ r. ⌜ r ≡ isHeld (rowAt (now (rows .entry)) i) ⌝ }
 {
     let status = column(rows, i, STATUS);
@@ -158,7 +158,7 @@ pub fn held_at(rows: &[u64], i: usize) -> bool
 
 // 1 where the row is held, else 0.
 pub fn held_word_at(rows: &[u64], i: usize) -> u64
-    requires { ⌜ i < length (rowsOf (now rows)) ⌝ }
+    requires { ⌜ i < length (readRows (now rows)) ⌝ }
     ensures { λ r. ⌜ (r ≡ cond (isHeld (rowAt (now (rows .entry)) i)) 1 0) × (r < 2) ⌝ }
 {
     let status = column(rows, i, STATUS);

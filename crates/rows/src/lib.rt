@@ -6,7 +6,7 @@ use words::slices;
 ghost use mathlib.Core.Path.{_≡_};
 ghost use Prim.Native.Nat.{_+_, _*_, _<_, _≤_};
 ghost use lib.ListN.{length, set};
-ghost use Rattle.rows.specs.Table.{rowWords, rowsOf, rowAt, emptyRow};
+ghost use Rattle.rows.specs.Table.{rowWords, readRows, rowAt, emptyRow};
 ghost use Rattle.rows.specs.Store.{storeOf, putIn, emptied};
 
 pub mod codec;
@@ -38,7 +38,7 @@ pub struct Row {
 
 // How many rows the words hold.
 pub fn count(rows: &[u64]) -> usize
-    ensures { λ r. ⌜ r ≡ length (rowsOf (now (rows .entry))) ⌝ }
+    ensures { λ r. ⌜ r ≡ length (readRows (now (rows .entry))) ⌝ }
 {
     rows.len() / ROW_WORDS
 }
@@ -51,7 +51,7 @@ pub fn empty_row() -> Row
 }
 
 pub fn read_row(rows: &[u64], i: usize) -> Row
-    requires { ⌜ i < length (rowsOf (now rows)) ⌝ }
+    requires { ⌜ i < length (readRows (now rows)) ⌝ }
     ensures { λ r. ⌜ r ≡ rowAt (now (rows .entry)) i ⌝ }
 {
     let sequence = columns::column(rows, i, SEQUENCE);
@@ -71,7 +71,7 @@ fn put_columns(rows: &mut [u64], n: usize, i: usize, sequence: u64, status: u64)
 }
 
 pub fn write_row(rows: &mut [u64], i: usize, r: Row)
-    requires { ⌜ i < length (rowsOf (now rows)) ⌝ }
+    requires { ⌜ i < length (readRows (now rows)) ⌝ }
     ensures { λ _. ⌜ storeOf (now (rows .exit)) ≡ putIn (storeOf (now (rows .entry))) i r ⌝ }
 {
     let n = rows.len() / ROW_WORDS;

@@ -15,11 +15,11 @@ use Rattle.rows.specs.Table.{isHeld, rowIn, idIn, tokenIn}
 use Rattle.rows.specs.declared.Row.{Row}
 use Rattle.scope.specs.Affected.{isAffected, comesBefore, insertRow, joined, affectedUpTo, affectedOf, tokensOf}
 use Rattle.scope.specs.Scope.{slotOf, isAmong, meant}
-use Rattle.scope.specs.Returned.{Returned, returnedAt, returnedOf}
+use Rattle.scope.specs.Returned.{Returned, returnedAt, readReturned}
 use Rattle.scope.proofs.affected.Laws.{affected-bounded}
 
-pub returned-tokens : (tokens words : List ℕ) → map (λ (e : Returned). e .token) (returnedOf tokens words) ≡ tokens
-unfolding returnedOf
+pub returned-tokens : (tokens words : List ℕ) → map (λ (e : Returned). e .token) (readReturned tokens words) ≡ tokens
+unfolding readReturned
 returned-tokens tokens words = map-tab (λ (e : Returned). e .token) (returnedAt tokens words) (length tokens) ∙ tab-list tokens 0
 
 -- ---- an affected row is held

@@ -11,7 +11,7 @@ use Rattle.chain.specs.Lists.{count, find, anyIn}
 use Rattle.chain.proofs.Chain.{caseB, both}
 use Rattle.chain.proofs.Lists.{count-pos, find-hit, find-some}
 use Rattle.models.specs.Requests.{deviceMayAccess}
-use Rattle.rows.specs.Codec.{rowOf}
+use Rattle.rows.specs.Codec.{readRow}
 use Rattle.rows.specs.Table.{emptyRow, isHeld}
 use Rattle.rows.specs.declared.Row.{Row}
 
@@ -41,7 +41,7 @@ unfolding isHeld
 free-held r e = rw e
 
 pub empty-free : emptyRow .used ≡ false
-unfolding emptyRow rowOf
+unfolding emptyRow readRow
 empty-free = refl
 
 pub held-used : (r : Row) → isHeld r ≡ true → r .used ≡ true

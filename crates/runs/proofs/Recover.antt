@@ -37,7 +37,7 @@ use Rattle.session.specs.declared.RecoveryKind.the-variants as kind
 use Rattle.session.specs.declared.Session.{Session}
 use Rattle.scope.specs.Affected.{affectedOf, tokensOf}
 use Rattle.scope.specs.Scope.{isAmong, meant, inScope}
-use Rattle.scope.specs.Returned.{Returned, returnedOf}
+use Rattle.scope.specs.Returned.{Returned, readReturned}
 use Rattle.recovery.specs.Begin.{begunAs, recoverOf}
 use Rattle.recovery.specs.Entries.{WalkTo, storedAt, rowCompletedBy, testedBy, completeOne, abortedBy, abortOne}
 use Rattle.recovery.specs.Reports.{idLists}
@@ -253,10 +253,10 @@ module _ (w : World) (k : Sound w) (tokens words aborted bytes : List ℕ) where
       let affected : List ℕ = affectedOf (x .device) (x .endpoint) (w .store .rows) in
       let mine : List ℕ = own (x .device) (x .endpoint) (w .store .rows) in
       let ts = returned-tokens tokens words in
-      let used : AllUsed (meant affected mine) (w .store .rows) (tokensIn (returnedOf tokens words) ++ aborted) =
+      let used : AllUsed (meant affected mine) (w .store .rows) (tokensIn (readReturned tokens words) ++ aborted) =
       rw ts (scope-each mine (isWhole o) (tokens ++ aborted) s (Used (meant affected mine) (w .store .rows)) (meant-used (x .device) (x .endpoint) (w .store .rows))) in
-      let a = applied-all (meant affected mine) (quiet .«row_bytes») (returnedOf tokens words) aborted bytes still (stilled .sound) refl used in
-      let o′ : WalkTo = applyAll (meant affected mine) (quiet .«row_bytes») (returnedOf tokens words) aborted bytes (w .store) (w .area) in
+      let a = applied-all (meant affected mine) (quiet .«row_bytes») (readReturned tokens words) aborted bytes still (stilled .sound) refl used in
+      let o′ : WalkTo = applyAll (meant affected mine) (quiet .«row_bytes») (readReturned tokens words) aborted bytes (w .store) (w .area) in
       let after : World = world quiet (w .bus) (o′ .store) (o′ .area) in
       leads-then w still _ stilled
       (leads-then still after _ a (concluded-after after (a .sound) refl (o′ .verdict) x o (abortReport x o (length tokens) (length aborted)) (idLists (w .store .rows) (meant affected mine) tokens aborted)))

@@ -9,7 +9,7 @@ use lib.ListN.{length}
 use Rattle.chain.proofs.Chain.{if-by, both}
 use Rattle.rows.specs.Store.{storeOf, emptied}
 use Rattle.rows.specs.Table.{rowCount}
-use Rattle.rows.proofs.Rows.{length-rowsOf}
+use Rattle.rows.proofs.Rows.{length-readRows}
 use Rattle.bus.specs.Tables.{cleared}
 use Rattle.session.specs.Lifecycle.{OpenedTo, newSession, openOf}
 use Rattle.session.specs.Sizes.{sized, rowsFit, openFits}
@@ -59,7 +59,7 @@ Whole w = length (w .store .rows) ≡ rowCount (w .store .words)
 
 pub lent-rows : (l : List ℕ) → length (storeOf l .rows) ≡ rowCount (storeOf l .words)
 unfolding storeOf
-lent-rows l = length-rowsOf l
+lent-rows l = length-readRows l
 
 -- where the opening's store is such
 pub fitted-open : (o : Opening) (w : World) → Whole w → stepOf (Open o) w .result .answer ≡ answer.Pass

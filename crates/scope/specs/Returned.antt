@@ -6,13 +6,13 @@ use lib.Dec.{eqb}
 use lib.ListN.{length, getD, replicate}
 use Rattle.chain.specs.Lists.{sumBy}
 use Rattle.words.specs.Records.{tab, part}
-use Rattle.words.specs.Words.{flagOf, optionU32Of, optionU32Word, optionI32Word, optionU64Of}
+use Rattle.words.specs.Words.{readFlag, readOptionU32, optionU32Word, optionI32Word, readOptionU64}
 use Rattle.models.specs.Codes.{categoryWord}
 use Rattle.models.specs.declared.BackendCompletion.{BackendCompletion}
 use Rattle.models.specs.declared.OperationError.{OperationError}
 use Rattle.models.specs.declared.OptionError.{OptionError}
 use Rattle.models.specs.declared.OptionError.the-variants as error
-use Rattle.rows.specs.Codec.{errorOf}
+use Rattle.rows.specs.Codec.{readErrorWords}
 use Rattle.scope.specs.declared.returned.Brought.{Brought}
 
 -- a completion's words: error (a flag, then category, message, system number, code), length (a flag and the number), code, whether it
@@ -22,7 +22,7 @@ completionWords = 11
 
 -- an error, four words from `at` on: category, message, system number, completion code
 abbrev pub readError : List ℕ → ℕ → OperationError
-readError w at = errorOf (getD w at 0) (getD w (at + 1) 0) (getD w (at + 2) 0) (getD w (at + 3) 0)
+readError w at = readErrorWords (getD w at 0) (getD w (at + 1) 0) (getD w (at + 2) 0) (getD w (at + 3) 0)
 
 abbrev pub errorWords : OperationError → List ℕ
 errorWords e = categoryWord (e .category) ∷ e .message ∷ optionI32Word (e .«os_code») ∷ optionU32Word (e .«completion_code») ∷ []
@@ -38,18 +38,18 @@ optionErrorWords (error.Some e) = 1 ∷ errorWords e
 -- what the first ten words say
 abbrev pub readCompletion : List ℕ → BackendCompletion
 readCompletion w = record {
-  «actual_length» = optionU64Of (getD w 5 0) (getD w 6 0);
-  «completion_code» = optionU32Of (getD w 7 0);
-  «has_data» = flagOf (getD w 8 0);
+  «actual_length» = readOptionU64 (getD w 5 0) (getD w 6 0);
+  «completion_code» = readOptionU32 (getD w 7 0);
+  «has_data» = readFlag (getD w 8 0);
   error = readOptionError w 0;
-  quiescent = flagOf (getD w 9 0);
+  quiescent = readFlag (getD w 9 0);
 }
 
-unfoldable pub broughtOf : List ℕ → Brought
-broughtOf w = record { completion = readCompletion w; given = getD w 10 0 }
+unfoldable pub readBrought : List ℕ → Brought
+readBrought w = record { completion = readCompletion w; given = getD w 10 0 }
 
 unfoldable pub broughtAt : List ℕ → ℕ → Brought
-broughtAt w k = broughtOf (part (k * completionWords) completionWords w)
+broughtAt w k = readBrought (part (k * completionWords) completionWords w)
 
 -- an entry: a token and what came for it
 pub record Returned : Type 0 where
@@ -59,12 +59,12 @@ pub record Returned : Type 0 where
 abbrev pub returnedAt : List ℕ → List ℕ → ℕ → Returned
 returnedAt tokens w k = record { token = getD tokens k 0; brought = broughtAt w k }
 
-unfoldable pub returnedOf : List ℕ → List ℕ → List Returned
-returnedOf tokens w = tab (returnedAt tokens w) (length tokens)
+unfoldable pub readReturned : List ℕ → List ℕ → List Returned
+readReturned tokens w = tab (returnedAt tokens w) (length tokens)
 
 abbrev pub givenOf : Returned → ℕ
 givenOf r = r .brought .given
 
 -- 49: a completion for each token, and their data lengths sum to the data area
 unfoldable pub listsAgree : List ℕ → List ℕ → ℕ → Bool
-listsAgree tokens w size = eqb (length w) (length tokens * completionWords) && eqb (sumBy givenOf (returnedOf tokens w)) size
+listsAgree tokens w size = eqb (length w) (length tokens * completionWords) && eqb (sumBy givenOf (readReturned tokens w)) size

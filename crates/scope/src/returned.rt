@@ -10,7 +10,7 @@ ghost use lib.ListN.{length};
 ghost use lib.Dec.{eqb};
 ghost use Rattle.chain.specs.Lists.{sumBy};
 ghost use Rattle.words.specs.Records.{tab};
-ghost use Rattle.scope.specs.Returned.{completionWords, readError, readOptionError, readCompletion, broughtOf, broughtAt, listsAgree};
+ghost use Rattle.scope.specs.Returned.{completionWords, readError, readOptionError, readCompletion, readBrought, broughtAt, listsAgree};
 ghost use Rattle.scope.specs.declared.returned.Brought.{Brought};
 
 // A completion, and how many bytes of the data area are its own.
@@ -57,7 +57,7 @@ pub fn completion(w: &[u64]) -> BackendCompletion
 }
 
 fn decode(w: &[u64]) -> Brought
-    ensures { λ r. ⌜ r ≡ broughtOf (now (w .entry)) ⌝ }
+    ensures { λ r. ⌜ r ≡ readBrought (now (w .entry)) ⌝ }
 {
     Brought {
         completion: completion(w),

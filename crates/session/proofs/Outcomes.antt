@@ -1,8 +1,10 @@
 -- One law for each way out of the session's calls: its premises are the facts in hand there. Assumes nothing.
 use Prim.Native.Nat.{ℕ}
 use mathlib.Core.Bool.{Bool, true, false, not}
+use mathlib.Core.List.{List}
 use mathlib.Core.Path.{_≡_, _∙_}
 use Rattle.chain.specs.Chain.{_if_else_}
+use Rattle.chain.specs.After.{After, after}
 use Rattle.chain.proofs.Chain.{takes, passes, through, not-through}
 use Rattle.words.specs.declared.OptionU64.{OptionU64}
 use Rattle.words.specs.declared.OptionU64.the-variants as u64
@@ -16,29 +18,30 @@ use Rattle.models.specs.declared.Verdict.{Verdict}
 use Rattle.models.specs.declared.Verdict.the-variants as verdict
 use Rattle.rows.specs.Store.{Store, emptied}
 use Rattle.bus.specs.Tables.{Bus, cleared}
-use Rattle.bus.specs.Ports.{VerdictTo, verdictTo}
 use Rattle.session.specs.Session.{isClosed, raised, withController, marked}
-use Rattle.session.specs.Lifecycle.{callRefused, passed, newSession, openedTo, OpenedTo, openOf, acquiredBy, initializedBy, closedSession, calledTo, CalledTo, closedBy, freshBy, closeOf}
+use Rattle.session.specs.Lifecycle.{callRefused, passed, newSession, openOf, acquiredBy, initializedBy, closedSession, closedBy, freshBy, closeOf}
+use Rattle.session.specs.Lent.{Lent, memory, lent, storeFits, tablesFit, lentFits}
 use Rattle.session.specs.Place.{placed}
 use Rattle.session.specs.Start.{readyOf}
 use Rattle.session.specs.declared.Called.{Called}
 use Rattle.session.specs.declared.Session.{Session}
 use Rattle.session.specs.declared.lifecycle.Opening.{Opening}
+use Rattle.session.specs.declared.lifecycle.Opened.{Opened}
 use Rattle.session.specs.declared.lifecycle.Opened.the-variants as opened
 use Rattle.session.specs.declared.lifecycle.AcquireReply.{AcquireReply}
 use Rattle.session.specs.declared.lifecycle.AcquireReply.the-variants as acquire
 use Rattle.session.proofs.start.Laws.{guard-stop, guard-on}
 
 -- an opening
-module _ (f fits : Bool) (ef : f ≡ fits) (o : Opening) (s : Store) (b : Bus) where
-  pub open-unfit : (r : Refusal) → not f ≡ true → r ≡ refusalOf 3 → openedTo (opened.Refused r) s b ≡ openOf fits o s b
+module _ (o : Opening) (b : Bus) (s : Store) (area : List ℕ) (f : Bool) (ef : f ≡ lentFits (o .size) (lent b (memory s area))) where
+  pub open-unfit : (r : Refusal) → not f ≡ true → r ≡ refusalOf 3 → after (opened.Refused r) (lent b (memory s area)) ≡ openOf o (lent b (memory s area))
   unfolding openOf
-  open-unfit r n e = takes OpenedTo _ _ _ _ (not-through f fits true ef n) (rw e)
+  open-unfit r n e = takes (After Opened Lent) _ _ _ _ (not-through f _ true ef n) (rw e)
 
   pub open-new : (n : Session) (store : Store) (bus : Bus) → not f ≡ false → store ≡ emptied s → bus ≡ cleared → n ≡ newSession o
-      → openedTo (opened.Open n) store bus ≡ openOf fits o s b
+      → after (opened.Open n) (lent bus (memory store area)) ≡ openOf o (lent b (memory s area))
   unfolding openOf
-  open-new n store bus t es eb en = passes OpenedTo _ _ _ _ (not-through f fits false ef t) (rw (es, eb, en))
+  open-new n store bus t es eb en = passes (After Opened Lent) _ _ _ _ (not-through f _ false ef t) (rw (es, eb, en))
 
 -- the backend's reply to acquire, initialise and close
 module _ (s : Session) (x : Called) where
@@ -63,55 +66,55 @@ module _ (s : Session) (x : Called) where
     unfolding initializedBy
     initialized-pass next e en ex = ex ∙ rw (e, en)
 
-    pub closed-pass : (fresh : ℕ) (next : Session) (store after : Store) → reply ≡ error.None → after ≡ emptied store → next ≡ closedSession s fresh
-        → x ≡ passed next → calledTo x after ≡ closedBy reply s fresh store
+    pub closed-pass : (fresh : ℕ) (next : Session) (store left : Store) → reply ≡ error.None → left ≡ emptied store → next ≡ closedSession s fresh
+        → x ≡ passed next → after x left ≡ closedBy reply fresh s store
     unfolding closedBy
-    closed-pass fresh next store after e ea en ex = rw (ex, e, en, ea)
+    closed-pass fresh next store left e ea en ex = rw (ex, e, en, ea)
 
     module _ (e : OperationError) (m : Session) (r : Refusal) (er : reply ≡ error.Some e) (em : m ≡ marked s) (ee : r ≡ fromBackend 45 e) (ex : x ≡ callRefused m r) where
       pub initialized-failed : x ≡ initializedBy reply s
       unfolding initializedBy
       initialized-failed = ex ∙ rw (er, em, ee)
 
-      pub closed-failed : (fresh : ℕ) (store : Store) → calledTo x store ≡ closedBy reply s fresh store
+      pub closed-failed : (fresh : ℕ) (store : Store) → after x store ≡ closedBy reply fresh s store
       unfolding closedBy
       closed-failed fresh store = rw (ex, er, em, ee)
 
 -- a close
-module _ (s : Session) (fits : Bool) (fresh : OptionU64) (reply : OptionError) (store : Store) (x : Called) (v : Verdict) (ev : v ≡ readyOf s fits) where
-  pub close-stop : (r : Refusal) → v ≡ verdict.Refused r → x ≡ callRefused s r → calledTo x store ≡ closeOf s fits fresh reply store
+module _ (fresh : OptionU64) (reply : OptionError) (s : Session) (store : Store) (x : Called) (v : Verdict) (ev : v ≡ readyOf s (storeFits (s .size) store)) where
+  pub close-stop : (r : Refusal) → v ≡ verdict.Refused r → x ≡ callRefused s r → after x store ≡ closeOf fresh reply s store
   unfolding closeOf
-  close-stop r e ex = guard-stop CalledTo (λ r. calledTo (callRefused s r) store) _ s fits _ v ev r e (rw ex)
+  close-stop r e ex = guard-stop (After Called Store) (λ r. after (callRefused s r) store) _ s _ _ v ev r e (rw ex)
 
   module _ (np : v ≡ verdict.Pass) (k : Bool) (ek : k ≡ isClosed (s .state)) where
-    passed-start : (y : CalledTo) → y ≡ (calledTo (passed s) store if isClosed (s .state) else freshBy fresh s reply store)
-        → y ≡ closeOf s fits fresh reply store
+    passed-start : (y : After Called Store) → y ≡ (after (passed s) store if isClosed (s .state) else freshBy fresh reply s store)
+        → y ≡ closeOf fresh reply s store
     unfolding closeOf
-    passed-start y e = guard-on CalledTo _ _ s fits y v ev np e
+    passed-start y e = guard-on (After Called Store) _ _ s _ y v ev np e
 
-    pub close-closed : k ≡ true → x ≡ passed s → calledTo x store ≡ closeOf s fits fresh reply store
-    close-closed t ex = passed-start _ (takes CalledTo _ _ _ _ (through k _ true ek t) (rw ex))
+    pub close-closed : k ≡ true → x ≡ passed s → after x store ≡ closeOf fresh reply s store
+    close-closed t ex = passed-start _ (takes (After Called Store) _ _ _ _ (through k _ true ek t) (rw ex))
 
     module _ (nk : k ≡ false) where
-      pub close-none : fresh ≡ u64.None → x ≡ callRefused s (refusalOf 52) → calledTo x store ≡ closeOf s fits fresh reply store
+      pub close-none : fresh ≡ u64.None → x ≡ callRefused s (refusalOf 52) → after x store ≡ closeOf fresh reply s store
       unfolding freshBy
-      close-none e ex = passed-start _ (passes CalledTo _ _ _ _ (through k _ false ek nk) (rw (e, ex)))
+      close-none e ex = passed-start _ (passes (After Called Store) _ _ _ _ (through k _ false ek nk) (rw (e, ex)))
 
-      pub close-on : (n : ℕ) (after : Store) → fresh ≡ u64.Some n → calledTo x after ≡ closedBy reply s n store
-          → calledTo x after ≡ closeOf s fits fresh reply store
+      pub close-on : (n : ℕ) (left : Store) → fresh ≡ u64.Some n → after x left ≡ closedBy reply n s store
+          → after x left ≡ closeOf fresh reply s store
       unfolding freshBy
-      close-on n after e h = passed-start _ (passes CalledTo _ _ _ _ (through k _ false ek nk) (h ∙ rw e))
+      close-on n left e h = passed-start _ (passes (After Called Store) _ _ _ _ (through k _ false ek nk) (h ∙ rw e))
 
 -- a placing call
-module _ (s : Session) (fits : Bool) (b : Bus) (done : VerdictTo) (v : Verdict) (ev : v ≡ readyOf s fits) where
-  pub place-stop : (r : Refusal) → v ≡ verdict.Refused r → verdictTo v b ≡ placed s fits b done
+module _ (done : After Verdict Bus) (s : Session) (b : Bus) (v : Verdict) (ev : v ≡ readyOf s (tablesFit b)) where
+  pub place-stop : (r : Refusal) → v ≡ verdict.Refused r → after v b ≡ placed done s b
   unfolding placed
-  place-stop r e = guard-stop VerdictTo (λ r. verdictTo (verdict.Refused r) b) done s fits _ v ev r e (rw e)
+  place-stop r e = guard-stop (After Verdict Bus) (λ r. after (verdict.Refused r) b) done s _ _ v ev r e (rw e)
 
-  pub place-on : (y : VerdictTo) → v ≡ verdict.Pass → y ≡ done → y ≡ placed s fits b done
+  pub place-on : (y : After Verdict Bus) → v ≡ verdict.Pass → y ≡ done → y ≡ placed done s b
   unfolding placed
-  place-on y e ey = guard-on VerdictTo _ done s fits y v ev e ey
+  place-on y e ey = guard-on (After Verdict Bus) _ done s _ y v ev e ey
 
 -- what passes is the bus after it
-pub pass-to : (after next : Bus) → after ≡ next → verdictTo verdict.Pass after ≡ verdictTo verdict.Pass next
-pass-to after next e = rw e
+pub pass-to : (left next : Bus) → left ≡ next → after verdict.Pass left ≡ after verdict.Pass next
+pass-to left next e = rw e

@@ -1,7 +1,8 @@
 -- Opening, acquire, initialise and close (document 01, "Session"). Assumes nothing.
 use Prim.Native.Nat.{ℕ}
-use mathlib.Core.Bool.{Bool, not, cond}
+use mathlib.Core.Bool.{not, cond}
 use Rattle.chain.specs.Chain.{_if_else_}
+use Rattle.chain.specs.After.{After, after}
 use Rattle.words.specs.declared.OptionU64.{OptionU64}
 use Rattle.words.specs.declared.OptionU64.the-variants as u64
 use Rattle.models.specs.Refusals.{refusalOf, fromBackend}
@@ -14,8 +15,9 @@ use Rattle.models.specs.declared.OptionPorts.the-variants as ports
 use Rattle.models.specs.declared.Refusal.{Refusal}
 use Rattle.models.specs.declared.Verdict.the-variants as verdict
 use Rattle.rows.specs.Store.{Store, emptied}
-use Rattle.bus.specs.Tables.{Bus, cleared}
+use Rattle.bus.specs.Tables.{cleared}
 use Rattle.session.specs.Session.{isClosed, isAcquired, isBusy, raised, withController, marked}
+use Rattle.session.specs.Lent.{Lent, memory, lent, storeFits, lentFits}
 use Rattle.session.specs.Start.{guarded}
 use Rattle.session.specs.declared.Called.{Called}
 use Rattle.session.specs.declared.Session.{Session}
@@ -47,22 +49,14 @@ newSession o = record {
   «recovery_revision» = o .«recovery_revision»;
   «recoverable_stall» = stall.None;
   «in_flight» = flight.Nothing;
-  «row_count» = o .«row_count»;
-  «row_bytes» = o .«row_bytes»;
+  size = o .size;
 }
 
--- an opening's answer, and the store and the bus after it
-pub record OpenedTo : Type 0 where
-  pub answer : Opened
-  pub store : Store
-  pub bus : Bus
-
-abbrev pub openedTo : Opened → Store → Bus → OpenedTo
-openedTo a s b = record { answer = a; store = s; bus = b }
-
 -- 3: a size is wrong; else every row free and the bus as at opening, whatever they held
-unfoldable pub openOf : Bool → Opening → Store → Bus → OpenedTo
-openOf fits o s b = openedTo (opened.Refused (refusalOf 3)) s b if not fits else openedTo (opened.Open (newSession o)) (emptied s) cleared
+unfoldable pub openOf : Opening → Lent → After Opened Lent
+openOf o l =
+    after (opened.Refused (refusalOf 3)) l if not (lentFits (o .size) l) else
+    after (opened.Open (newSession o)) (lent cleared (memory (emptied (l .memory .store)) (l .memory .area)))
 
 -- a failed acquire stays Closed unless the reply says retained: then RecoveryRequired, revision raised
 unfoldable pub acquiredBy : AcquireReply → Session → Called
@@ -71,8 +65,8 @@ acquiredBy (acquire.Failed e retained) s =
     callRefused (withController s RecoveryRequired (raised (s .«recovery_revision»))) (fromBackend 45 e) if retained else
     callRefused s (fromBackend 45 e)
 
-unfoldable pub acquireOf : Session → AcquireReply → Called
-acquireOf s reply =
+unfoldable pub acquireOf : AcquireReply → Session → Called
+acquireOf reply s =
     callRefused s (refusalOf 1) if isBusy (s .«in_flight») else
     callRefused s (refusalOf 50) if not (isClosed (s .state)) else
     acquiredBy reply s
@@ -82,8 +76,8 @@ unfoldable pub initializedBy : OptionError → Session → Called
 initializedBy error.None s = passed (withController s Initialized (s .«recovery_revision»))
 initializedBy (error.Some e) s = callRefused (marked s) (fromBackend 45 e)
 
-unfoldable pub initializeOf : Session → OptionError → Called
-initializeOf s reply =
+unfoldable pub initializeOf : OptionError → Session → Called
+initializeOf reply s =
     callRefused s (refusalOf 1) if isBusy (s .«in_flight») else
     callRefused s (refusalOf 51) if not (isAcquired (s .state)) else
     initializedBy reply s
@@ -99,30 +93,21 @@ closedSession s fresh = record {
   «recovery_revision» = s .«recovery_revision»;
   «recoverable_stall» = s .«recoverable_stall»;
   «in_flight» = flight.Nothing;
-  «row_count» = s .«row_count»;
-  «row_bytes» = s .«row_bytes»;
+  size = s .size;
 }
 
--- a call's answer with its session, and the store after it
-pub record CalledTo : Type 0 where
-  pub result : Called
-  pub store : Store
-
-abbrev pub calledTo : Called → Store → CalledTo
-calledTo c s = record { result = c; store = s }
-
 -- a backend error leaves a recovery mark
-unfoldable pub closedBy : OptionError → Session → ℕ → Store → CalledTo
-closedBy (error.Some e) s fresh store = calledTo (callRefused (marked s) (fromBackend 45 e)) store
-closedBy error.None s fresh store = calledTo (passed (closedSession s fresh)) (emptied store)
+unfoldable pub closedBy : OptionError → ℕ → Session → Store → After Called Store
+closedBy (error.Some e) fresh s store = after (callRefused (marked s) (fromBackend 45 e)) store
+closedBy error.None fresh s store = after (passed (closedSession s fresh)) (emptied store)
 
 -- no fresh number is 52
-unfoldable pub freshBy : OptionU64 → Session → OptionError → Store → CalledTo
-freshBy u64.None s reply store = calledTo (callRefused s (refusalOf 52)) store
-freshBy (u64.Some fresh) s reply store = closedBy reply s fresh store
+unfoldable pub freshBy : OptionU64 → OptionError → Session → Store → After Called Store
+freshBy u64.None reply s store = after (callRefused s (refusalOf 52)) store
+freshBy (u64.Some fresh) reply s store = closedBy reply fresh s store
 
 -- 1, 3; Closed succeeds unchanged
-unfoldable pub closeOf : Session → Bool → OptionU64 → OptionError → Store → CalledTo
-closeOf s fits fresh reply store =
-    guarded s fits (λ r. calledTo (callRefused s r) store)
-    (calledTo (passed s) store if isClosed (s .state) else freshBy fresh s reply store)
+unfoldable pub closeOf : OptionU64 → OptionError → Session → Store → After Called Store
+closeOf fresh reply s store =
+    guarded s (storeFits (s .size) store) (λ r. after (callRefused s r) store)
+    (after (passed s) store if isClosed (s .state) else freshBy fresh reply s store)

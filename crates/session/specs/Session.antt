@@ -46,7 +46,7 @@ abbrev pub isBusy : InFlight → Bool
 isBusy flight.Nothing = false
 isBusy (flight.Submission id) = true
 isBusy (flight.Poll id) = true
-isBusy (flight.Recovery target device endpoint kind) = true
+isBusy (flight.Recovery x) = true
 
 -- past the 64-bit maximum the revision is none for ever
 unfoldable pub raised : OptionU64 → OptionU64
@@ -63,8 +63,7 @@ withController s state revision = record {
   «recovery_revision» = revision;
   «recoverable_stall» = s .«recoverable_stall»;
   «in_flight» = s .«in_flight»;
-  «row_count» = s .«row_count»;
-  «row_bytes» = s .«row_bytes»;
+  size = s .size;
 }
 
 abbrev pub withFlight : Session → InFlight → Session
@@ -77,8 +76,7 @@ withFlight s f = record {
   «recovery_revision» = s .«recovery_revision»;
   «recoverable_stall» = s .«recoverable_stall»;
   «in_flight» = f;
-  «row_count» = s .«row_count»;
-  «row_bytes» = s .«row_bytes»;
+  size = s .size;
 }
 
 abbrev pub withStall : Session → OptionStall → Session
@@ -91,8 +89,7 @@ withStall s stall = record {
   «recovery_revision» = s .«recovery_revision»;
   «recoverable_stall» = stall;
   «in_flight» = s .«in_flight»;
-  «row_count» = s .«row_count»;
-  «row_bytes» = s .«row_bytes»;
+  size = s .size;
 }
 
 -- a submission spends its sequence number when its errand opens
@@ -106,8 +103,7 @@ spent s next id = record {
   «recovery_revision» = s .«recovery_revision»;
   «recoverable_stall» = s .«recoverable_stall»;
   «in_flight» = flight.Submission id;
-  «row_count» = s .«row_count»;
-  «row_bytes» = s .«row_bytes»;
+  size = s .size;
 }
 
 -- a recovery mark, unless Closed, sets RecoveryRequired and raises the revision

@@ -34,12 +34,26 @@ pub enum RecoveryKind {
     Reset(bool),
 }
 
+// A recovery: the request that it is for, the device and the endpoint that it affects, and what the backend is to do.
+pub struct Recovery {
+    pub target: RequestId,
+    pub device: DeviceId,
+    pub endpoint: u8,
+    pub kind: RecoveryKind,
+}
+
 // The operation that waits for the backend's reply: document 01's errand.
 pub enum InFlight {
     Nothing,
     Submission(RequestId),
     Poll(RequestId),
-    Recovery(RequestId, DeviceId, u8, RecoveryKind),
+    Recovery(Recovery),
+}
+
+// How many rows the store has, and how many bytes each.
+pub struct Size {
+    pub row_count: u64,
+    pub row_bytes: u64,
 }
 
 pub struct Session {
@@ -51,8 +65,7 @@ pub struct Session {
     pub recovery_revision: OptionU64,
     pub recoverable_stall: OptionStall,
     pub in_flight: InFlight,
-    pub row_count: u64,
-    pub row_bytes: u64,
+    pub size: Size,
 }
 
 // A verdict with the session after it.
@@ -117,7 +130,7 @@ pub fn is_busy(f: InFlight) -> bool
         InFlight::Nothing => false,
         InFlight::Submission(_) => true,
         InFlight::Poll(_) => true,
-        InFlight::Recovery(_, _, _, _) => true,
+        InFlight::Recovery(_) => true,
     }
 }
 

@@ -3,6 +3,7 @@ use crate::Called;
 use crate::InFlight;
 use crate::OptionStall;
 use crate::Session;
+use crate::Size;
 use crate::is_acquired;
 use crate::is_busy;
 use crate::is_closed;
@@ -20,11 +21,10 @@ use models::Refusal;
 use models::Verdict;
 use words::OptionU64;
 ghost use mathlib.Core.Path.{_≡_};
-ghost use lib.ListN.{length};
+ghost use Rattle.chain.specs.After.{after};
 ghost use Rattle.models.specs.Refusals.{refusalOf};
-ghost use Rattle.session.specs.Lent.{storeIn, storeOut, busIn, busOut, rowsFitIn};
-ghost use Rattle.session.specs.Sizes.{openFits};
-ghost use Rattle.session.specs.Lifecycle.{callRefused, passed, portsOf, newSession, openedTo, openOf, acquiredBy, acquireOf, initializedBy, initializeOf, closedSession, calledTo, closedBy, closeOf};
+ghost use Rattle.session.specs.Lent.{memory, lent, storeIn, storeOut, busOut, lentIn};
+ghost use Rattle.session.specs.Lifecycle.{callRefused, passed, portsOf, newSession, openOf, acquiredBy, acquireOf, initializedBy, initializeOf, closedSession, closedBy, closeOf};
 
 // What an opening sets.
 pub struct Opening {
@@ -33,8 +33,7 @@ pub struct Opening {
     pub recovery_revision: OptionU64,
     pub has_ports: bool,
     pub port_count: u8,
-    pub row_count: u64,
-    pub row_bytes: u64,
+    pub size: Size,
 }
 
 pub enum Opened {
@@ -88,6 +87,7 @@ fn new_session(o: Opening) -> Session
     ensures { λ r. ⌜ r ≡ newSession o ⌝ }
 {
     let recovery_revision = o.recovery_revision;
+    let size = o.size;
     Session {
         number: o.session,
         generation: 0,
@@ -97,27 +97,16 @@ fn new_session(o: Opening) -> Session
         recovery_revision,
         recoverable_stall: OptionStall::None,
         in_flight: InFlight::Nothing,
-        row_count: o.row_count,
-        row_bytes: o.row_bytes,
+        size,
     }
-}
-
-// The rows, the area and the bus have the sizes that the opening sets.
-fn open_fits(o: Opening, words: usize, bytes: usize, bus_words: usize) -> bool
-    ensures { λ r. ⌜ r ≡ openFits o words bytes «bus_words» ⌝ }
-{
-    let rows_fit = sizes::rows_fit(o.row_count, o.row_bytes, words);
-    let area_fits = sizes::area_fits(o.row_count, o.row_bytes, bytes);
-    let bus_fits = sizes::bus_fits(bus_words);
-    rows_fit & area_fits & bus_fits
 }
 
 // Opens a session on a store and a bus, whatever they held. 3: a size is wrong.
 pub fn open(o: Opening, rows: &mut [u64], area: &[u8], bus: &mut [u64]) -> Opened
-    ensures { λ r. ⌜ openedTo r (storeOut rows) (busOut bus)
-        ≡ openOf (openFits o (length (now (rows .entry))) (length (now (area .entry))) (length (now (bus .entry)))) o (storeIn rows) (busIn bus) ⌝ }
+    ensures { λ r. ⌜ after r (lent (busOut bus) (memory (storeOut rows) (now (area .entry)))) ≡ openOf o (lentIn bus rows area) ⌝ }
 {
-    if !open_fits(o, rows.len(), area.len(), bus.len()) {
+    let size = o.size;
+    if !sizes::lent_fits(size, rows.len(), area.len(), bus.len()) {
         return Opened::Refused(models::refuse(3));
     }
     rows::clear_rows(rows);
@@ -149,7 +138,7 @@ fn acquired(session: Session, reply: AcquireReply) -> Called
 
 // 1; 50 not Closed; 45: a failed acquire stays Closed unless resources are retained.
 pub fn acquire(session: Session, reply: AcquireReply) -> Called
-    ensures { λ r. ⌜ r ≡ acquireOf session reply ⌝ }
+    ensures { λ r. ⌜ r ≡ acquireOf reply session ⌝ }
 {
     let flight = session.in_flight;
     let state = session.state;
@@ -175,7 +164,7 @@ fn initialized(session: Session, reply: OptionError) -> Called
 
 // 1; 51 not AcquiredUnknown; 45: a failed initialise marks.
 pub fn initialize(session: Session, reply: OptionError) -> Called
-    ensures { λ r. ⌜ r ≡ initializeOf session reply ⌝ }
+    ensures { λ r. ⌜ r ≡ initializeOf reply session ⌝ }
 {
     let flight = session.in_flight;
     let state = session.state;
@@ -203,7 +192,7 @@ fn closed_session(session: Session, fresh: u64) -> Session
 
 // What the backend's reply to close leaves: 45 with a mark, or a new ledger and every row free.
 fn closed(session: Session, rows: &mut [u64], fresh: u64, reply: OptionError) -> Called
-    ensures { λ r. ⌜ calledTo r (storeOut rows) ≡ closedBy reply session fresh (storeIn rows) ⌝ }
+    ensures { λ r. ⌜ after r (storeOut rows) ≡ closedBy reply fresh session (storeIn rows) ⌝ }
 {
     match reply {
         OptionError::Some(error) => refused(mark(session), models::refuse_backend(45, error)),
@@ -216,8 +205,7 @@ fn closed(session: Session, rows: &mut [u64], fresh: u64, reply: OptionError) ->
 
 // 1; 3; Closed succeeds unchanged; 52 no fresh number; then by the reply.
 pub fn close(session: Session, rows: &mut [u64], fresh: OptionU64, reply: OptionError) -> Called
-    ensures { λ r. ⌜ calledTo r (storeOut rows)
-        ≡ closeOf session (rowsFitIn session rows) fresh reply (storeIn rows) ⌝ }
+    ensures { λ r. ⌜ after r (storeOut rows) ≡ closeOf fresh reply session (storeIn rows) ⌝ }
 {
     let state = session.state;
     let verdict = start::rows_ready(session, rows.len());

@@ -5,10 +5,10 @@ use crate::is_busy;
 use crate::sizes;
 use models::Verdict;
 ghost use mathlib.Core.Path.{_≡_};
-ghost use Rattle.session.specs.Sizes.{rowsFit, busFits};
+ghost use Rattle.session.specs.Sizes.{rowsFit, busFits, lentSizes};
 ghost use Rattle.session.specs.Start.{readyOf};
 
-pub fn ready(session: Session, fits: bool) -> Verdict
+fn ready(session: Session, fits: bool) -> Verdict
     ensures { λ r. ⌜ r ≡ readyOf session fits ⌝ }
 {
     let flight = session.in_flight;
@@ -23,9 +23,10 @@ pub fn ready(session: Session, fits: bool) -> Verdict
 }
 
 pub fn rows_ready(session: Session, words: usize) -> Verdict
-    ensures { λ r. ⌜ r ≡ readyOf session (rowsFit (session .«row_count») (session .«row_bytes») words) ⌝ }
+    ensures { λ r. ⌜ r ≡ readyOf session (rowsFit (session .size) words) ⌝ }
 {
-    let fits = sizes::rows_fit(session.row_count, session.row_bytes, words);
+    let size = session.size;
+    let fits = sizes::rows_fit(size, words);
     ready(session, fits)
 }
 
@@ -33,5 +34,13 @@ pub(crate) fn bus_ready(session: Session, words: usize) -> Verdict
     ensures { λ r. ⌜ r ≡ readyOf session (busFits words) ⌝ }
 {
     let fits = sizes::bus_fits(words);
+    ready(session, fits)
+}
+
+pub fn lent_ready(session: Session, words: usize, bytes: usize, bus_words: usize) -> Verdict
+    ensures { λ r. ⌜ r ≡ readyOf session (lentSizes (session .size) words bytes «bus_words») ⌝ }
+{
+    let size = session.size;
+    let fits = sizes::lent_fits(size, words, bytes, bus_words);
     ready(session, fits)
 }

@@ -12,8 +12,8 @@ use borrow.Author.Tests.{eq-eqb, ne-eqb, eqb-true, eqb-false, le-ltb, ltb-true, 
 use Rattle.chain.proofs.Chain.{caseB, both, if-all}
 use Rattle.words.specs.Words.{optionU64Words}
 use Rattle.words.proofs.Options.{low}
-use Rattle.models.specs.Codes.{controllerOf, controllerWord}
-use Rattle.session_words.specs.State.{sessionSize, portsWords, portsIn, revisionIn, stallWords, stallIn, readKind, recoveryWord, flightWords, flightIn, portsTail, revisionTail, stallTail, flightTail, sessionOf, sessionWords, standsAt, portsStand, revisionStands, stallStands, flightStands, isSession, Kept, keptOf, keptAs}
+use Rattle.models.specs.Codes.{readController, controllerWord}
+use Rattle.session_words.specs.State.{sessionSize, portsWords, portsIn, revisionIn, stallWords, stallIn, readKind, recoveryWord, flightWords, flightIn, portsTail, revisionTail, stallTail, flightTail, readSession, sessionWords, standsAt, portsStand, revisionStands, stallStands, flightStands, isSession, Kept, keptOf, keptAs}
 
 -- ---- words in a list
 and-true : (a : Bool) → (a && true) ≡ a
@@ -64,7 +64,7 @@ kind-same (suc (suc (suc n))) =
     let k = suc (suc (suc n)) in
     rw (ne-eqb k 0 (λ q. omega arith), ne-eqb (k - 1) 0 (λ q. omega arith)) (ne-eqb k 2 (λ q. omega arith) ∙ sym (le-ltb k 3 (omega arith)))
 
-controller-same : (c : ℕ) → eqb c (controllerWord (controllerOf c)) ≡ ltb c 5
+controller-same : (c : ℕ) → eqb c (controllerWord (readController c)) ≡ ltb c 5
 controller-same zero = refl
 controller-same (suc zero) = refl
 controller-same (suc (suc zero)) = refl
@@ -161,7 +161,7 @@ module _ (w : List ℕ) where
     from7 = revisionTail (optionU64Words (revisionIn w)) [] ++ from9
 
     abbrev from3 : List ℕ
-    from3 = portsTail (portsWords (portsIn w)) [] ++ (controllerWord (controllerOf (getD w 6 0)) ∷ from7)
+    from3 = portsTail (portsWords (portsIn w)) [] ++ (controllerWord (readController (getD w 6 0)) ∷ from7)
 
     own15 : standsAt w 15 from15 ≡ f
     own15 =
@@ -176,43 +176,43 @@ module _ (w : List ℕ) where
 
     own3 : standsAt w 3 from3 ≡ (b && (ltb c 5 && (r && (s && f))))
     own3 =
-        stands-append w 3 (portsTail (portsWords (portsIn w)) []) (controllerWord (controllerOf (getD w 6 0)) ∷ from7)
+        stands-append w 3 (portsTail (portsWords (portsIn w)) []) (controllerWord (readController (getD w 6 0)) ∷ from7)
         ∙ rw (← eb, controller-same (getD w 6 0), ← ec, own7)
 
     pub session-own : (eqb (length w) 26 && b && ltb c 5 && r && s && f) ≡ isSession w
-    unfolding isSession sessionWords sessionOf
+    unfolding isSession sessionWords readSession
     session-own =
-        let z : standsAt w 0 (sessionWords (sessionOf w)) ≡ standsAt w 3 from3 = rw (same (getD w 0 0), same (getD w 1 0), same (getD w 2 0)) in
+        let z : standsAt w 0 (sessionWords (readSession w)) ≡ standsAt w 3 from3 = rw (same (getD w 0 0), same (getD w 1 0), same (getD w 2 0)) in
         simp and-assoc (ap (λ (x : Bool). eqb (length w) 26 && x) (sym (z ∙ own3)))
 
 -- ---- the words that pass the test
-words-many : (w : List ℕ) → length (sessionWords (sessionOf w)) ≡ sessionSize
+words-many : (w : List ℕ) → length (sessionWords (readSession w)) ≡ sessionSize
 unfolding sessionWords
 words-many w = refl
 
 module _ (w : List ℕ) where
-  pub own-words : isSession w ≡ true → sessionWords (sessionOf w) ≡ w
+  pub own-words : isSession w ≡ true → sessionWords (readSession w) ≡ w
   unfolding isSession
   own-words h =
-      let p = both (eqb (length w) sessionSize) (standsAt w 0 (sessionWords (sessionOf w))) h in
+      let p = both (eqb (length w) sessionSize) (standsAt w 0 (sessionWords (readSession w))) h in
       let n : length w ≡ 26 = eqb-true (length w) 26 (p .0) in
-      ext-getD 0 (sessionWords (sessionOf w)) w (words-many w ∙ sym n)
-      (λ i k. let z : 0 + i ≡ i = omega arith in rw z at (stands-told w 0 (sessionWords (sessionOf w)) i (p .1) k))
+      ext-getD 0 (sessionWords (readSession w)) w (words-many w ∙ sym n)
+      (λ i k. let z : 0 + i ≡ i = omega arith in rw z at (stands-told w 0 (sessionWords (readSession w)) i (p .1) k))
 
-  pub words-own : sessionWords (sessionOf w) ≡ w → isSession w ≡ true
+  pub words-own : sessionWords (readSession w) ≡ w → isSession w ≡ true
   unfolding isSession
   words-own e =
       let n : length w ≡ 26 = sym (ap length e) ∙ words-many w in
-      let s : standsAt w 0 (sessionWords (sessionOf w)) ≡ true =
-      stands-all w 0 (sessionWords (sessionOf w)) (λ i k. let z : 0 + i ≡ i = omega arith in rw z (ap (λ (l : List ℕ). getD l i 0) (sym e))) in
+      let s : standsAt w 0 (sessionWords (readSession w)) ≡ true =
+      stands-all w 0 (sessionWords (readSession w)) (λ i k. let z : 0 + i ≡ i = omega arith in rw z (ap (λ (l : List ℕ). getD l i 0) (sym e))) in
       rw (eq-eqb (length w) 26 n, s)
 
   -- a session that is written to the words that said it changes none of them
-  pub written-same : isSession w ≡ true → keptAs w (sessionOf w) ≡ keptOf w
+  pub written-same : isSession w ≡ true → keptAs w (readSession w) ≡ keptOf w
   unfolding keptAs keptOf
   written-same h = if-all (λ (k : Kept). k ≡ keptOf w) _ _ _ refl (rw (own-words h))
 
 -- zeros are a session's own words
 pub zeros-own : isSession (replicate sessionSize 0) ≡ true
-unfolding isSession sessionWords sessionOf
+unfolding isSession sessionWords readSession
 zeros-own = refl

@@ -5,10 +5,10 @@ use mathlib.Core.List.{List, [], _∷_}
 use lib.ListN.{getD, length}
 use lib.Dec.{eqb}
 use Rattle.chain.specs.Chain.{_if_else_}
-use Rattle.words.specs.Words.{flagWord, flagOf, optionU64Of, optionU64Words}
+use Rattle.words.specs.Words.{flagWord, readFlag, readOptionU64, optionU64Words}
 use Rattle.words.specs.declared.OptionU64.{OptionU64}
 use Rattle.words.specs.declared.OptionWords.{OptionWords}
-use Rattle.models.specs.Codes.{controllerOf, controllerWord}
+use Rattle.models.specs.Codes.{readController, controllerWord}
 use Rattle.models.specs.declared.DeviceId.{DeviceId}
 use Rattle.models.specs.declared.OptionPorts.{OptionPorts}
 use Rattle.models.specs.declared.OptionPorts.the-variants as ports
@@ -35,18 +35,18 @@ abbrev pub portsWords : OptionPorts → PortsWords
 portsWords ports.None = record { present = 0; session = 0; count = 0 }
 portsWords (ports.Some p) = record { present = 1; session = p .session; count = p .count }
 
-abbrev pub deviceOf : ℕ → ℕ → ℕ → DeviceId
-deviceOf session generation slot = record { session = session; generation = generation; slot = slot % 2 ^ 8 }
+abbrev pub readDeviceWords : ℕ → ℕ → ℕ → DeviceId
+readDeviceWords session generation slot = record { session = session; generation = generation; slot = slot % 2 ^ 8 }
 
-abbrev pub requestOf : ℕ → ℕ → ℕ → RequestId
-requestOf session generation sequence = record { session = session; generation = generation; sequence = sequence }
+abbrev pub readRequestWords : ℕ → ℕ → ℕ → RequestId
+readRequestWords session generation sequence = record { session = session; generation = generation; sequence = sequence }
 
 -- the device and the request from word `at` on
 abbrev pub readDeviceId : List ℕ → ℕ → DeviceId
-readDeviceId w at = deviceOf (getD w at 0) (getD w (at + 1) 0) (getD w (at + 2) 0)
+readDeviceId w at = readDeviceWords (getD w at 0) (getD w (at + 1) 0) (getD w (at + 2) 0)
 
 abbrev pub readRequestId : List ℕ → ℕ → RequestId
-readRequestId w at = requestOf (getD w at 0) (getD w (at + 1) 0) (getD w (at + 2) 0)
+readRequestId w at = readRequestWords (getD w at 0) (getD w (at + 1) 0) (getD w (at + 2) 0)
 
 abbrev pub readStall : ℕ → ℕ → DeviceId → ℕ → OptionStall
 readStall present revision device endpoint =
@@ -65,7 +65,7 @@ stallWords (stall.Some x) = record {
 
 -- 0 abort, 1 reset, any other a reset that preserves the data toggle
 abbrev pub readKind : ℕ → RecoveryKind
-readKind w = cond (eqb w 0) kind.Abort (kind.Reset (flagOf (w - 1)))
+readKind w = cond (eqb w 0) kind.Abort (kind.Reset (readFlag (w - 1)))
 
 abbrev pub recoveryWord : RecoveryKind → ℕ
 recoveryWord kind.Abort = 0
@@ -106,7 +106,7 @@ recoveryFlight id device endpoint k = record {
 }
 
 abbrev pub flightWords : InFlight → FlightWords
-flightWords flight.Nothing = idFlight 0 (requestOf 0 0 0)
+flightWords flight.Nothing = idFlight 0 (readRequestWords 0 0 0)
 flightWords (flight.Submission id) = idFlight 1 id
 flightWords (flight.Poll id) = idFlight 2 id
 flightWords (flight.Recovery id device endpoint k) = recoveryFlight id device endpoint k
@@ -116,7 +116,7 @@ abbrev pub portsIn : List ℕ → OptionPorts
 portsIn w = readPorts (getD w 3 0) (getD w 4 0) (getD w 5 0)
 
 abbrev pub revisionIn : List ℕ → OptionU64
-revisionIn w = optionU64Of (getD w 7 0) (getD w 8 0)
+revisionIn w = readOptionU64 (getD w 7 0) (getD w 8 0)
 
 abbrev pub stallIn : List ℕ → OptionStall
 stallIn w = readStall (getD w 9 0) (getD w 10 0) (readDeviceId w 11) (getD w 14 0)
@@ -124,13 +124,13 @@ stallIn w = readStall (getD w 9 0) (getD w 10 0) (readDeviceId w 11) (getD w 14 
 abbrev pub flightIn : List ℕ → InFlight
 flightIn w = readFlight (getD w 15 0) (readRequestId w 16) (readDeviceId w 19) (getD w 22 0) (getD w 23 0)
 
-unfoldable pub sessionOf : List ℕ → Session
-sessionOf w = record {
+unfoldable pub readSession : List ℕ → Session
+readSession w = record {
   number = getD w 0 0;
   generation = getD w 1 0;
   «next_sequence» = getD w 2 0;
   ports = portsIn w;
-  state = controllerOf (getD w 6 0);
+  state = readController (getD w 6 0);
   «recovery_revision» = revisionIn w;
   «recoverable_stall» = stallIn w;
   «in_flight» = flightIn w;
@@ -181,7 +181,7 @@ flightStands w = standsAt w 15 (flightTail (flightWords (flightIn w)) [])
 
 -- a session's own words: they are those of the session that they say
 unfoldable pub isSession : List ℕ → Bool
-isSession w = eqb (length w) sessionSize && standsAt w 0 (sessionWords (sessionOf w))
+isSession w = eqb (length w) sessionSize && standsAt w 0 (sessionWords (readSession w))
 
 -- a session kept in words, as a store is
 pub record Kept : Type 0 where
@@ -189,7 +189,7 @@ pub record Kept : Type 0 where
   pub session : Session
 
 unfoldable pub keptOf : List ℕ → Kept
-keptOf w = record { words = w; session = sessionOf w }
+keptOf w = record { words = w; session = readSession w }
 
 -- the session written to the words l, which stay where they are not as many as a session has
 unfoldable pub keptAs : List ℕ → Session → Kept

@@ -13,7 +13,7 @@ use words::slices;
 use words::slices::word_at;
 ghost use mathlib.Core.Path.{_≡_};
 ghost use mathlib.Core.List.{[], _∷_};
-ghost use Rattle.session_words.specs.State.{readDeviceId, readRequestId, readPorts, portsIn, portsWords, deviceOf, requestOf, readStall, stallIn, stallWords, readKind, recoveryWord, readFlight, flightIn, idFlight, recoveryFlight, flightWords, sessionOf, sessionWords, standsAt, portsStand, revisionStands, stallStands, flightStands, isSession, keptOf, keptAs};
+ghost use Rattle.session_words.specs.State.{readDeviceId, readRequestId, readPorts, portsIn, portsWords, readDeviceWords, readRequestWords, readStall, stallIn, stallWords, readKind, recoveryWord, readFlight, flightIn, idFlight, recoveryFlight, flightWords, readSession, sessionWords, standsAt, portsStand, revisionStands, stallStands, flightStands, isSession, keptOf, keptAs};
 
 // How many words a session has.
 pub const WORDS: usize = 26;
@@ -113,7 +113,7 @@ fn to_stall(w: &[u64]) -> OptionStall
 }
 
 fn stall_words(stall: OptionStall) -> StallWords
-    ensures { λ r. ⌜ (readStall (r .present) (r .revision) (deviceOf (r .session) (r .generation) (r .slot)) (r .endpoint) ≡ stall) × (r ≡ stallWords stall) ⌝ }
+    ensures { λ r. ⌜ (readStall (r .present) (r .revision) (readDeviceWords (r .session) (r .generation) (r .slot)) (r .endpoint) ≡ stall) × (r ≡ stallWords stall) ⌝ }
 {
     match stall {
         OptionStall::None => StallWords {
@@ -210,7 +210,7 @@ fn recovery_flight(id: RequestId, device: DeviceId, endpoint: u8, kind: Recovery
 }
 
 fn flight_words(flight: InFlight) -> FlightWords
-    ensures { λ r. ⌜ (readFlight (r .tag) (requestOf (r .session) (r .generation) (r .sequence)) (deviceOf (r .«device_session») (r .«device_generation») (r .slot)) (r .endpoint) (r .kind) ≡ flight) × (r ≡ flightWords flight) ⌝ }
+    ensures { λ r. ⌜ (readFlight (r .tag) (readRequestWords (r .session) (r .generation) (r .sequence)) (readDeviceWords (r .«device_session») (r .«device_generation») (r .slot)) (r .endpoint) (r .kind) ≡ flight) × (r ≡ flightWords flight) ⌝ }
 {
     match flight {
         InFlight::Nothing => id_flight(
@@ -234,7 +234,7 @@ fn flight_words(flight: InFlight) -> FlightWords
 
 // The session that the words say; a word that is missing says 0.
 pub fn to_session(w: &[u64]) -> Session
-    ensures { λ r. ⌜ r ≡ sessionOf (now (w .entry)) ⌝ }
+    ensures { λ r. ⌜ r ≡ readSession (now (w .entry)) ⌝ }
 {
     Session {
         number: word_at(w, 0),
@@ -252,7 +252,7 @@ pub fn to_session(w: &[u64]) -> Session
 
 // The words of a session, and the session that they say.
 pub fn session_words(session: Session) -> [u64; 26]
-    ensures { λ w. ⌜ (sessionOf w ≡ session) × (w ≡ sessionWords session) ⌝ }
+    ensures { λ w. ⌜ (readSession w ≡ session) × (w ≡ sessionWords session) ⌝ }
 {
     let ports = session.ports;
     let state = session.state;

@@ -14,7 +14,7 @@ use Rattle.chain.proofs.Chain.{both}
 use Rattle.models.specs.declared.ControlPlan.{ControlPlan}
 use Rattle.models.specs.declared.RequestMetadata.{RequestMetadata}
 use Rattle.models.specs.declared.RequestSpec.{RequestSpec}
-use Rattle.rows.specs.Table.{rowsOf}
+use Rattle.rows.specs.Table.{readRows}
 use Rattle.ledger.specs.Search.{isFree}
 use Rattle.ledger.proofs.Found.{found-in}
 use Rattle.bus.specs.Layout.{busWords}
@@ -57,9 +57,9 @@ module _ (s : Session) (l area bus : List ℕ) (e : storeFits s (length l) (leng
   pub bus-fits : length bus ≡ busWords
   bus-fits = eqb-true _ _ (told .1)
 
-  module _ (f : Found) (i : ℕ) (ef : f ≡ roomIn (rowsOf l)) (fi : f ≡ found.At i) where
-    below : i < length (rowsOf l)
-    below = found-in isFree (rowsOf l) _ i refl (found-free (rowsOf l) i (sym ef ∙ fi))
+  module _ (f : Found) (i : ℕ) (ef : f ≡ roomIn (readRows l)) (fi : f ≡ found.At i) where
+    below : i < length (readRows l)
+    below = found-in isFree (readRows l) _ i refl (found-free (readRows l) i (sym ef ∙ fi))
 
     pub room-fits : Fits w64 (i * s .«row_bytes»)
     room-fits = place-fits _ _ l (length area) _ _ refl refl (ap not (told .0)) i below

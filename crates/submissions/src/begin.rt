@@ -18,7 +18,7 @@ use words::slices;
 ghost use mathlib.Core.Path.{_≡_};
 ghost use Prim.Native.Nat.{_+_, _<_, _≤_};
 ghost use lib.ListN.{length};
-ghost use Rattle.rows.specs.Table.{rowsOf};
+ghost use Rattle.rows.specs.Table.{readRows};
 ghost use Rattle.bus.specs.Layout.{busWords};
 ghost use Rattle.session.specs.Start.{readyOf};
 ghost use Rattle.session.specs.Lent.{rowsIn, storeIn, storeOut, busIn, busOut};
@@ -99,7 +99,7 @@ fn begin(
     metadata: RequestMetadata,
     bytes: &[u8],
 ) -> Started
-    requires { ⌜ (i < length (rowsOf (now rows))) × (at + metadata .«requested_length» ≤ length (now area)) × (at + length (now bytes) ≤ length (now area)) ⌝ }
+    requires { ⌜ (i < length (readRows (now rows))) × (at + metadata .«requested_length» ≤ length (now area)) × (at + length (now bytes) ≤ length (now area)) ⌝ }
     ensures { λ r. ⌜ startTo r (storeOut rows) (now (area .exit))
         ≡ beginOf session i at metadata (now (bytes .entry)) (storeIn rows) (now (area .entry)) ⌝ }
 {
@@ -132,7 +132,7 @@ pub(crate) fn begin_target(
     first: PortReading,
     second: PortReading,
 ) -> Started
-    requires { ⌜ (length (now bus) ≡ busWords) × (i < length (rowsOf (now rows))) × (at + metadata .«requested_length» ≤ length (now area)) × (at + length (now bytes) ≤ length (now area)) ⌝ }
+    requires { ⌜ (length (now bus) ≡ busWords) × (i < length (readRows (now rows))) × (at + metadata .«requested_length» ≤ length (now area)) × (at + length (now bytes) ≤ length (now area)) ⌝ }
     ensures { λ r. ⌜ targetTo r (busOut bus) (storeOut rows) (now (area .exit))
         ≡ targetOf session i at metadata (now (bytes .entry)) first second (busIn bus) (storeIn rows) (now (area .entry)) ⌝ }
 {

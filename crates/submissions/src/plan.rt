@@ -18,7 +18,7 @@ ghost use mathlib.Core.Path.{_≡_};
 ghost use mathlib.Core.Bool.{true};
 ghost use Prim.Native.Nat.{_*_, _+_, _<_, _≤_};
 ghost use lib.ListN.{length};
-ghost use Rattle.rows.specs.Table.{rowsOf};
+ghost use Rattle.rows.specs.Table.{readRows};
 ghost use Rattle.bus.specs.Layout.{busWords};
 ghost use Rattle.checks.specs.Plan.{planned};
 ghost use Rattle.session.specs.Lent.{rowsIn, storeIn, storeOut, busIn, busOut};
@@ -60,7 +60,7 @@ fn plan_prepared(
     bytes: &[u8],
     first: PortReading,
 ) -> PlanSubmitted
-    requires { ⌜ (length (now bus) ≡ busWords) × (i < length (rowsOf (now rows))) × (at ≡ i * session .«row_bytes») × (at + session .«row_bytes» ≤ length (now area)) ⌝ }
+    requires { ⌜ (length (now bus) ≡ busWords) × (i < length (readRows (now rows))) × (at ≡ i * session .«row_bytes») × (at + session .«row_bytes» ≤ length (now area)) ⌝ }
     ensures { λ r. ⌜ planTo r (busOut bus) (storeOut rows) (now (area .exit))
         ≡ plannedBy (planned q (length (now (bytes .entry))) (session .«row_bytes»)) session i (now (bytes .entry)) first (busIn bus) (storeIn rows) (now (area .entry)) ⌝ }
 {

@@ -19,7 +19,7 @@ ghost use mathlib.Core.Path.{_≡_};
 ghost use mathlib.Core.Bool.{true};
 ghost use Prim.Native.Nat.{_*_, _+_, _<_, _≤_};
 ghost use lib.ListN.{length};
-ghost use Rattle.rows.specs.Table.{rowsOf};
+ghost use Rattle.rows.specs.Table.{readRows};
 ghost use Rattle.bus.specs.Layout.{busWords};
 ghost use Rattle.checks.specs.Packets.{packetsChecked};
 ghost use Rattle.checks.specs.Prepare.{prepared};
@@ -69,7 +69,7 @@ fn submit_prepared(
     first: PortReading,
     second: PortReading,
 ) -> Submitted
-    requires { ⌜ (length (now bus) ≡ busWords) × (i < length (rowsOf (now rows))) × (at ≡ i * session .«row_bytes») × (at + session .«row_bytes» ≤ length (now area)) ⌝ }
+    requires { ⌜ (length (now bus) ≡ busWords) × (i < length (readRows (now rows))) × (at ≡ i * session .«row_bytes») × (at + session .«row_bytes» ≤ length (now area)) ⌝ }
     ensures { λ r. ⌜ submitTo r (busOut bus) (storeOut rows) (now (area .exit))
         ≡ preparedBy (prepared q (length (now (bytes .entry))) (session .«row_bytes»)) session i (now (bytes .entry)) given first second (busIn bus) (storeIn rows) (now (area .entry)) ⌝ }
 {

@@ -3,6 +3,7 @@ use Prim.Native.Nat.{ℕ}
 use mathlib.Core.Bool.{Bool, not, _&&_}
 use lib.Dec.{eqb}
 use Rattle.chain.specs.Chain.{_if_else_}
+use Rattle.chain.specs.After.{After, after}
 use Rattle.models.specs.Kinds.{isControl, isBulk, isPrepared, isConfigured}
 use Rattle.models.specs.Refusals.{refusalOf, rejected}
 use Rattle.models.specs.Requests.{sameDevice}
@@ -18,10 +19,11 @@ use Rattle.models.specs.declared.Verdict.{Verdict}
 use Rattle.models.specs.declared.Verdict.the-variants as verdict
 use Rattle.standards.specs.Ports.{portSpeed}
 use Rattle.bus.specs.Tables.{Bus, deviceAt, markAt}
-use Rattle.bus.specs.Ports.{VerdictTo, verdictTo, freshPort}
+use Rattle.bus.specs.Ports.{freshPort}
 use Rattle.bus.specs.Endpoints.{hasEndpoint}
 use Rattle.bus.specs.declared.ports.PortChecked.{PortChecked}
 use Rattle.bus.specs.declared.ports.PortChecked.the-variants as checked
+use Rattle.targets.specs.declared.Readings.{Readings}
 use Rattle.targets.specs.declared.target.DeviceChecked.{DeviceChecked}
 use Rattle.targets.specs.declared.target.DeviceChecked.the-variants as answer
 
@@ -45,24 +47,16 @@ unfoldable pub preparedDevice : PortChecked → DeviceSnapshot → DeviceChecked
 preparedDevice (checked.Refused r) d = answer.Refused r
 preparedDevice (checked.Read raw) d = refusedDevice 35 if not (isPrepared (d .state)) else answer.Ready d
 
--- a device's check and the bus after it
-pub record DeviceTo : Type 0 where
-  pub answer : DeviceChecked
-  pub bus : Bus
-
-abbrev pub deviceTo : DeviceChecked → Bus → DeviceTo
-deviceTo c b = record { answer = c; bus = b }
-
 -- 29 to 34 and 31 again are the port's; whatever was read stays written
-unfoldable pub freshDevice : OptionPorts → DeviceSnapshot → PortReading → Bus → DeviceTo
+unfoldable pub freshDevice : OptionPorts → DeviceSnapshot → PortReading → Bus → After DeviceChecked Bus
 freshDevice ports d reading b =
-    deviceTo (preparedDevice (freshPort ports (d .port) reading b .answer) d) (freshPort ports (d .port) reading b .bus)
+    after (preparedDevice (freshPort ports (d .port) reading b .result) d) (freshPort ports (d .port) reading b .lent)
 
-unfoldable pub checkDeviceBy : DeviceChecked → OptionPorts → PortReading → Bus → DeviceTo
-checkDeviceBy (answer.Refused r) ports reading b = deviceTo (answer.Refused r) b
+unfoldable pub checkDeviceBy : DeviceChecked → OptionPorts → PortReading → Bus → After DeviceChecked Bus
+checkDeviceBy (answer.Refused r) ports reading b = after (answer.Refused r) b
 checkDeviceBy (answer.Ready d) ports reading b = freshDevice ports d reading b
 
-unfoldable pub checkDevice : Bool → OptionPorts → DeviceId → PortReading → Bus → DeviceTo
+unfoldable pub checkDevice : Bool → OptionPorts → DeviceId → PortReading → Bus → After DeviceChecked Bus
 checkDevice initialized ports id reading b = checkDeviceBy (knownDevice initialized id b) ports reading b
 
 -- 37U speed 2 and bulk; 38 endpoint and type not placed
@@ -77,16 +71,17 @@ endpointBy (checked.Refused r) m b = verdict.Refused r
 endpointBy (checked.Read raw) m b = speedChecked raw (m .device .slot) (m .endpoint) (m .«transfer_type») b
 
 -- 36 not Configured; the second reading: 33, 34, 31
-unfoldable pub checkEndpoint : OptionPorts → DeviceSnapshot → RequestMetadata → PortReading → Bus → VerdictTo
+unfoldable pub checkEndpoint : OptionPorts → DeviceSnapshot → RequestMetadata → PortReading → Bus → After Verdict Bus
 checkEndpoint ports d m reading b =
-    verdictTo (rejected 36) b if not (isConfigured (d .state)) else
-    verdictTo (endpointBy (freshPort ports (d .port) reading b .answer) m (freshPort ports (d .port) reading b .bus)) (freshPort ports (d .port) reading b .bus)
+    after (rejected 36) b if not (isConfigured (d .state)) else
+    after (endpointBy (freshPort ports (d .port) reading b .result) m (freshPort ports (d .port) reading b .lent)) (freshPort ports (d .port) reading b .lent)
 
-unfoldable pub checkTargetBy : DeviceChecked → OptionPorts → RequestMetadata → PortReading → Bus → VerdictTo
-checkTargetBy (answer.Refused r) ports m second b = verdictTo (verdict.Refused r) b
-checkTargetBy (answer.Ready d) ports m second b = verdictTo verdict.Pass b if isControl (m .«transfer_type») else checkEndpoint ports d m second b
+unfoldable pub checkTargetBy : DeviceChecked → OptionPorts → RequestMetadata → PortReading → Bus → After Verdict Bus
+checkTargetBy (answer.Refused r) ports m second b = after (verdict.Refused r) b
+checkTargetBy (answer.Ready d) ports m second b = after verdict.Pass b if isControl (m .«transfer_type») else checkEndpoint ports d m second b
 
 -- one reading for control, two otherwise
-unfoldable pub checkTarget : Bool → OptionPorts → RequestMetadata → PortReading → PortReading → Bus → VerdictTo
-checkTarget initialized ports m first second b =
-    checkTargetBy (checkDevice initialized ports (m .device) first b .answer) ports m second (checkDevice initialized ports (m .device) first b .bus)
+unfoldable pub checkTarget : Bool → OptionPorts → RequestMetadata → Readings → Bus → After Verdict Bus
+checkTarget initialized ports m x b =
+    let device = checkDevice initialized ports (m .device) (x .first) b in
+    checkTargetBy (device .result) ports m (x .second) (device .lent)

@@ -1,4 +1,5 @@
 // The places device and not control of the table: the Rust's `prepared_device`, and what follows it for an endpoint other than 0.
+use crate::Readings;
 use bus::devices;
 use bus::endpoints;
 use bus::ports::PortChecked;
@@ -17,10 +18,10 @@ use models::reject;
 use standards::ports::port_speed;
 ghost use mathlib.Core.Path.{_≡_};
 ghost use lib.ListN.{length};
+ghost use Rattle.chain.specs.After.{after};
 ghost use Rattle.bus.specs.Layout.{busWords};
 ghost use Rattle.bus.specs.Tables.{busOf};
-ghost use Rattle.bus.specs.Ports.{verdictTo};
-ghost use Rattle.targets.specs.Target.{refusedDevice, knownDevice, preparedDevice, deviceTo, freshDevice, checkDevice, speedChecked, endpointBy, checkEndpoint, checkTargetBy, checkTarget};
+ghost use Rattle.targets.specs.Target.{refusedDevice, knownDevice, preparedDevice, freshDevice, checkDevice, speedChecked, endpointBy, checkEndpoint, checkTargetBy, checkTarget};
 
 // A device that may take a request, or the refusal.
 pub enum DeviceChecked {
@@ -83,7 +84,7 @@ fn fresh_device(
     reading: PortReading,
 ) -> DeviceChecked
     requires { ⌜ length (now bus) ≡ busWords ⌝ }
-    ensures { λ r. ⌜ deviceTo r (busOf (now (bus .exit))) ≡ freshDevice ports device reading (busOf (now (bus .entry))) ⌝ }
+    ensures { λ r. ⌜ after r (busOf (now (bus .exit))) ≡ freshDevice ports device reading (busOf (now (bus .entry))) ⌝ }
 {
     let id = device.port;
     let port = fresh_port(bus, ports, id, reading);
@@ -99,7 +100,7 @@ fn check_device(
     reading: PortReading,
 ) -> DeviceChecked
     requires { ⌜ length (now bus) ≡ busWords ⌝ }
-    ensures { λ r. ⌜ deviceTo r (busOf (now (bus .exit))) ≡ checkDevice initialized ports id reading (busOf (now (bus .entry))) ⌝ }
+    ensures { λ r. ⌜ after r (busOf (now (bus .exit))) ≡ checkDevice initialized ports id reading (busOf (now (bus .entry))) ⌝ }
 {
     let known = known_device(bus, initialized, id);
     match known {
@@ -155,7 +156,7 @@ fn check_endpoint(
     reading: PortReading,
 ) -> Verdict
     requires { ⌜ length (now bus) ≡ busWords ⌝ }
-    ensures { λ r. ⌜ verdictTo r (busOf (now (bus .exit))) ≡ checkEndpoint ports device metadata reading (busOf (now (bus .entry))) ⌝ }
+    ensures { λ r. ⌜ after r (busOf (now (bus .exit))) ≡ checkEndpoint ports device metadata reading (busOf (now (bus .entry))) ⌝ }
 {
     let state = device.state;
     let configured = kinds::is_configured(state);
@@ -176,7 +177,7 @@ fn check_after(
     second: PortReading,
 ) -> Verdict
     requires { ⌜ length (now bus) ≡ busWords ⌝ }
-    ensures { λ r. ⌜ verdictTo r (busOf (now (bus .exit))) ≡ checkTargetBy checked ports metadata second (busOf (now (bus .entry))) ⌝ }
+    ensures { λ r. ⌜ after r (busOf (now (bus .exit))) ≡ checkTargetBy checked ports metadata second (busOf (now (bus .entry))) ⌝ }
 {
     match checked {
         DeviceChecked::Refused(refusal) => Verdict::Refused(refusal),
@@ -197,13 +198,14 @@ pub fn check_target(
     initialized: bool,
     ports: OptionPorts,
     metadata: RequestMetadata,
-    first: PortReading,
-    second: PortReading,
+    readings: Readings,
 ) -> Verdict
     requires { ⌜ length (now bus) ≡ busWords ⌝ }
-    ensures { λ r. ⌜ verdictTo r (busOf (now (bus .exit))) ≡ checkTarget initialized ports metadata first second (busOf (now (bus .entry))) ⌝ }
+    ensures { λ r. ⌜ after r (busOf (now (bus .exit))) ≡ checkTarget initialized ports metadata readings (busOf (now (bus .entry))) ⌝ }
 {
     let id = metadata.device;
+    let first = readings.first;
+    let second = readings.second;
     let checked = check_device(bus, initialized, ports, id, first);
     check_after(bus, checked, ports, metadata, second)
 }

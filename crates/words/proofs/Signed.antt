@@ -13,7 +13,7 @@ use mir.Val.{SFits, toZ, ofZ}
 use mir.ValLaws.{toZ-ofZ, toZ-pos}
 use Rattle.chain.proofs.Chain.{caseB}
 use Rattle.words.specs.declared.OptionI32.the-variants.{None, Some}
-use Rattle.words.specs.Words.{lowSigned, signedOf, optionI32Of, signedWord, optionI32Word, isSigned}
+use Rattle.words.specs.Words.{lowSigned, readSigned, readOptionI32, signedWord, optionI32Word, isSigned}
 use Rattle.words.specs.declared.OptionI32.{OptionI32}
 use Rattle.words.proofs.Options as options
 
@@ -63,24 +63,24 @@ negative v f t = neg-of v f (rw (toZ-ofZ w32 v f) at t)
 pub positive : (v : ℤ) → SFits w32 v → ltZ (toZ w32 (ofZ w32 v)) (pos 0) ≡ false → Pos v
 positive v f t = pos-of v f (rw (toZ-ofZ w32 v f) at t)
 
-pub high : (n : ℕ) → n < 2147483648 → signedOf (4294967295 - n) ≡ negsuc n
-unfolding signedOf
+pub high : (n : ℕ) → n < 2147483648 → readSigned (4294967295 - n) ≡ negsuc n
+unfolding readSigned
 high n h =
     let m : (4294967295 - n) % 4294967296 ≡ 4294967295 - n = omega arith in
     let e : 4294967295 - (4294967295 - n) ≡ n = omega arith in
     simp (m, le-ltb (4294967295 - n) 2147483648 (omega arith), e)
 
-pub low : (n : ℕ) → n < 2147483648 → signedOf n ≡ pos n
-unfolding signedOf
+pub low : (n : ℕ) → n < 2147483648 → readSigned n ≡ pos n
+unfolding readSigned
 low n h = let m : n % 4294967296 ≡ n = omega arith in simp (m, lt-ltb n 2147483648 h)
 
 -- the word of a signed number, both ways
 abbrev pub Says : ℕ → ℤ → Type 0
-Says w v = (signedOf w ≡ v) × (signedWord v ≡ w)
+Says w v = (readSigned w ≡ v) × (signedWord v ≡ w)
 
 -- FFFFFFFFh is -1, FFFFFFFBh -5, and 80000000h the least number
 pub twos-complement : Says 4294967295 (negsuc 0) × Says 4294967291 (negsuc 4) × Says 2147483648 (negsuc 2147483647)
-unfolding signedOf signedWord
+unfolding readSigned signedWord
 twos-complement = ((refl, refl), (refl, refl), (refl, refl))
 
 minus-pos : (m : ℕ) → negsuc 0 -ℤ pos m ≡ negsuc m
@@ -101,38 +101,38 @@ high-word y g h =
 pub low-word : (y : ℕ) → y < 2147483648 → toZ w32 y ≡ lowSigned y
 low-word y h = toZ-pos w32 y h ∙ sym (simp (lt-ltb y 2147483648 h))
 
-pub option-back : (y : ℕ) (v : ℤ) → y < 4294967296 → signedOf y ≡ v → optionI32Of (y + 1) ≡ Some v
-unfolding optionI32Of
+pub option-back : (y : ℕ) (v : ℤ) → y < 4294967296 → readSigned y ≡ v → readOptionI32 (y + 1) ≡ Some v
+unfolding readOptionI32
 option-back y v h e = let b : y + 1 - 1 ≡ y = omega arith in simp (ne-eqb (y + 1) 0 (omega arith), b, e)
 
-pub option-some : (w : ℕ) (v : ℤ) → (w ≡ 0 → ⊥) → v ≡ signedOf (w - 1) → Some v ≡ optionI32Of w
-unfolding optionI32Of
+pub option-some : (w : ℕ) (v : ℤ) → (w ≡ 0 → ⊥) → v ≡ readSigned (w - 1) → Some v ≡ readOptionI32 w
+unfolding readOptionI32
 option-some w v h e = simp (ne-eqb w 0 h, e)
 
-pub option-none : (w : ℕ) → w ≡ 0 → None ≡ optionI32Of w
-unfolding optionI32Of
+pub option-none : (w : ℕ) → w ≡ 0 → None ≡ readOptionI32 w
+unfolding readOptionI32
 option-none w e = simp (eq-eqb w 0 e)
 
 pub option-exact : (y : ℕ) (v u : ℤ) (o : OptionI32) → y ≡ signedWord v → v ≡ u → o ≡ Some u → y + 1 ≡ optionI32Word o
 option-exact y v u o e f g = ap (λ (k : ℕ). k + 1) (e ∙ ap signedWord f) ∙ ap optionI32Word (sym g)
 
 -- a number of 32 bits is what its word says
-signed-says : (v : ℤ) → isSigned (Some v) ≡ true → (signedOf (signedWord v) ≡ v) × (signedWord v < 2 ^ 32)
+signed-says : (v : ℤ) → isSigned (Some v) ≡ true → (readSigned (signedWord v) ≡ v) × (signedWord v < 2 ^ 32)
 unfolding signedWord
 signed-says (pos n) t = let h = ltb-true n (2 ^ 31) t in (low n h, omega arith)
 signed-says (negsuc n) t = let h = ltb-true n (2 ^ 31) t in (high n h, omega arith)
 
-pub option-i32-says : (o : OptionI32) → isSigned o ≡ true → optionI32Of (optionI32Word o) ≡ o
+pub option-i32-says : (o : OptionI32) → isSigned o ≡ true → readOptionI32 (optionI32Word o) ≡ o
 option-i32-says None t = sym (option-none 0 refl)
 option-i32-says (Some v) t = let b = signed-says v t in option-back (signedWord v) v (b .1) (b .0)
 
 -- and a word of 32 bits is that of what it says
-signed-word : (y : ℕ) → y < 2 ^ 32 → signedWord (signedOf y) ≡ y
-unfolding signedOf signedWord
+signed-word : (y : ℕ) → y < 2 ^ 32 → signedWord (readSigned y) ≡ y
+unfolding readSigned signedWord
 signed-word y h = rw (options.low 32 h) (caseB (ltb y (2 ^ 31)) (λ e. rw e) (λ e. let g = ltb-false y (2 ^ 31) e in rw e (omega arith)))
 
-pub option-i32-word : (x : ℕ) → leb x (2 ^ 32) ≡ true → optionI32Word (optionI32Of x) ≡ x
-unfolding optionI32Of
+pub option-i32-word : (x : ℕ) → leb x (2 ^ 32) ≡ true → optionI32Word (readOptionI32 x) ≡ x
+unfolding readOptionI32
 option-i32-word x t =
     let l = leb-true x (2 ^ 32) t in
     caseB (eqb x 0) (λ e. rw e (sym (eqb-true x 0 e)))

@@ -12,23 +12,23 @@ use Rattle.words.specs.declared.OptionI32.the-variants as i32
 use Rattle.words.specs.declared.OptionWords.{OptionWords}
 
 -- a flag: 0 is false
-abbrev pub flagOf : ℕ → Bool
-flagOf w = not (eqb w 0)
+abbrev pub readFlag : ℕ → Bool
+readFlag w = not (eqb w 0)
 
 abbrev pub flagWord : Bool → ℕ
 flagWord b = cond b 1 0
 
 -- what may be missing: 0, or one more than the value
-abbrev pub optionU32Of : ℕ → OptionU32
-optionU32Of w = cond (eqb w 0) u32.None (u32.Some ((w - 1) % 2 ^ 32))
+abbrev pub readOptionU32 : ℕ → OptionU32
+readOptionU32 w = cond (eqb w 0) u32.None (u32.Some ((w - 1) % 2 ^ 32))
 
 abbrev pub optionU32Word : OptionU32 → ℕ
 optionU32Word u32.None = 0
 optionU32Word (u32.Some v) = v + 1
 
 -- a `u64` that may be missing: a flag and the value
-abbrev pub optionU64Of : ℕ → ℕ → OptionU64
-optionU64Of p v = cond (eqb p 0) u64.None (u64.Some v)
+abbrev pub readOptionU64 : ℕ → ℕ → OptionU64
+readOptionU64 p v = cond (eqb p 0) u64.None (u64.Some v)
 
 abbrev pub optionU64Words : OptionU64 → OptionWords
 optionU64Words u64.None = record { present = 0; value = 0 }
@@ -38,15 +38,15 @@ optionU64Words (u64.Some v) = record { present = 1; value = v }
 abbrev pub lowSigned : ℕ → ℤ
 lowSigned y = cond (ltb y (2 ^ 31)) (pos y) (negsuc (2 ^ 32 - 1 - y))
 
-unfoldable pub signedOf : ℕ → ℤ
-signedOf w = lowSigned (w % 2 ^ 32)
+unfoldable pub readSigned : ℕ → ℤ
+readSigned w = lowSigned (w % 2 ^ 32)
 
 unfoldable pub signedWord : ℤ → ℕ
 signedWord (pos n) = n
 signedWord (negsuc n) = 2 ^ 32 - 1 - n
 
-unfoldable pub optionI32Of : ℕ → OptionI32
-optionI32Of w = cond (eqb w 0) i32.None (i32.Some (signedOf (w - 1)))
+unfoldable pub readOptionI32 : ℕ → OptionI32
+readOptionI32 w = cond (eqb w 0) i32.None (i32.Some (readSigned (w - 1)))
 
 abbrev pub optionI32Word : OptionI32 → ℕ
 optionI32Word i32.None = 0

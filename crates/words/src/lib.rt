@@ -1,7 +1,7 @@
 // Small values as words of a lent `&[u64]`, and the words and bytes of a lent slice. One word a field; every word decodes to something.
 ghost use mathlib.Core.Path.{_≡_};
 ghost use Prim.Native.Nat.{_<_};
-ghost use Rattle.words.specs.Words.{flagOf, flagWord, optionU32Of, optionU32Word, optionU64Of, optionU64Words, signedOf, signedWord, optionI32Of, optionI32Word};
+ghost use Rattle.words.specs.Words.{readFlag, flagWord, readOptionU32, optionU32Word, readOptionU64, optionU64Words, readSigned, signedWord, readOptionI32, optionI32Word};
 
 pub mod slices;
 
@@ -37,19 +37,19 @@ pub struct OptionWords {
 }
 
 pub fn flag_word(b: bool) -> u64
-    ensures { λ r. ⌜ (flagOf r ≡ b) × (r ≡ flagWord b) ⌝ }
+    ensures { λ r. ⌜ (readFlag r ≡ b) × (r ≡ flagWord b) ⌝ }
 {
     if b { 1 } else { 0 }
 }
 
 pub fn to_flag(w: u64) -> bool
-    ensures { λ r. ⌜ r ≡ flagOf w ⌝ }
+    ensures { λ r. ⌜ r ≡ readFlag w ⌝ }
 {
     w != 0
 }
 
 pub fn option_u32_word(o: OptionU32) -> u64
-    ensures { λ r. ⌜ (optionU32Of r ≡ o) × (r ≡ optionU32Word o) ⌝ }
+    ensures { λ r. ⌜ (readOptionU32 r ≡ o) × (r ≡ optionU32Word o) ⌝ }
 {
     match o {
         OptionU32::None => 0,
@@ -58,7 +58,7 @@ pub fn option_u32_word(o: OptionU32) -> u64
 }
 
 pub fn to_option_u32(w: u64) -> OptionU32
-    ensures { λ r. ⌜ r ≡ optionU32Of w ⌝ }
+    ensures { λ r. ⌜ r ≡ readOptionU32 w ⌝ }
 {
     if w == 0 {
         return OptionU32::None;
@@ -67,7 +67,7 @@ pub fn to_option_u32(w: u64) -> OptionU32
 }
 
 pub fn option_u64_words(o: OptionU64) -> OptionWords
-    ensures { λ r. ⌜ (optionU64Of (r .present) (r .value) ≡ o) × (r ≡ optionU64Words o) ⌝ }
+    ensures { λ r. ⌜ (readOptionU64 (r .present) (r .value) ≡ o) × (r ≡ optionU64Words o) ⌝ }
 {
     match o {
         OptionU64::None => OptionWords {
@@ -82,7 +82,7 @@ pub fn option_u64_words(o: OptionU64) -> OptionWords
 }
 
 pub fn to_option_u64(present: u64, value: u64) -> OptionU64
-    ensures { λ r. ⌜ r ≡ optionU64Of present value ⌝ }
+    ensures { λ r. ⌜ r ≡ readOptionU64 present value ⌝ }
 {
     if present == 0 {
         return OptionU64::None;
@@ -91,7 +91,7 @@ pub fn to_option_u64(present: u64, value: u64) -> OptionU64
 }
 
 pub fn signed_word(v: i32) -> u64
-    ensures { λ r. ⌜ (signedOf r ≡ v) × (r < 4294967296) × (r ≡ signedWord v) ⌝ }
+    ensures { λ r. ⌜ (readSigned r ≡ v) × (r < 4294967296) × (r ≡ signedWord v) ⌝ }
 {
     if v < 0 {
         let n = -1 - v;
@@ -102,7 +102,7 @@ pub fn signed_word(v: i32) -> u64
 }
 
 pub fn to_signed(w: u64) -> i32
-    ensures { λ r. ⌜ r ≡ signedOf w ⌝ }
+    ensures { λ r. ⌜ r ≡ readSigned w ⌝ }
 {
     let y = w % VALUES;
     if y < SIGN {
@@ -114,7 +114,7 @@ pub fn to_signed(w: u64) -> i32
 }
 
 pub fn option_i32_word(o: OptionI32) -> u64
-    ensures { λ r. ⌜ (optionI32Of r ≡ o) × (r ≡ optionI32Word o) ⌝ }
+    ensures { λ r. ⌜ (readOptionI32 r ≡ o) × (r ≡ optionI32Word o) ⌝ }
 {
     match o {
         OptionI32::None => 0,
@@ -123,7 +123,7 @@ pub fn option_i32_word(o: OptionI32) -> u64
 }
 
 pub fn to_option_i32(w: u64) -> OptionI32
-    ensures { λ r. ⌜ r ≡ optionI32Of w ⌝ }
+    ensures { λ r. ⌜ r ≡ readOptionI32 w ⌝ }
 {
     if w == 0 {
         return OptionI32::None;

@@ -8,6 +8,7 @@ use lib.ListN.{length, getD, set, take, drop, length-take, length-drop}
 use lib.Seq.{getD-take, getD-drop}
 use lib.Dec.{eqb}
 use borrow.Author.Tests.{lt-ltb, le-ltb, eq-eqb, ne-eqb}
+use Rattle.chain.specs.After.{After, after}
 use Rattle.chain.specs.Lists.{find}
 use Rattle.chain.proofs.Chain.{takes, passes}
 use Rattle.chain.proofs.Lists.{find-on, find-here}
@@ -19,20 +20,19 @@ use Rattle.models.specs.declared.TransferType.{TransferType}
 use Rattle.models.specs.declared.Verdict.the-variants as verdict
 use Rattle.bus.specs.Layout.{listsAt, busWords, endpointWord, readEndpoints}
 use Rattle.bus.specs.Tables.{Bus, busOf, endpointsAt}
-use Rattle.bus.specs.Ports.{VerdictTo, verdictTo}
 use Rattle.bus.specs.Endpoints.{hasEndpoint, setEndpoints}
 use Rattle.bus.proofs.Tables.{put-endpoints}
 
 pub endpoints-over : (slot : ℕ) (e : List ℕ) (b : Bus) (r : Refusal) → 30 < length e → r ≡ refusalOf 53
-    → verdictTo (verdict.Refused r) b ≡ setEndpoints slot e b
+    → after (verdict.Refused r) b ≡ setEndpoints slot e b
 unfolding setEndpoints
-endpoints-over slot e b r h f = takes VerdictTo _ _ _ _ (lt-ltb _ _ h) (rw f)
+endpoints-over slot e b r h f = takes (After Verdict Bus) _ _ _ _ (lt-ltb _ _ h) (rw f)
 
 pub endpoints-set : (slot : ℕ) (e l x : List ℕ) → length l ≡ busWords → slot < 256 → length e ≤ 30
     → x ≡ splice (listsAt + slot * 31 + 1) (take (length e) e) (set l (listsAt + slot * 31) (length e))
-    → verdictTo verdict.Pass (busOf x) ≡ setEndpoints slot e (busOf l)
+    → after verdict.Pass (busOf x) ≡ setEndpoints slot e (busOf l)
 unfolding setEndpoints
-endpoints-set slot e l x sized h few f = passes VerdictTo _ _ _ _ (le-ltb _ _ few) (rw (put-endpoints l x slot e sized h few f))
+endpoints-set slot e l x sized h few f = passes (After Verdict Bus) _ _ _ _ (le-ltb _ _ few) (rw (put-endpoints l x slot e sized h few f))
 
 -- what the words of a list say: as many as the count, 30 at the most
 listed-length : (q : List ℕ) → length q ≡ 31 → length (readEndpoints q) ≡ min (getD q 0 0) 30

@@ -4,6 +4,7 @@ use mathlib.Core.Path.{_≡_, refl, sym, ap, _∙_}
 use mathlib.Core.Bool.{Bool, true, false, not, _||_, Bool·beq}
 use lib.Dec.{eqb, ltb}
 use borrow.Author.Tests.{eq-eqb, ne-eqb}
+use Rattle.chain.specs.After.{after}
 use Rattle.chain.proofs.Chain.{takes, passes}
 use Rattle.words.specs.declared.OptionU32.{OptionU32}
 use Rattle.words.specs.declared.OptionU32.the-variants as u32
@@ -20,7 +21,7 @@ use Rattle.models.specs.declared.Verdict.{Verdict}
 use Rattle.models.specs.declared.Verdict.the-variants as verdict
 use Rattle.standards.specs.Ports.{portConnected}
 use Rattle.bus.specs.Tables.{Bus, portAt, putPort}
-use Rattle.bus.specs.Ports.{numberChecked, verdictTo, setPortBy, setPort, readingChecked, ofOpening, validatedRow, validatedBy, validated, raisedRow, observedBy, observedRow, observedTo, observePortBy, observePort, freshTo, freshObserved, freshWord, freshReading, freshPortBy, freshPort}
+use Rattle.bus.specs.Ports.{numberChecked, setPortBy, setPort, readingChecked, ofOpening, validatedRow, validatedBy, validated, raisedRow, observedBy, observedRow, observePortBy, observePort, freshObserved, freshWord, freshReading, freshPortBy, freshPort}
 use Rattle.bus.specs.declared.PortRow.{PortRow}
 use Rattle.bus.specs.declared.ports.PortChecked.{PortChecked}
 use Rattle.bus.specs.declared.ports.PortChecked.the-variants as checked
@@ -78,13 +79,13 @@ module _ (o : OptionPorts) (id : PortId) where
 
 -- a row put, whatever its old words
 module _ (o : OptionPorts) (number : ℕ) (row : PortRow) (b : Bus) (x : Verdict) (e : x ≡ numberChecked o number) where
-  pub set-out : (r : Refusal) → x ≡ verdict.Refused r → verdictTo x b ≡ setPort o number row b
+  pub set-out : (r : Refusal) → x ≡ verdict.Refused r → after x b ≡ setPort o number row b
   unfolding setPort setPortBy
   set-out r f = rw (← e, f)
 
-  pub set-in : (after : Bus) → x ≡ verdict.Pass → after ≡ putPort b number row → verdictTo verdict.Pass after ≡ setPort o number row b
+  pub set-in : (left : Bus) → x ≡ verdict.Pass → left ≡ putPort b number row → after verdict.Pass left ≡ setPort o number row b
   unfolding setPort setPortBy
-  set-in after f g = rw (← e, f, g)
+  set-in left f g = rw (← e, f, g)
 
 -- a row after a reading
 module _ (row : PortRow) (raw : ℕ) where
@@ -111,40 +112,40 @@ module _ (row : PortRow) (raw : ℕ) where
     observed-kept h = passes Observed _ _ _ _ (rw (es, et) at h) refl ∙ sym (ap (λ (o : OptionU32). observedBy o row raw) e)
 
 module _ (number raw : ℕ) (b : Bus) (row : PortRow) (v : Observed) (e : row ≡ portAt b number) (f : v ≡ observedRow row raw) where
-  pub observe-full : (r : Refusal) → v ≡ observed.Refused r → observedTo (observed.Refused r) b ≡ observePort number raw b
+  pub observe-full : (r : Refusal) → v ≡ observed.Refused r → after (observed.Refused r) b ≡ observePort number raw b
   unfolding observePort observePortBy
   observe-full r g = rw (← e, ← f, g)
 
-  pub observe-on : (w : PortRow) (after : Bus) → v ≡ observed.To w → after ≡ putPort b number w → observedTo (observed.To w) after ≡ observePort number raw b
+  pub observe-on : (w : PortRow) (left : Bus) → v ≡ observed.To w → left ≡ putPort b number w → after (observed.To w) left ≡ observePort number raw b
   unfolding observePort observePortBy
-  observe-on w after g h = rw (← e, ← f, g, h)
+  observe-on w left g h = rw (← e, ← f, g, h)
 
 -- a fresh reading
-module _ (o : OptionPorts) (id : PortId) (raw : ℕ) (b after : Bus) (v : Observed) (f : observedTo v after ≡ observePort (id .number) raw b) where
-  pub fresh-full : (r : Refusal) → v ≡ observed.Refused r → freshTo (checked.Refused r) after ≡ freshWord raw o id b
+module _ (o : OptionPorts) (id : PortId) (raw : ℕ) (b left : Bus) (v : Observed) (f : after v left ≡ observePort (id .number) raw b) where
+  pub fresh-full : (r : Refusal) → v ≡ observed.Refused r → after (checked.Refused r) left ≡ freshWord raw o id b
   unfolding freshWord freshObserved
   fresh-full r g = rw (← f, g)
 
-  pub fresh-on : (w : PortRow) (r : PortChecked) → v ≡ observed.To w → r ≡ validatedRow o id w → freshTo r after ≡ freshWord raw o id b
+  pub fresh-on : (w : PortRow) (r : PortChecked) → v ≡ observed.To w → r ≡ validatedRow o id w → after r left ≡ freshWord raw o id b
   unfolding freshWord freshObserved
   fresh-on w r g h = rw (← f, g, h)
 
 module _ (o : OptionPorts) (id : PortId) (b : Bus) (reading : PortReading) where
-  pub reading-failed : (x : OperationError) (r : Refusal) → reading ≡ Error x → r ≡ fromBackend 33 x → freshTo (checked.Refused r) b ≡ freshReading reading o id b
+  pub reading-failed : (x : OperationError) (r : Refusal) → reading ≡ Error x → r ≡ fromBackend 33 x → after (checked.Refused r) b ≡ freshReading reading o id b
   unfolding freshReading
   reading-failed x r e f = rw (e, f)
 
-  pub reading-word : (raw : ℕ) (v : PortChecked) (after : Bus) → reading ≡ Word raw → freshTo v after ≡ freshWord raw o id b
-      → freshTo v after ≡ freshReading reading o id b
+  pub reading-word : (raw : ℕ) (v : PortChecked) (left : Bus) → reading ≡ Word raw → after v left ≡ freshWord raw o id b
+      → after v left ≡ freshReading reading o id b
   unfolding freshReading
-  reading-word raw v after e f = f ∙ rw e
+  reading-word raw v left e f = f ∙ rw e
 
   module _ (v : PortChecked) (e : v ≡ validated o id b) where
-    pub fresh-out : (r : Refusal) → v ≡ checked.Refused r → freshTo v b ≡ freshPort o id reading b
+    pub fresh-out : (r : Refusal) → v ≡ checked.Refused r → after v b ≡ freshPort o id reading b
     unfolding freshPort freshPortBy
     fresh-out r f = rw (← e, f)
 
-    pub fresh-in : (raw : ℕ) (w : PortChecked) (after : Bus) → v ≡ checked.Read raw → freshTo w after ≡ freshReading reading o id b
-        → freshTo w after ≡ freshPort o id reading b
+    pub fresh-in : (raw : ℕ) (w : PortChecked) (left : Bus) → v ≡ checked.Read raw → after w left ≡ freshReading reading o id b
+        → after w left ≡ freshPort o id reading b
     unfolding freshPort freshPortBy
-    fresh-in raw w after f g = g ∙ rw (← e, f)
+    fresh-in raw w left f g = g ∙ rw (← e, f)

@@ -9,8 +9,8 @@ use native.Mathlib.Omega.{arith}
 use borrow.Author.Tests.{eq-eqb, ne-eqb, lt-ltb, le-ltb}
 use Rattle.chain.specs.Lists.{find, anyIn}
 use Rattle.chain.proofs.Lists.{find-on, find-here}
-use Rattle.words.specs.Words.{flagOf}
-use Rattle.models.specs.Codes.{transferOf, directionOf}
+use Rattle.words.specs.Words.{readFlag}
+use Rattle.models.specs.Codes.{readTransfer, readDirection}
 use Rattle.models.specs.declared.BackendCompletion.{BackendCompletion}
 use Rattle.models.specs.declared.DeviceId.{DeviceId}
 use Rattle.models.specs.declared.Direction.{Direction}
@@ -19,7 +19,7 @@ use Rattle.models.specs.declared.OptionError.{OptionError}
 use Rattle.models.specs.declared.OptionSetup.{OptionSetup}
 use Rattle.models.specs.declared.OptionStage.the-variants as stage
 use Rattle.models.specs.declared.TransferType.{TransferType}
-use Rattle.rows.specs.Codec.{setupOf}
+use Rattle.rows.specs.Codec.{readSetupWords}
 use Rattle.recovery.specs.declared.RecoveryReply.the-variants as recovery
 use Rattle.session_words.specs.State.{readDeviceId}
 use Rattle.scope.specs.Returned.{readError, readOptionError, readCompletion}
@@ -30,12 +30,12 @@ use Rattle.call_words.specs.Arguments.{readSpec, readRecoveryReply}
 pub low-read : (r v n : ℕ) → r ≡ v → r % n ≡ v % n
 low-read r v n e = rw e
 
-pub flag-read : (f : Bool) (r v : ℕ) → f ≡ flagOf r → r ≡ v → f ≡ flagOf v
+pub flag-read : (f : Bool) (r v : ℕ) → f ≡ readFlag r → r ≡ v → f ≡ readFlag v
 flag-read f r v q e = cc
 
 -- a stage from its words
-pub stage-read : (w : List ℕ) (at a l : ℕ) (d : Direction) → a ≡ getD w (at + 1) 0 → d ≡ directionOf a → l ≡ getD w (at + 2) 0
-    → stage.Some (record { direction = d; length = l }) ≡ stage.Some (record { direction = directionOf (getD w (at + 1) 0); length = getD w (at + 2) 0 })
+pub stage-read : (w : List ℕ) (at a l : ℕ) (d : Direction) → a ≡ getD w (at + 1) 0 → d ≡ readDirection a → l ≡ getD w (at + 2) 0
+    → stage.Some (record { direction = d; length = l }) ≡ stage.Some (record { direction = readDirection (getD w (at + 1) 0); length = getD w (at + 2) 0 })
 stage-read w at a l d ea ed el = cc
 
 -- a completion from a part of a reply's words
@@ -44,15 +44,15 @@ completion-read x v u e f = rw (e, f)
 
 -- a request from its device, its codes and its words
 pub spec-read : (w : List ℕ) (d : DeviceId) (e x y l a b c f g h : ℕ) (t : TransferType) (i : Direction) (s : OptionSetup)
-    → d ≡ readDeviceId w 1 → e ≡ getD w 4 0 → x ≡ getD w 5 0 → t ≡ transferOf x → y ≡ getD w 6 0 → i ≡ directionOf y → l ≡ getD w 7 0
-    → a ≡ getD w 8 0 → b ≡ getD w 9 0 → c ≡ getD w 10 0 → f ≡ getD w 11 0 → g ≡ getD w 12 0 → h ≡ getD w 13 0 → s ≡ setupOf a b c f g h
+    → d ≡ readDeviceId w 1 → e ≡ getD w 4 0 → x ≡ getD w 5 0 → t ≡ readTransfer x → y ≡ getD w 6 0 → i ≡ readDirection y → l ≡ getD w 7 0
+    → a ≡ getD w 8 0 → b ≡ getD w 9 0 → c ≡ getD w 10 0 → f ≡ getD w 11 0 → g ≡ getD w 12 0 → h ≡ getD w 13 0 → s ≡ readSetupWords a b c f g h
     → record { device = d; endpoint = e % 2 ^ 8; «transfer_type» = t; direction = i; length = l; setup = s } ≡ readSpec w
 unfolding readSpec
 spec-read w d e x y l a b c f g h t i s hd he hx ht hy hi hl ha hb hc hf hg hh hs = cc
 
 -- what a recovery's reply says
 module _ (w : List ℕ) (k : ℕ) (ek : k ≡ getD w 1 0) where
-  pub abort-done : (n : ℕ) (ready : Bool) (e : OptionError) → k ≡ 0 → n ≡ getD w 2 0 → ready ≡ flagOf n → e ≡ readOptionError w 3
+  pub abort-done : (n : ℕ) (ready : Bool) (e : OptionError) → k ≡ 0 → n ≡ getD w 2 0 → ready ≡ readFlag n → e ≡ readOptionError w 3
       → recovery.Done (record { «restart_ready» = ready; error = e }) ≡ readRecoveryReply w
   unfolding readRecoveryReply
   abort-done n ready e z en er ee = rw (eq-eqb (getD w 1 0) 0 (sym ek ∙ z), er, en, ee)

@@ -19,7 +19,7 @@ use Rattle.calls.specs.Calls.{Changing, Cancel, Timeout, Reclaim, Change}
 use Rattle.session_words.specs.State.{readRequestId}
 use Rattle.calls.specs.Step.{world, after, changeBy, stepOf}
 use Rattle.calls.specs.declared.Outcome.{Outcome}
-use Rattle.call_words.specs.Decode.{changingOf}
+use Rattle.call_words.specs.Decode.{readChanging}
 use Rattle.dispatch.proofs.Steps.{said, reported}
 
 module _ (n : ℕ) (s : Session) (l k w : List ℕ) (id : RequestId) (x : Reported) (r : Outcome) (ei : id ≡ readRequestId w 1)
@@ -28,23 +28,23 @@ module _ (n : ℕ) (s : Session) (l k w : List ℕ) (id : RequestId) (x : Report
   Changes c = reportedTo x (storeOf k) ≡ changeOf s (rowsFit (s .«row_count») (s .«row_bytes») (length l)) id c (storeOf l)
 
   abbrev Steps : Type 0
-  Steps = (b : Bus) (area : List ℕ) → after r b (storeOf k) area ≡ stepOf (changingOf n w) (world s b (storeOf l) area)
+  Steps = (b : Bus) (area : List ℕ) → after r b (storeOf k) area ≡ stepOf (readChanging n w) (world s b (storeOf l) area)
 
-  changed : (c : Changing) → Change (readRequestId w 1) c ≡ changingOf n w → Changes (changeBy c) → Steps
+  changed : (c : Changing) → Change (readRequestId w 1) c ≡ readChanging n w → Changes (changeBy c) → Steps
   unfolding stepOf storeOf
   changed c e h b area =
       let v = world s b (storeOf l) area in
-      said (Change id c) (changingOf n w) v _ (ap (λ (z : RequestId). Change z c) ei ∙ e) (reported r (storeOf k) v x _ er h)
+      said (Change id c) (readChanging n w) v _ (ap (λ (z : RequestId). Change z c) ei ∙ e) (reported r (storeOf k) v x _ er h)
 
   pub cancel-step : n ≡ 13 → Changes change.LogicalCancel → Steps
-  unfolding changingOf
+  unfolding readChanging
   cancel-step e = changed Cancel (search chain depth 20)
 
   module _ (n13 : n ≡ 13 → ⊥) where
     pub timeout-step : n ≡ 14 → Changes change.Timeout → Steps
-    unfolding changingOf
+    unfolding readChanging
     timeout-step e = changed Timeout (search chain depth 20)
 
     pub reclaim-step : (n ≡ 14 → ⊥) → Changes change.Reclaim → Steps
-    unfolding changingOf
+    unfolding readChanging
     reclaim-step n14 = changed Reclaim (search chain depth 20)

@@ -15,7 +15,7 @@ use Rattle.models.specs.declared.Refusal.{Refusal}
 use Rattle.models.specs.declared.RequestId.{RequestId}
 use Rattle.models.specs.declared.Verdict.{Verdict}
 use Rattle.models.specs.declared.Verdict.the-variants as verdict
-use Rattle.rows.specs.Table.{emptyRow, rowsOf}
+use Rattle.rows.specs.Table.{emptyRow, readRows}
 use Rattle.rows.specs.declared.Row.{Row}
 use Rattle.ledger.specs.Search.{isAt}
 use Rattle.session.specs.Session.{mayRecover, withFlight}
@@ -31,17 +31,17 @@ use Rattle.recovery.specs.declared.BeginAnswer.the-variants as begin
 use Rattle.recovery.specs.declared.Begun.{Begun}
 
 pub begun-is : (s : Session) (x : Recovery) (w list tokens : List ℕ) (count : ℕ) (next : Session)
-    → next ≡ withFlight s (flight.Recovery (x .target) (x .device) (x .endpoint) (x .kind)) → take count list ≡ affectedOf (x .device) (x .endpoint) (rowsOf w)
-    → count ≤ 128 → length list ≡ 128 → tokens ≡ listed 128 0 (tokensOf (rowsOf w) (take count list))
-    → _≡_ {A = Begun} (record { answer = begin.Recover x; session = next; tokens = tokens; count = count }) (begunAs s x (rowsOf w))
+    → next ≡ withFlight s (flight.Recovery (x .target) (x .device) (x .endpoint) (x .kind)) → take count list ≡ affectedOf (x .device) (x .endpoint) (readRows w)
+    → count ≤ 128 → length list ≡ 128 → tokens ≡ listed 128 0 (tokensOf (readRows w) (take count list))
+    → _≡_ {A = Begun} (record { answer = begin.Recover x; session = next; tokens = tokens; count = count }) (begunAs s x (readRows w))
 unfolding begunAs
 begun-is s x w list tokens count next en ea h el et =
     let len : length (take count list) ≡ count = simp length-take (omega arith) in
-    let e : count ≡ length (affectedOf (x .device) (x .endpoint) (rowsOf w)) = sym len ∙ ap length ea in
+    let e : count ≡ length (affectedOf (x .device) (x .endpoint) (readRows w)) = sym len ∙ ap length ea in
     rw (en, et, ea) (ap (λ (n : ℕ). record {
       answer = begin.Recover x;
       session = withFlight s (flight.Recovery (x .target) (x .device) (x .endpoint) (x .kind));
-      tokens = listed 128 0 (tokensOf (rowsOf w) (affectedOf (x .device) (x .endpoint) (rowsOf w)));
+      tokens = listed 128 0 (tokensOf (readRows w) (affectedOf (x .device) (x .endpoint) (readRows w)));
       count = n;
     }) e)
 

@@ -21,10 +21,10 @@ use Rattle.models.specs.declared.Refusal.{Refusal}
 use Rattle.models.specs.declared.RequestReport.{RequestReport}
 use Rattle.models.specs.declared.Verdict.{Verdict}
 use Rattle.models.specs.declared.Verdict.the-variants as verdict
-use Rattle.rows.specs.Table.{emptyRow, rowsOf, rowCount}
+use Rattle.rows.specs.Table.{emptyRow, readRows, rowCount}
 use Rattle.rows.specs.Store.{Store, putIn, storeOf}
 use Rattle.rows.specs.declared.Row.{Row}
-use Rattle.rows.proofs.Rows.{length-rowsOf}
+use Rattle.rows.proofs.Rows.{length-readRows}
 use Rattle.rules.specs.Rules.{changeRow}
 use Rattle.rules.specs.declared.Change.the-variants as change
 use Rattle.rules.specs.declared.Step.{Step}
@@ -33,7 +33,7 @@ use Rattle.checks.specs.Completion.{testCompletion}
 use Rattle.checks.specs.declared.completion.CompletionTest.{CompletionTest}
 use Rattle.checks.specs.declared.completion.CompletionTest.the-variants as test
 use Rattle.scope.specs.Scope.{slotOf, meant}
-use Rattle.scope.specs.Returned.{completionWords, broughtAt, returnedAt, returnedOf, givenOf, listsAgree}
+use Rattle.scope.specs.Returned.{completionWords, broughtAt, returnedAt, readReturned, givenOf, listsAgree}
 use Rattle.scope.specs.declared.returned.Brought.{Brought}
 use Rattle.recovery.specs.Entries.{WalkTo, walkTo, storedAt, rowCompletedBy, testedBy, completeOne, onwardBy, itself, completeAll, AbortTo, abortTo, abortedBy, abortOne, furtherBy, abortAll}
 use Rattle.recovery.specs.Places.{Below, Places}
@@ -84,25 +84,25 @@ module _ (affected own : List ℕ) (t j : ℕ) (e : j ≡ slotOf own t) where
   pub meant-none : length affected ≤ j → 0 ≡ meant affected own t
   meant-none h = let q : length affected ≤ slotOf own t = omega arith in sym (List·getD-eq-default affected 0 q)
 
-pub meant-in : (w affected own : List ℕ) (t i : ℕ) → Below w affected → i ≡ meant affected own t → i < length (rowsOf w)
+pub meant-in : (w affected own : List ℕ) (t i : ℕ) → Below w affected → i ≡ meant affected own t → i < length (readRows w)
 meant-in w affected own t i b e = rw e (caseB (ltb (slotOf own t) (length affected))
     (λ y. b .inside (slotOf own t) (ltb-true (slotOf own t) (length affected) y))
     (λ y. let q : length affected ≤ slotOf own t = ltb-false (slotOf own t) (length affected) y in rw (List·getD-eq-default affected 0 q) (b .some)))
 
 -- ---- the places that a walk visits
-pub same-count : (w w₀ : List ℕ) → length w ≡ length w₀ → length (rowsOf w) ≡ length (rowsOf w₀)
+pub same-count : (w w₀ : List ℕ) → length w ≡ length w₀ → length (readRows w) ≡ length (readRows w₀)
 unfolding rowCount
-same-count w w₀ e = length-rowsOf w ∙ rw e (sym (length-rowsOf w₀))
+same-count w w₀ e = length-readRows w ∙ rw e (sym (length-readRows w₀))
 
 pub below-kept : (w w₀ places : List ℕ) → length w ≡ length w₀ → Below w₀ places → Below w places
 below-kept w w₀ places e b = let z = same-count w w₀ e in record { some = omega (arith, b .some); inside = λ k h. omega (arith, b .inside k h) }
 
 module _ (w w₀ places : List ℕ) (n k : ℕ) (e : length w ≡ length w₀) (en : n ≡ length places) (lt : k < n) where
-  pub place-below : Below w₀ places → getD places k 0 < length (rowsOf w)
+  pub place-below : Below w₀ places → getD places k 0 < length (readRows w)
   place-below b = below-kept w w₀ places e b .inside k (omega arith)
 
   pub place-room : (area area₀ : List ℕ) (room : ℕ) → length area ≡ length area₀ → Places w₀ area₀ room places → getD places k 0 * room + room ≤ length area
-  place-room area area₀ room f p = omega (arith, record-in room (length (rowsOf w₀)) (getD places k 0) (p .below .inside k (omega arith)), p .bytes)
+  place-room area area₀ room f p = omega (arith, record-in room (length (readRows w₀)) (getD places k 0) (p .below .inside k (omega arith)), p .bytes)
 
 -- ---- the loop over the aborts
 abbrev pub Aborting : List ℕ → List ℕ → ℕ → List ℕ → ℕ → Type 0
@@ -125,17 +125,17 @@ module _ (ts w₀ : List ℕ) (n : ℕ) (w : List ℕ) (k : ℕ) (e : n ≡ leng
 
 -- ---- the loop over the completions
 module _ (tokens words : List ℕ) where
-  returned-length : length (returnedOf tokens words) ≡ length tokens
-  unfolding returnedOf
+  returned-length : length (readReturned tokens words) ≡ length tokens
+  unfolding readReturned
   returned-length = length-tab (returnedAt tokens words) (length tokens)
 
-  returned-drop : (k : ℕ) → k < length tokens → drop k (returnedOf tokens words) ≡ returnedAt tokens words k ∷ drop (suc k) (returnedOf tokens words)
-  unfolding returnedOf
+  returned-drop : (k : ℕ) → k < length tokens → drop k (readReturned tokens words) ≡ returnedAt tokens words k ∷ drop (suc k) (readReturned tokens words)
+  unfolding readReturned
   returned-drop k lt =
-      drop-cons (returnedOf tokens words) k (returnedAt tokens words k) (omega (arith, returned-length))
+      drop-cons (readReturned tokens words) k (returnedAt tokens words k) (omega (arith, returned-length))
       ∙ rw (getD-tab (returnedAt tokens words) (length tokens) k (returnedAt tokens words k) lt)
 
-  pub agreed : (size : ℕ) → listsAgree tokens words size ≡ true → (length words ≡ length tokens * completionWords) × (sumBy givenOf (returnedOf tokens words) ≡ size)
+  pub agreed : (size : ℕ) → listsAgree tokens words size ≡ true → (length words ≡ length tokens * completionWords) × (sumBy givenOf (readReturned tokens words) ≡ size)
   unfolding listsAgree
   agreed size e = let p = both _ _ e in (eqb-true _ _ (p .0), eqb-true _ _ (p .1))
 
@@ -146,18 +146,18 @@ rest-is at bytes = take-all (length bytes - at) (drop at bytes) (rw length-drop 
 abbrev pub Completing : ℕ → List ℕ → List ℕ → List ℕ → List ℕ → List ℕ → ℕ → List ℕ → List ℕ → ℕ → ℕ → Type 0
 Completing room tokens words bytes w₀ area₀ n w area at k =
     (n ≡ length tokens) × (k ≤ n) × (length w ≡ length w₀) × (length area ≡ length area₀)
-    × (at + sumBy givenOf (drop k (returnedOf tokens words)) ≡ length bytes)
-    × (completeAll itself room (drop k (returnedOf tokens words)) (drop at bytes) (storeOf w) area ≡ completeAll itself room (returnedOf tokens words) bytes (storeOf w₀) area₀)
+    × (at + sumBy givenOf (drop k (readReturned tokens words)) ≡ length bytes)
+    × (completeAll itself room (drop k (readReturned tokens words)) (drop at bytes) (storeOf w) area ≡ completeAll itself room (readReturned tokens words) bytes (storeOf w₀) area₀)
 
-pub begin-given : (tokens words bytes : List ℕ) → listsAgree tokens words (length bytes) ≡ true → 0 + sumBy givenOf (drop 0 (returnedOf tokens words)) ≡ length bytes
+pub begin-given : (tokens words bytes : List ℕ) → listsAgree tokens words (length bytes) ≡ true → 0 + sumBy givenOf (drop 0 (readReturned tokens words)) ≡ length bytes
 begin-given tokens words bytes f = omega (arith, agreed tokens words (length bytes) f .1)
 
 module _ (tokens words : List ℕ) (n k : ℕ) (e : n ≡ length tokens) (lt : k < n) where
   pub words-in : (size : ℕ) → listsAgree tokens words size ≡ true → k * completionWords + completionWords ≤ length words
   words-in size f = rw (agreed tokens words size f .0) (record-in completionWords (length tokens) k (omega arith))
 
-  module _ (size at : ℕ) (g : at + sumBy givenOf (drop k (returnedOf tokens words)) ≡ size) (b : Brought) (eb : b ≡ broughtAt words k) where
-    pub given-on : at + b .given + sumBy givenOf (drop (k + 1) (returnedOf tokens words)) ≡ size
+  module _ (size at : ℕ) (g : at + sumBy givenOf (drop k (readReturned tokens words)) ≡ size) (b : Brought) (eb : b ≡ broughtAt words k) where
+    pub given-on : at + b .given + sumBy givenOf (drop (k + 1) (readReturned tokens words)) ≡ size
     given-on =
         let z = ap (sumBy givenOf) (returned-drop tokens words k (omega arith)) in
         let y = ap (λ (x : Brought). x .given) eb in
@@ -167,28 +167,28 @@ module _ (tokens words : List ℕ) (n k : ℕ) (e : n ≡ length tokens) (lt : k
     given-fits f = omega (arith, f, given-on)
 
 module _ (room : ℕ) (tokens words bytes w₀ area₀ : List ℕ) (n : ℕ) (w area : List ℕ) (at k : ℕ) (e : n ≡ length tokens)
-    (h : completeAll itself room (drop k (returnedOf tokens words)) (drop at bytes) (storeOf w) area ≡ completeAll itself room (returnedOf tokens words) bytes (storeOf w₀) area₀) where
+    (h : completeAll itself room (drop k (readReturned tokens words)) (drop at bytes) (storeOf w) area ≡ completeAll itself room (readReturned tokens words) bytes (storeOf w₀) area₀) where
   module _ (lt : k < n) (b : Brought) (v : Verdict) (w′ area′ : List ℕ) (eb : b ≡ broughtAt words k)
       (ev : walkTo v (storeOf w′) area′
       ≡ completeOne (getD tokens k 0) (getD tokens k 0 * room) room (b .completion) (take (b .given) (take (length bytes - at) (drop at bytes))) (storeOf w) area) where
-    complete-next : onwardBy v (walkTo v (storeOf w′) area′) (λ (s : Store) (a : List ℕ). completeAll itself room (drop (suc k) (returnedOf tokens words)) (drop (at + b .given) bytes) s a)
-        ≡ completeAll itself room (returnedOf tokens words) bytes (storeOf w₀) area₀
+    complete-next : onwardBy v (walkTo v (storeOf w′) area′) (λ (s : Store) (a : List ℕ). completeAll itself room (drop (suc k) (readReturned tokens words)) (drop (at + b .given) bytes) s a)
+        ≡ completeAll itself room (readReturned tokens words) bytes (storeOf w₀) area₀
     complete-next =
         let one : walkTo v (storeOf w′) area′
         ≡ completeOne (getD tokens k 0) (getD tokens k 0 * room) room (b .completion) (take (b .given) (drop at bytes)) (storeOf w) area = ev ∙ rw (rest-is at bytes) in
         rw (← drop-drop (b .given) at bytes)
-        (ap (λ (x : WalkTo). onwardBy (x .verdict) x (λ (s : Store) (q : List ℕ). completeAll itself room (drop (suc k) (returnedOf tokens words)) (drop (b .given) (drop at bytes)) s q)) one
+        (ap (λ (x : WalkTo). onwardBy (x .verdict) x (λ (s : Store) (q : List ℕ). completeAll itself room (drop (suc k) (readReturned tokens words)) (drop (b .given) (drop at bytes)) s q)) one
         ∙ (rw (returned-drop tokens words k (omega arith), ← eb) at h))
 
-    pub complete-on : v ≡ verdict.Pass → completeAll itself room (drop (k + 1) (returnedOf tokens words)) (drop (at + b .given) bytes) (storeOf w′) area′
-        ≡ completeAll itself room (returnedOf tokens words) bytes (storeOf w₀) area₀
+    pub complete-on : v ≡ verdict.Pass → completeAll itself room (drop (k + 1) (readReturned tokens words)) (drop (at + b .given) bytes) (storeOf w′) area′
+        ≡ completeAll itself room (readReturned tokens words) bytes (storeOf w₀) area₀
     complete-on q = rw add-one (rw q at complete-next)
 
-    pub complete-stop : (r : Refusal) → v ≡ verdict.Refused r → walkTo v (storeOf w′) area′ ≡ completeAll itself room (returnedOf tokens words) bytes (storeOf w₀) area₀
+    pub complete-stop : (r : Refusal) → v ≡ verdict.Refused r → walkTo v (storeOf w′) area′ ≡ completeAll itself room (readReturned tokens words) bytes (storeOf w₀) area₀
     complete-stop r q = rw q (rw q at complete-next)
 
-  pub complete-end : n ≤ k → walkTo verdict.Pass (storeOf w) area ≡ completeAll itself room (returnedOf tokens words) bytes (storeOf w₀) area₀
+  pub complete-end : n ≤ k → walkTo verdict.Pass (storeOf w) area ≡ completeAll itself room (readReturned tokens words) bytes (storeOf w₀) area₀
   complete-end o =
-      let q : length (returnedOf tokens words) ≤ k = omega (arith, returned-length tokens words) in
-      let z : drop k (returnedOf tokens words) ≡ [] = drop-of-length-le (returnedOf tokens words) q in
+      let q : length (readReturned tokens words) ≤ k = omega (arith, returned-length tokens words) in
+      let z : drop k (readReturned tokens words) ≡ [] = drop-of-length-le (readReturned tokens words) q in
       rw z at h

@@ -20,7 +20,7 @@ use Rattle.models.specs.declared.Refusal.{Refusal}
 use Rattle.models.specs.declared.RequestId.{RequestId}
 use Rattle.models.specs.declared.Verdict.{Verdict}
 use Rattle.models.specs.declared.Verdict.the-variants as verdict
-use Rattle.rows.specs.Table.{rowsOf, isUncertain}
+use Rattle.rows.specs.Table.{readRows, isUncertain}
 use Rattle.rows.specs.Store.{Store, storeOf}
 use Rattle.rows.specs.declared.Row.{Row}
 use Rattle.checks.specs.Completion.{hasError}
@@ -35,7 +35,7 @@ use Rattle.session.specs.declared.RecoveryKind.the-variants as kind
 use Rattle.session.specs.declared.Session.{Session}
 use Rattle.scope.specs.Affected.{affectedOf, tokensOf}
 use Rattle.scope.specs.Scope.{inScope}
-use Rattle.scope.specs.Returned.{Returned, returnedOf, listsAgree}
+use Rattle.scope.specs.Returned.{Returned, readReturned, listsAgree}
 use Rattle.recovery.specs.Entries.{walkTo, completeAll, abortTo, abortAll}
 use Rattle.recovery.specs.Reports.{noId, idsOf, idLists}
 use Rattle.recovery.specs.Places.{Sized, Places}
@@ -145,26 +145,26 @@ module _ (v : Verdict) (idle : Session) (x : Recovery) (o : Outcome) (report : A
 
 pub settled-is : (idle : Session) (x : Recovery) (o : Outcome) (place : ℕ → ℕ) (tokens words aborted bytes : List ℕ) (store : Store) (area : List ℕ) (ids : Ids) (report : AbortReport)
     (v : Verdict) (w₁ area₁ : List ℕ) (y : Recovered) → ids ≡ idLists (store .rows) place tokens aborted → report ≡ abortReport x o (length tokens) (length aborted)
-    → walkTo v (storeOf w₁) area₁ ≡ applyAll place (idle .«row_bytes») (returnedOf tokens words) aborted bytes store area
-    → y ≡ concludedBy v idle x o report ids (rowsOf w₁)
+    → walkTo v (storeOf w₁) area₁ ≡ applyAll place (idle .«row_bytes») (readReturned tokens words) aborted bytes store area
+    → y ≡ concludedBy v idle x o report ids (readRows w₁)
     → recoveredTo y (storeOf w₁) area₁ ≡ settledOf idle x o place tokens words aborted bytes store area
 unfolding storeOf
 settled-is idle x o place tokens words aborted bytes store area ids report v w₁ area₁ y ei er ev ey = rw (← ev, ey, ei, er)
 
 -- ---- the affected rows, collected in the first places of a list
-module _ (x : Recovery) (w list : List ℕ) (count : ℕ) (ec : take count list ≡ affectedOf (x .device) (x .endpoint) (rowsOf w)) (h : count ≤ 128) (el : length list ≡ 128) where
-  pub count-is : count ≡ length (affectedOf (x .device) (x .endpoint) (rowsOf w))
+module _ (x : Recovery) (w list : List ℕ) (count : ℕ) (ec : take count list ≡ affectedOf (x .device) (x .endpoint) (readRows w)) (h : count ≤ 128) (el : length list ≡ 128) where
+  pub count-is : count ≡ length (affectedOf (x .device) (x .endpoint) (readRows w))
   count-is = let len : length (take count list) ≡ count = simp length-take (omega arith) in sym len ∙ ap length ec
 
   pub affected-places : (area : List ℕ) (room : ℕ) → Sized w area room → Places w area room (take count list)
   affected-places area room z = record {
-    below = record { some = z .some; inside = rw ec (affected-bounded (x .device) (x .endpoint) (rowsOf w)) };
+    below = record { some = z .some; inside = rw ec (affected-bounded (x .device) (x .endpoint) (readRows w)) };
     bytes = z .bytes;
   }
 
-  module _ (own : List ℕ) (eo : own ≡ listed 128 0 (tokensOf (rowsOf w) (take count list))) where
-    own-is : take count own ≡ tokensOf (rowsOf w) (affectedOf (x .device) (x .endpoint) (rowsOf w))
-    own-is = rw (eo, ec) (listed-take 128 0 (tokensOf (rowsOf w) (affectedOf (x .device) (x .endpoint) (rowsOf w))) count (count-is ∙ sym (length-map (affectedOf (x .device) (x .endpoint) (rowsOf w)) _)) h)
+  module _ (own : List ℕ) (eo : own ≡ listed 128 0 (tokensOf (readRows w) (take count list))) where
+    own-is : take count own ≡ tokensOf (readRows w) (affectedOf (x .device) (x .endpoint) (readRows w))
+    own-is = rw (eo, ec) (listed-take 128 0 (tokensOf (readRows w) (affectedOf (x .device) (x .endpoint) (readRows w))) count (count-is ∙ sym (length-map (affectedOf (x .device) (x .endpoint) (readRows w)) _)) h)
 
     pub own-few : length (take count own) ≤ 128
     own-few = simp length-take (omega arith)

@@ -3,7 +3,7 @@ use Prim.Native.Nat.{ℕ, suc, zero, _+_, _-_, _*_, _<_, _≤_, min}
 use mathlib.Core.Bool.{Bool, true, false, cond, not, _&&_}
 use mathlib.Core.List.{List, [], _∷_}
 use mathlib.Core.Path.{_≡_, refl, sym, ap, _∙_}
-use native.Mathlib.Nat.{le-of-suc-le-suc}
+use native.Mathlib.Nat.{le-of-suc-le-suc, min-le-right}
 use native.Mathlib.Numerals.{add-one}
 use native.Mathlib.Omega.{arith}
 use lib.ListN.{length, getD, take, drop}
@@ -21,16 +21,19 @@ use Rattle.models.specs.Requests.{sameRequest, requestBefore}
 use Rattle.models.specs.declared.Refusal.{Refusal}
 use Rattle.models.specs.declared.RequestId.{RequestId}
 use Rattle.models.specs.declared.RequestReport.{RequestReport}
-use Rattle.rows.specs.Table.{emptyRow, rowsOf}
+use Rattle.rows.specs.Table.{emptyRow, readRows}
+use Rattle.rows.specs.Store.{Store, storeOf}
 use Rattle.rows.specs.declared.Row.{Row}
 use Rattle.rules.specs.Rules.{reportOf}
 use Rattle.ledger.specs.Search.{isAt}
 use Rattle.ledger.specs.Tally.{heldCount, heldBytes}
 use Rattle.ledger.proofs.Found.{found-in}
-use Rattle.session.specs.Sizes.{rowsFit, areaFits}
+use Rattle.session.specs.Lent.{storeFits}
+use Rattle.session.specs.Sizes.{memorySizes}
 use Rattle.session.specs.declared.InFlight.{InFlight}
 use Rattle.session.specs.declared.InFlight.the-variants as flight
 use Rattle.session.specs.declared.Session.{Session}
+use Rattle.session.proofs.sizes.Laws.{place-in}
 use Rattle.reports.specs.Status.{isSubmitting, shownAt, statusBy, statusOf, isShown, comesAfter, beats, better, bestFrom, nextOf, shownCount, completedLength, bytesPart, partBy, completedPart, partOf, partNumber, bytesOf, heldCountOf, heldBytesOf}
 use Rattle.reports.specs.declared.OptionId.{OptionId}
 use Rattle.reports.specs.declared.OptionId.the-variants as option
@@ -43,7 +46,6 @@ use Rattle.reports.specs.declared.NextReport.{NextReport}
 use Rattle.reports.specs.declared.NextReport.the-variants as next
 use Rattle.reports.specs.declared.Tally.{Tally}
 use Rattle.reports.specs.declared.Tally.the-variants as tally
-use Rattle.reports.proofs.Bytes.{part-end}
 
 -- a submission in flight
 pub submitting-own : (f : InFlight) (id own : RequestId) (b : Bool) → f ≡ flight.Submission own → b ≡ sameRequest own id → b ≡ isSubmitting f id
@@ -70,18 +72,18 @@ module _ (f : InFlight) (id : RequestId) (rows : List Row) where
   shown-in g i eg e = shown-by (isSubmitting f id) i (sym eg ∙ e)
 
 -- a request's status
-module _ (s : Session) (fits : Bool) (id : RequestId) (rows : List Row) (f : Bool) (ef : f ≡ fits) where
-  pub status-unfit : (r : Refusal) → not f ≡ true → r ≡ refusalOf 3 → report.Refused r ≡ statusOf s fits id rows
+module _ (id : RequestId) (s : Session) (store : Store) (f : Bool) (ef : f ≡ storeFits (s .size) store) where
+  pub status-unfit : (r : Refusal) → not f ≡ true → r ≡ refusalOf 3 → report.Refused r ≡ statusOf id s store
   unfolding statusOf
   status-unfit r t e = takes ReportAnswer _ _ _ _ (not-through f _ true ef t) (rw e)
 
-  module _ (nf : not f ≡ false) (g : Found) (eg : g ≡ shownAt (s .«in_flight») id rows) where
-    pub status-none : (r : Refusal) → g ≡ found.Nothing → r ≡ refusalOf 40 → report.Refused r ≡ statusOf s fits id rows
+  module _ (nf : not f ≡ false) (g : Found) (eg : g ≡ shownAt (s .«in_flight») id (store .rows)) where
+    pub status-none : (r : Refusal) → g ≡ found.Nothing → r ≡ refusalOf 40 → report.Refused r ≡ statusOf id s store
     unfolding statusOf statusBy
     status-none r t e = passes ReportAnswer _ _ _ _ (not-through f _ false ef nf) (rw (sym eg ∙ t, e))
 
-    pub status-at : (i : ℕ) (row : Row) (x : RequestReport) → g ≡ found.At i → row ≡ getD rows i emptyRow → x ≡ reportOf row
-        → report.Report x ≡ statusOf s fits id rows
+    pub status-at : (i : ℕ) (row : Row) (x : RequestReport) → g ≡ found.At i → row ≡ getD (store .rows) i emptyRow → x ≡ reportOf row
+        → report.Report x ≡ statusOf id s store
     unfolding statusOf statusBy
     status-at i row x t er e = passes ReportAnswer _ _ _ _ (not-through f _ false ef nf) (rw (sym eg ∙ t, e, er))
 
@@ -160,91 +162,96 @@ shown-most total after i true h e = omega arith
 shown-most total after i false h e = omega arith
 
 -- by the sizes
-module _ (fits : Bool) (rows : List Row) (f : Bool) (ef : f ≡ fits) where
+module _ (s : Session) (store : Store) (f : Bool) (ef : f ≡ storeFits (s .size) store) where
   module _ (r : Refusal) (t : not f ≡ true) (er : r ≡ refusalOf 3) where
-    pub next-unfit : (s : Session) (o : OptionId) → next.Refused r ≡ nextOf s fits o rows
+    pub next-unfit : (o : OptionId) → next.Refused r ≡ nextOf o s store
     unfolding nextOf
-    next-unfit s o = takes NextReport _ _ _ _ (not-through f _ true ef t) (rw er)
+    next-unfit o = takes NextReport _ _ _ _ (not-through f _ true ef t) (rw er)
 
-    pub shown-unfit : (s : Session) → tally.Refused r ≡ shownCount s fits rows
+    pub shown-unfit : tally.Refused r ≡ shownCount s store
     unfolding shownCount
-    shown-unfit s = takes Tally _ _ _ _ (not-through f _ true ef t) (rw er)
+    shown-unfit = takes Tally _ _ _ _ (not-through f _ true ef t) (rw er)
 
-    pub held-unfit : tally.Refused r ≡ heldCountOf fits rows
+    pub held-unfit : tally.Refused r ≡ heldCountOf s store
     unfolding heldCountOf
     held-unfit = takes Tally _ _ _ _ (not-through f _ true ef t) (rw er)
 
-    pub bytes-unfit : tally.Refused r ≡ heldBytesOf fits rows
+    pub bytes-unfit : tally.Refused r ≡ heldBytesOf s store
     unfolding heldBytesOf
     bytes-unfit = takes Tally _ _ _ _ (not-through f _ true ef t) (rw er)
 
   module _ (t : not f ≡ false) where
-    pub next-on : (s : Session) (o : OptionId) (x : NextReport) → x ≡ bestFrom (s .«in_flight») o next.None rows → x ≡ nextOf s fits o rows
+    pub next-on : (o : OptionId) (x : NextReport) → x ≡ bestFrom (s .«in_flight») o next.None (store .rows) → x ≡ nextOf o s store
     unfolding nextOf
-    next-on s o x e = passes NextReport _ _ _ _ (not-through f _ false ef t) e
+    next-on o x e = passes NextReport _ _ _ _ (not-through f _ false ef t) e
 
-    pub shown-on : (s : Session) (n : ℕ) → n ≡ count (isShown (s .«in_flight»)) rows → tally.Number n ≡ shownCount s fits rows
+    pub shown-on : (n : ℕ) → n ≡ count (isShown (s .«in_flight»)) (store .rows) → tally.Number n ≡ shownCount s store
     unfolding shownCount
-    shown-on s n e = passes Tally _ _ _ _ (not-through f _ false ef t) (ap tally.Number e)
+    shown-on n e = passes Tally _ _ _ _ (not-through f _ false ef t) (ap tally.Number e)
 
-    pub held-on : (n : ℕ) → n ≡ heldCount 16 rows → tally.Number n ≡ heldCountOf fits rows
+    pub held-on : (n : ℕ) → n ≡ heldCount 16 (store .rows) → tally.Number n ≡ heldCountOf s store
     unfolding heldCountOf
     held-on n e = passes Tally _ _ _ _ (not-through f _ false ef t) (ap tally.Number e)
 
-    pub bytes-on : (n : ℕ) → n ≡ heldBytes 64 rows → tally.Number n ≡ heldBytesOf fits rows
+    pub bytes-on : (n : ℕ) → n ≡ heldBytes 64 (store .rows) → tally.Number n ≡ heldBytesOf s store
     unfolding heldBytesOf
     bytes-on n e = passes Tally _ _ _ _ (not-through f _ false ef t) (ap tally.Number e)
 
 -- where the bytes of a Completed request stand
-module _ (s : Session) (p q : Bool) (id : RequestId) (rows : List Row) (a b : Bool) (ea : a ≡ p) (eb : b ≡ q) where
-  pub part-unfit : (r : Refusal) → not (a && b) ≡ true → r ≡ refusalOf 3 → bytes.Refused r ≡ completedPart s (p && q) id rows
+module _ (id : RequestId) (size : ℕ) (s : Session) (store : Store) (f : Bool) (ef : f ≡ memorySizes (s .size) (length (store .words)) size) where
+  pub part-unfit : (r : Refusal) → not f ≡ true → r ≡ refusalOf 3 → bytes.Refused r ≡ completedPart id size s store
   unfolding completedPart
-  part-unfit r t e = takes PartAnswer _ _ _ _ (rw (ea, eb) at t) (rw e)
+  part-unfit r t e = takes PartAnswer _ _ _ _ (not-through f _ true ef t) (rw e)
 
-  module _ (t : not (a && b) ≡ false) (g : Found) (eg : g ≡ shownAt (s .«in_flight») id rows) where
-    pub part-none : (r : Refusal) → g ≡ found.Nothing → r ≡ refusalOf 40 → bytes.Refused r ≡ completedPart s (p && q) id rows
+  module _ (t : not f ≡ false) (g : Found) (eg : g ≡ shownAt (s .«in_flight») id (store .rows)) where
+    pub part-none : (r : Refusal) → g ≡ found.Nothing → r ≡ refusalOf 40 → bytes.Refused r ≡ completedPart id size s store
     unfolding completedPart partBy
-    part-none r e er = passes PartAnswer _ _ _ _ (rw (ea, eb) at t) (rw (sym eg ∙ e, er))
+    part-none r e er = passes PartAnswer _ _ _ _ (not-through f _ false ef t) (rw (sym eg ∙ e, er))
 
-    pub part-at : (i len n : ℕ) (row : Row) → g ≡ found.At i → row ≡ getD rows i emptyRow → len ≡ completedLength (row .state) → n ≡ min len (s .«row_bytes»)
-        → bytes.Part (bytesPart (i * s .«row_bytes») n) ≡ completedPart s (p && q) id rows
+    pub part-at : (i len n : ℕ) (row : Row) → g ≡ found.At i → row ≡ getD (store .rows) i emptyRow → len ≡ completedLength (row .state)
+        → n ≡ min len (s .size .«row_bytes») → bytes.Part (bytesPart (i * s .size .«row_bytes») n) ≡ completedPart id size s store
     unfolding completedPart partBy
-    part-at i len n row e er el en = passes PartAnswer _ _ _ _ (rw (ea, eb) at t) (rw (sym eg ∙ e, en, el, er))
+    part-at i len n row e er el en = passes PartAnswer _ _ _ _ (not-through f _ false ef t) (rw (sym eg ∙ e, en, el, er))
 
 pub part-empty : (a : PartAnswer) (r : Refusal) → a ≡ bytes.Refused r → bytesPart 0 0 ≡ partOf a
 part-empty a r e = rw e
 
 -- it lies inside the area
-module _ (s : Session) (id : RequestId) (w area : List ℕ) where
-  abbrev Fits-in : Bool
-  Fits-in = rowsFit (s .«row_count») (s .«row_bytes») (length w) && areaFits (s .«row_count») (s .«row_bytes») (length area)
+module _ (id : RequestId) (s : Session) (w area : List ℕ) where
+  abbrev Answer : PartAnswer
+  Answer = completedPart id (length area) s (storeOf w)
 
   abbrev Inside : PartAnswer → Type 0
   Inside a = partOf a .start + partOf a .length ≤ length area
 
-  part-by : (g : Found) → g ≡ shownAt (s .«in_flight») id (rowsOf w) → not Fits-in ≡ false → Inside (partBy g (s .«row_bytes») (rowsOf w))
+  part-by : (g : Found) → g ≡ shownAt (s .«in_flight») id (readRows w) → memorySizes (s .size) (length w) (length area) ≡ true
+      → Inside (partBy g (s .size .«row_bytes») (readRows w))
   unfolding partBy
   part-by found.Nothing eg t = omega arith
   part-by (found.At i) eg t =
-      part-end (s .«row_count») (s .«row_bytes») w (length area) _ _ refl refl t i (shown-in (s .«in_flight») id (rowsOf w) _ i eg refl)
-      (completedLength (getD (rowsOf w) i emptyRow .state)) _ refl
+      omega (arith, place-in (s .size) w (length area) t i (shown-in (s .«in_flight») id (readRows w) _ i eg refl),
+        min-le-right (completedLength (getD (readRows w) i emptyRow .state)) (s .size .«row_bytes»))
 
-  part-fit : (fits : Bool) → fits ≡ Fits-in → Inside (completedPart s fits id (rowsOf w))
-  unfolding completedPart _if_else_
-  part-fit true e = part-by (shownAt (s .«in_flight») id (rowsOf w)) refl (ap not (sym e))
+  part-fit : (fits : Bool) → fits ≡ memorySizes (s .size) (length w) (length area)
+      → Inside (bytes.Refused (refusalOf 3) if not fits else partBy (shownAt (s .«in_flight») id (readRows w)) (s .size .«row_bytes») (readRows w))
+  unfolding _if_else_
+  part-fit true e = part-by (shownAt (s .«in_flight») id (readRows w)) refl (sym e)
   part-fit false e = omega arith
 
-  module _ (a : PartAnswer) (o : Part) (ea : a ≡ completedPart s Fits-in id (rowsOf w)) (eo : o ≡ partOf a) where
+  fitting : Inside Answer
+  unfolding completedPart storeOf
+  fitting = part-fit _ refl
+
+  module _ (a : PartAnswer) (o : Part) (ea : a ≡ Answer) (eo : o ≡ partOf a) where
     pub part-inside : o .start + o .length ≤ length area
-    part-inside = rw (eo, ea) (part-fit _ refl)
+    part-inside = rw (eo, ea) fitting
 
     pub part-fits : Fits w64 (length area) → Fits w64 (o .start + o .length)
     part-fits f = omega (arith, f, part-inside)
 
-    pub part-bytes : take (o .start + o .length - o .start) (drop (o .start) area) ≡ bytesOf (completedPart s Fits-in id (rowsOf w)) area
+    pub part-bytes : take (o .start + o .length - o .start) (drop (o .start) area) ≡ bytesOf Answer area
     unfolding bytesOf
     part-bytes = let z : o .start + o .length - o .start ≡ o .length = omega arith in rw (z, eo, ea)
 
-  pub part-number : (a : PartAnswer) (n : ℕ) → a ≡ completedPart s Fits-in id (rowsOf w) → n ≡ partNumber a
-      → n ≡ partNumber (completedPart s Fits-in id (rowsOf w))
+  pub part-number : (a : PartAnswer) (n : ℕ) → a ≡ Answer → n ≡ partNumber a → n ≡ partNumber Answer
   part-number a n ea en = en ∙ rw ea

@@ -9,67 +9,67 @@ use lib.Seq.{getD-take, getD-drop}
 use lib.Dec.{eqb}
 use borrow.Author.Tests.{ne-eqb, le-ltb, eqb-true, eqb-false}
 use Rattle.chain.proofs.Chain.{caseB}
-use Rattle.words.specs.Words.{flagOf}
+use Rattle.words.specs.Words.{readFlag}
 use Rattle.models.specs.Requests.{deviceMayAccess, isUncertainFailure}
 use Rattle.models.specs.declared.DeviceId.{DeviceId}
 use Rattle.models.specs.declared.RequestId.{RequestId}
-use Rattle.rows.specs.Codec.{rowOf, readMetadata, stateByKind, kindBy}
-use Rattle.rows.specs.Table.{wordsAt, wordAt, rowsOf, rowCount, emptyRow, rowAt, idIn, tokenIn, isHeld, isUncertain}
+use Rattle.rows.specs.Codec.{readRow, readMetadata, stateByKind, kindBy}
+use Rattle.rows.specs.Table.{wordsAt, wordAt, readRows, rowCount, emptyRow, rowAt, idIn, tokenIn, isHeld, isUncertain}
 use Rattle.rows.specs.declared.Row.{Row}
 use Rattle.rows.proofs.Rows.{row-is}
 
 -- one field is one word
-pub sequence-is : (l : List ℕ) (i w : ℕ) → i < length (rowsOf l) → w ≡ wordAt l i 0 → w ≡ rowAt l i .id .sequence
-unfolding rowOf
+pub sequence-is : (l : List ℕ) (i w : ℕ) → i < length (readRows l) → w ≡ wordAt l i 0 → w ≡ rowAt l i .id .sequence
+unfolding readRow
 sequence-is l i w h e = e ∙ ap (λ (r : Row). r .id .sequence) (row-is l i h)
 
-pub used-is : (l : List ℕ) (i w : ℕ) (b : Bool) → i < length (rowsOf l) → w ≡ wordAt l i 1 → b ≡ flagOf w → b ≡ rowAt l i .used
-unfolding rowOf
-used-is l i w b h e f = f ∙ ap flagOf e ∙ ap (λ (r : Row). r .used) (row-is l i h)
+pub used-is : (l : List ℕ) (i w : ℕ) (b : Bool) → i < length (readRows l) → w ≡ wordAt l i 1 → b ≡ readFlag w → b ≡ rowAt l i .used
+unfolding readRow
+used-is l i w b h e f = f ∙ ap readFlag e ∙ ap (λ (r : Row). r .used) (row-is l i h)
 
 -- word k of the metadata
 meta-word : (w : List ℕ) (k : ℕ) → k < 13 → getD (take 13 (drop 4 w)) k 0 ≡ getD w (4 + k) 0
 meta-word w k h = getD-take 13 (drop 4 w) k 0 h ∙ getD-drop 4 w k 0
 
-pub length-is : (l : List ℕ) (i w : ℕ) → i < length (rowsOf l) → w ≡ wordAt l i 10 → w ≡ rowAt l i .metadata .«requested_length»
-unfolding rowOf readMetadata
+pub length-is : (l : List ℕ) (i w : ℕ) → i < length (readRows l) → w ≡ wordAt l i 10 → w ≡ rowAt l i .metadata .«requested_length»
+unfolding readRow readMetadata
 length-is l i w h e = e ∙ sym (meta-word (wordsAt (rowCount l) l i) 6 (omega arith)) ∙ ap (λ (r : Row). r .metadata .«requested_length») (row-is l i h)
 
-pub endpoint-is : (l : List ℕ) (i w : ℕ) → i < length (rowsOf l) → w ≡ wordAt l i 7 → w % 256 ≡ rowAt l i .metadata .endpoint
-unfolding rowOf readMetadata
+pub endpoint-is : (l : List ℕ) (i w : ℕ) → i < length (readRows l) → w ≡ wordAt l i 7 → w % 256 ≡ rowAt l i .metadata .endpoint
+unfolding readRow readMetadata
 endpoint-is l i w h e =
     ap (λ (n : ℕ). n % 256) (e ∙ sym (meta-word (wordsAt (rowCount l) l i) 3 (omega arith))) ∙ ap (λ (r : Row). r .metadata .endpoint) (row-is l i h)
 
-pub device-is : (l : List ℕ) (i s g p : ℕ) → i < length (rowsOf l) → s ≡ wordAt l i 4 → g ≡ wordAt l i 5 → p ≡ wordAt l i 6
+pub device-is : (l : List ℕ) (i s g p : ℕ) → i < length (readRows l) → s ≡ wordAt l i 4 → g ≡ wordAt l i 5 → p ≡ wordAt l i 6
     → _≡_ {A = DeviceId} (record { session = s; generation = g; slot = p % 256 }) (rowAt l i .metadata .device)
-unfolding rowOf readMetadata
+unfolding readRow readMetadata
 device-is l i s g p h es eg ep =
     let m = meta-word (wordsAt (rowCount l) l i) in
     rw (es, eg, ep, ← m 0 (omega arith), ← m 1 (omega arith), ← m 2 (omega arith)) (ap (λ (r : Row). r .metadata .device) (row-is l i h))
 
-pub id-is : (l : List ℕ) (i s g q : ℕ) → i < length (rowsOf l) → s ≡ wordAt l i 2 → g ≡ wordAt l i 3 → q ≡ rowAt l i .id .sequence
+pub id-is : (l : List ℕ) (i s g q : ℕ) → i < length (readRows l) → s ≡ wordAt l i 2 → g ≡ wordAt l i 3 → q ≡ rowAt l i .id .sequence
     → _≡_ {A = RequestId} (record { session = s; generation = g; sequence = q }) (rowAt l i .id)
-unfolding rowOf
+unfolding readRow
 id-is l i s g q h es eg eq =
     let a : s ≡ rowAt l i .id .session = es ∙ ap (λ (r : Row). r .id .session) (row-is l i h) in
     let b : g ≡ rowAt l i .id .generation = eg ∙ ap (λ (r : Row). r .id .generation) (row-is l i h) in
     λ k. record { session = a k; generation = b k; sequence = eq k }
 
-pub token-is : (l : List ℕ) (i w : ℕ) → i < length (rowsOf l) → w ≡ wordAt l i 17 → w ≡ rowAt l i .token
-unfolding rowOf
+pub token-is : (l : List ℕ) (i w : ℕ) → i < length (readRows l) → w ≡ wordAt l i 17 → w ≡ rowAt l i .token
+unfolding readRow
 token-is l i w h e = e ∙ ap (λ (r : Row). r .token) (row-is l i h)
 
 -- where there is no row i
-module _ (l : List ℕ) (i n : ℕ) (en : n ≡ length (rowsOf l)) (h : n ≤ i) where
+module _ (l : List ℕ) (i n : ℕ) (en : n ≡ length (readRows l)) (h : n ≤ i) where
   outside : rowAt l i ≡ emptyRow
-  outside = let q : length (rowsOf l) ≤ i = omega arith in List·getD-eq-default (rowsOf l) emptyRow q
+  outside = let q : length (readRows l) ≤ i = omega arith in List·getD-eq-default (readRows l) emptyRow q
 
-  pub id-out : _≡_ {A = RequestId} (record { session = 0; generation = 0; sequence = 0 }) (idIn (rowsOf l) i)
-  unfolding emptyRow rowOf
+  pub id-out : _≡_ {A = RequestId} (record { session = 0; generation = 0; sequence = 0 }) (idIn (readRows l) i)
+  unfolding emptyRow readRow
   id-out = sym (ap (λ (r : Row). r .id) outside)
 
-  pub token-out : 0 ≡ tokenIn (rowsOf l) i
-  unfolding emptyRow rowOf
+  pub token-out : 0 ≡ tokenIn (readRows l) i
+  unfolding emptyRow readRow
   token-out = sym (ap (λ (r : Row). r .token) outside)
 
 -- a status is a kind where it is not 0, and odd where the row is held
@@ -94,16 +94,16 @@ uncertain-kind (suc (suc (suc t))) r a b d e f =
 odd-word : (t : ℕ) → cond (eqb (t % 2) 1) 1 0 ≡ t % 2
 odd-word t = caseB (eqb (t % 2) 1) (λ y. rw y (sym (eqb-true (t % 2) 1 y))) (λ y. rw y (let n = eqb-false (t % 2) 1 y in omega arith))
 
-module _ (l : List ℕ) (i t : ℕ) (h : i < length (rowsOf l)) (et : t ≡ wordAt l i 1) where
+module _ (l : List ℕ) (i t : ℕ) (h : i < length (readRows l)) (et : t ≡ wordAt l i 1) where
   held-by : isHeld (rowAt l i) ≡ eqb (t % 2) 1
-  unfolding isHeld rowOf
+  unfolding isHeld readRow
   held-by = rw (← row-is l i h, ← et) (held-kind t (wordAt l i 22) (wordAt l i 20) (wordAt l i 21) (wordAt l i 23) (wordAt l i 24) (wordAt l i 25))
 
   pub held-is : eqb (t % 2) 1 ≡ isHeld (rowAt l i)
   held-is = sym held-by
 
   pub uncertain-is : (eqb (t % 2) 1 && not (eqb t 1)) ≡ isUncertain (rowAt l i)
-  unfolding isUncertain rowOf
+  unfolding isUncertain readRow
   uncertain-is = rw (← row-is l i h, ← et) (sym (uncertain-kind t (wordAt l i 22) (wordAt l i 20) (wordAt l i 21) (wordAt l i 23) (wordAt l i 24) (wordAt l i 25)))
 
   pub held-word : t % 2 ≡ cond (isHeld (rowAt l i)) 1 0

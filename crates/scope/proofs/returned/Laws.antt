@@ -13,7 +13,7 @@ use Rattle.chain.specs.Lists.{sumBy}
 use Rattle.chain.proofs.Lists.{sum-suc, sum-take}
 use Rattle.words.specs.Records.{tab, part}
 use Rattle.words.proofs.Records.{part-getD, length-tab, getD-tab, sum-tab}
-use Rattle.scope.specs.Returned.{completionWords, broughtOf, broughtAt, returnedAt, returnedOf, givenOf, listsAgree}
+use Rattle.scope.specs.Returned.{completionWords, readBrought, broughtAt, returnedAt, readReturned, givenOf, listsAgree}
 use Rattle.scope.specs.declared.returned.Brought.{Brought}
 
 -- what a tag r, read as v, says: x where it is k, y where not
@@ -26,12 +26,12 @@ module _ (A : Type 0) (x y z : A) (r v k : ℕ) where
 
 -- ---- one completion
 module _ (w : List ℕ) where
-  pub brought-is : (k : ℕ) (r : Brought) → r ≡ broughtOf (take (k * completionWords + completionWords - k * completionWords) (drop (k * completionWords) w)) → r ≡ broughtAt w k
+  pub brought-is : (k : ℕ) (r : Brought) → r ≡ readBrought (take (k * completionWords + completionWords - k * completionWords) (drop (k * completionWords) w)) → r ≡ broughtAt w k
   unfolding part broughtAt
   brought-is k r e = let z : k * completionWords + completionWords - k * completionWords ≡ completionWords = omega arith in e ∙ rw z
 
   pub given-is : (k : ℕ) → broughtAt w k .given ≡ getD w (k * completionWords + 10) 0
-  unfolding broughtOf broughtAt
+  unfolding readBrought broughtAt
   given-is k = part-getD 0 (k * completionWords) completionWords w 10 (omega arith)
 
   pub given-read : (k : ℕ) → getD w (k * completionWords + 10) 0 ≡ broughtAt w k .given
@@ -64,8 +64,8 @@ module _ (w : List ℕ) (n size sum k : ℕ) (e : sum ≡ sumBy own (take k (giv
   sum-end o = ap (λ (x : ℕ). eqb x size) (e ∙ ap (sumBy own) (take-all k (givens w n) (omega (arith, length-tab (broughtAt w) n))))
 
 -- ---- both lists
-pub given-sum : (tokens w : List ℕ) → sumBy givenOf (returnedOf tokens w) ≡ sumBy own (givens w (length tokens))
-unfolding returnedOf
+pub given-sum : (tokens w : List ℕ) → sumBy givenOf (readReturned tokens w) ≡ sumBy own (givens w (length tokens))
+unfolding readReturned
 given-sum tokens w = sum-tab givenOf (returnedAt tokens w) own (broughtAt w) (λ k. refl) (length tokens)
 
 module _ (tokens w : List ℕ) (size : ℕ) where

@@ -12,37 +12,79 @@ use mir.Syntax.{w64}
 use mir.Val.{Fits}
 use Rattle.chain.proofs.Chain.{both, fits-told}
 use Rattle.words.proofs.Records.{record-in}
-use Rattle.rows.specs.Table.{rowWords, rowCount, rowsOf}
-use Rattle.rows.proofs.Rows.{length-rowsOf}
+use Rattle.rows.specs.Table.{rowWords, rowCount, readRows}
+use Rattle.rows.proofs.Rows.{length-readRows}
 use Rattle.bus.specs.Layout.{busWords}
-use Rattle.session.specs.Sizes.{sized, rowsFit, areaFits, busFits, openFits}
-use Rattle.session.specs.declared.lifecycle.Opening.{Opening}
+use Rattle.session.specs.Sizes.{sized, rowsFit, areaFits, busFits, memorySizes, lentSizes}
+use Rattle.session.specs.declared.Size.{Size}
 
-pub product-small : (n b : ℕ) → n ≤ 1024 → b ≤ 65536 → n * b ≤ 67108864
-product-small n b h k = mul-le-mul h k
+-- 1 to 1,024 rows of 1 to 65,536 bytes
+pub record Sized (z : Size) : Type 0 where
+  pub some-rows : 1 ≤ z .«row_count»
+  pub few-rows : z .«row_count» ≤ 1024
+  pub some-bytes : 1 ≤ z .«row_bytes»
+  pub few-bytes : z .«row_bytes» ≤ 65536
 
-module _ (count bytes : ℕ) where
-  sized-is : sized count bytes ≡ true → (1 ≤ count) × (count ≤ 1024) × (1 ≤ bytes) × (bytes ≤ 65536)
+module _ (z : Size) where
+  sized-is : sized z ≡ true → Sized z
   sized-is e =
       let a = both _ _ e in
       let b = both _ _ (a .0) in
       let c = both _ _ (b .0) in
-      (leb-true _ _ (c .0), leb-true _ _ (c .1), leb-true _ _ (b .1), leb-true _ _ (a .1))
+      record { some-rows = leb-true _ _ (c .0); few-rows = leb-true _ _ (c .1); some-bytes = leb-true _ _ (b .1); few-bytes = leb-true _ _ (a .1) }
 
-  sized-last : (x y : ℕ) → (sized count bytes && eqb x y) ≡ true
-      → (1 ≤ count) × (count ≤ 1024) × (1 ≤ bytes) × (bytes ≤ 65536) × (x ≡ y)
-  sized-last x y e =
-      let a = both _ _ e in
-      let s = sized-is (a .0) in
-      (s .0, s .1, s .2, s .3, eqb-true _ _ (a .1))
+  pub product-small : Sized z → z .«row_count» * z .«row_bytes» ≤ 67108864
+  product-small s = mul-le-mul (s .few-rows) (s .few-bytes)
 
   -- the products of a size do not wrap
-  module _ (f : Bool) (e : f ≡ sized count bytes) (n : not f ≡ false) where
-    pub words-small : Fits w64 (count * rowWords)
-    words-small = omega (arith, sized-is (fits-told f _ e n))
+  module _ (f : Bool) (e : f ≡ sized z) (n : not f ≡ false) where
+    pub words-small : Fits w64 (z .«row_count» * rowWords)
+    words-small = omega (arith, sized-is (fits-told f _ e n) .few-rows)
 
-    pub area-small : Fits w64 (count * bytes)
-    area-small = let s = sized-is (fits-told f _ e n) in omega (arith, product-small count bytes (s .1) (s .3))
+    pub area-small : Fits w64 (z .«row_count» * z .«row_bytes»)
+    area-small = omega (arith, product-small (sized-is (fits-told f _ e n)))
+
+  -- the rows have their size
+  module _ (words : ℕ) (e : rowsFit z words ≡ true) where
+    pub rows-sized : Sized z
+    unfolding rowsFit
+    rows-sized = sized-is (both _ _ e .0)
+
+    pub rows-words : words ≡ z .«row_count» * rowWords
+    unfolding rowsFit
+    rows-words = eqb-true _ _ (both (sized z) _ e .1)
+
+  pub rows-number : (l : List ℕ) → rowsFit z (length l) ≡ true → length (readRows l) ≡ z .«row_count»
+  unfolding rowCount
+  rows-number l e = omega (arith, rows-words (length l) e, length-readRows l)
+
+  -- and the area, of which row i has a part
+  module _ (l : List ℕ) (area : ℕ) (e : memorySizes z (length l) area ≡ true) where
+    pub area-bytes : area ≡ z .«row_count» * z .«row_bytes»
+    unfolding areaFits
+    area-bytes = eqb-true _ _ (both (sized z) _ (both (rowsFit z (length l)) _ e .1) .1)
+
+    pub memory-rows : length (readRows l) ≡ z .«row_count»
+    memory-rows = rows-number l (both (rowsFit z (length l)) _ e .0)
+
+    module _ (i : ℕ) (h : i < length (readRows l)) where
+      pub place-in : i * z .«row_bytes» + z .«row_bytes» ≤ area
+      place-in = omega (arith, area-bytes, memory-rows, record-in (z .«row_bytes») (z .«row_count») i (omega (arith, h, memory-rows)))
+
+      pub place-small : i * z .«row_bytes» ≤ 67108864
+      place-small = omega (arith, area-bytes, place-in, product-small (rows-sized (length l) (both (rowsFit z (length l)) _ e .0)))
+
+  -- and the bus
+  module _ (words area bus : ℕ) (e : lentSizes z words area bus ≡ true) where
+    pub lent-memory : memorySizes z words area ≡ true
+    lent-memory = both (memorySizes z words area) (busFits bus) e .0
+
+    pub lent-bus : bus ≡ busWords
+    lent-bus = eqb-true _ _ (both (memorySizes z words area) (busFits bus) e .1)
+
+  -- a call f of the test that was found true
+  pub fit-bus : (words area bus : ℕ) (f : Bool) → f ≡ lentSizes z words area bus → not f ≡ false → bus ≡ busWords
+  fit-bus words area bus f e n = lent-bus words area bus (fits-told f _ e n)
 
 -- a test p, called s, before the last one
 module _ (s p t : Bool) (e : s ≡ p) where
@@ -51,35 +93,3 @@ module _ (s p t : Bool) (e : s ≡ p) where
 
   pub fit-last : not s ≡ false → t ≡ (p && t)
   fit-last n = rw (← e, not-false s n)
-
--- a call f of each test that was found true
-module _ (count bytes words : ℕ) (f : Bool) (e : f ≡ rowsFit count bytes words) (n : not f ≡ false) where
-  pub fit-rows : (1 ≤ count) × (count ≤ 1024) × (1 ≤ bytes) × (bytes ≤ 65536) × (words ≡ count * rowWords)
-  unfolding rowsFit
-  fit-rows = sized-last count bytes _ _ (fits-told f _ e n)
-
-pub rows-of-fit : (count bytes : ℕ) (l : List ℕ) (f : Bool) → f ≡ rowsFit count bytes (length l) → not f ≡ false → length (rowsOf l) ≡ count
-unfolding rowCount
-rows-of-fit count bytes l f e n = omega (arith, fit-rows count bytes (length l) f e n, length-rowsOf l)
-
-pub row-below : (count bytes : ℕ) (l : List ℕ) (f : Bool) (i : ℕ) → f ≡ rowsFit count bytes (length l) → not f ≡ false → i < length (rowsOf l) → i < count
-row-below count bytes l f i e n h = omega (arith, rows-of-fit count bytes l f e n)
-
-module _ (count bytes area : ℕ) (f : Bool) (e : f ≡ areaFits count bytes area) (n : not f ≡ false) where
-  pub fit-area : (1 ≤ count) × (count ≤ 1024) × (1 ≤ bytes) × (bytes ≤ 65536) × (area ≡ count * bytes)
-  unfolding areaFits
-  fit-area = sized-last count bytes _ _ (fits-told f _ e n)
-
-  -- the bytes of row i
-  module _ (i : ℕ) (h : i < count) where
-    pub area-in : i * bytes + bytes ≤ area
-    area-in = omega (arith, fit-area, record-in bytes count i h)
-
-    pub place-small : i * bytes ≤ 67108864
-    place-small = let s = fit-area in omega (arith, record-in bytes count i h, product-small count bytes (s .1) (s .3))
-
-pub fit-open : (o : Opening) (words area bus : ℕ) (f : Bool) → f ≡ openFits o words area bus → not f ≡ false → bus ≡ busWords
-unfolding openFits
-fit-open o words area bus f e n =
-    let a = both (rowsFit (o .«row_count») (o .«row_bytes») words && areaFits (o .«row_count») (o .«row_bytes») area) (busFits bus) (fits-told f _ e n) in
-    eqb-true _ _ (a .1)

@@ -7,11 +7,11 @@ use native.Mathlib.Omega.{arith}
 use borrow.Author.Tests.{eq-eqb, ne-eqb}
 use Rattle.chain.proofs.Chain.{takes, passes, eq-not, ne-not}
 use Rattle.words.specs.Records.{splice}
-use Rattle.words.specs.Words.{optionU64Of, optionU64Words}
+use Rattle.words.specs.Words.{readOptionU64, optionU64Words}
 use Rattle.words.specs.declared.OptionU64.{OptionU64}
 use Rattle.words.specs.declared.OptionWords.{OptionWords}
 use Rattle.words.proofs.Options.{low}
-use Rattle.models.specs.Codes.{controllerOf, controllerWord}
+use Rattle.models.specs.Codes.{readController, controllerWord}
 use Rattle.models.specs.declared.DeviceId.{DeviceId}
 use Rattle.models.specs.declared.ControllerState.{ControllerState}
 use Rattle.models.specs.declared.OptionPorts.{OptionPorts}
@@ -25,7 +25,7 @@ use Rattle.session.specs.declared.OptionStall.the-variants as stall
 use Rattle.session.specs.declared.RecoverableStall.{RecoverableStall}
 use Rattle.session.specs.declared.RecoveryKind.{RecoveryKind}
 use Rattle.session.specs.declared.Session.{Session}
-use Rattle.session_words.specs.State.{readPorts, portsWords, deviceOf, requestOf, readStall, stallWords, readKind, readFlight, readDeviceId, readRequestId, portsIn, stallIn, flightIn, recoveryFlight, flightWords, sessionOf, sessionWords, portsTail, revisionTail, stallTail, flightTail, Kept, keptOf, keptAs}
+use Rattle.session_words.specs.State.{readPorts, portsWords, readDeviceWords, readRequestWords, readStall, stallWords, readKind, readFlight, readDeviceId, readRequestId, portsIn, stallIn, flightIn, recoveryFlight, flightWords, readSession, sessionWords, portsTail, revisionTail, stallTail, flightTail, Kept, keptOf, keptAs}
 use Rattle.session_words.specs.declared.state.FlightWords.{FlightWords}
 use Rattle.session_words.specs.declared.state.PortsWords.{PortsWords}
 use Rattle.session_words.specs.declared.state.StallWords.{StallWords}
@@ -34,13 +34,13 @@ pub ports-back : (p : Ports) → p .count < 2 ^ 8 → readPorts 1 (p .session) (
 ports-back p h = simp (low 8 h)
 
 pub stall-back : (x : RecoverableStall) → x .device .slot < 2 ^ 8 → x .endpoint < 2 ^ 8
-    → readStall 1 (x .revision) (deviceOf (x .device .session) (x .device .generation) (x .device .slot)) (x .endpoint) ≡ stall.Some x
+    → readStall 1 (x .revision) (readDeviceWords (x .device .session) (x .device .generation) (x .device .slot)) (x .endpoint) ≡ stall.Some x
 stall-back x h k = simp (low 8 h, low 8 k)
 
 -- what is in flight, from its words
 abbrev flightBy : FlightWords → InFlight
 flightBy f =
-    readFlight (f .tag) (requestOf (f .session) (f .generation) (f .sequence)) (deviceOf (f .«device_session») (f .«device_generation») (f .slot)) (f .endpoint)
+    readFlight (f .tag) (readRequestWords (f .session) (f .generation) (f .sequence)) (readDeviceWords (f .«device_session») (f .«device_generation») (f .slot)) (f .endpoint)
     (f .kind)
 
 pub recovery-back : (id : RequestId) (d : DeviceId) (e : ℕ) (k : RecoveryKind) (f : FlightWords) → d .slot < 2 ^ 8 → e < 2 ^ 8
@@ -56,11 +56,11 @@ module _ (s : Session) (p : PortsWords) (c : ℕ) (r : OptionWords) (x : StallWo
       s .number ∷ s .generation ∷ s .«next_sequence»
       ∷ portsTail p (c ∷ revisionTail r (stallTail x (flightTail f (s .«row_count» ∷ s .«row_bytes» ∷ []))))
 
-  pub session-back : readPorts (p .present) (p .session) (p .count) ≡ s .ports → controllerOf c ≡ s .state
-      → optionU64Of (r .present) (r .value) ≡ s .«recovery_revision»
-      → readStall (x .present) (x .revision) (deviceOf (x .session) (x .generation) (x .slot)) (x .endpoint) ≡ s .«recoverable_stall»
-      → flightBy f ≡ s .«in_flight» → sessionOf wordsBy ≡ s
-  unfolding sessionOf
+  pub session-back : readPorts (p .present) (p .session) (p .count) ≡ s .ports → readController c ≡ s .state
+      → readOptionU64 (r .present) (r .value) ≡ s .«recovery_revision»
+      → readStall (x .present) (x .revision) (readDeviceWords (x .session) (x .generation) (x .slot)) (x .endpoint) ≡ s .«recoverable_stall»
+      → flightBy f ≡ s .«in_flight» → readSession wordsBy ≡ s
+  unfolding readSession
   session-back ep ec er ex ef = simp (ep, ec, er, ex, ef)
 
   pub session-exact : p ≡ portsWords (s .ports) → c ≡ controllerWord (s .state) → r ≡ optionU64Words (s .«recovery_revision»)
@@ -89,7 +89,7 @@ module _ (l : List ℕ) (tag : ℕ) (et : tag ≡ getD l 15 0) where
 -- a session that is read from its words
 pub session-read : (l : List ℕ) (number generation sequence state present value count bytes : ℕ) (p : OptionPorts) (c : ControllerState) (r : OptionU64)
     (x : OptionStall) (f : InFlight) → number ≡ getD l 0 0 → generation ≡ getD l 1 0 → sequence ≡ getD l 2 0 → p ≡ portsIn l
-    → c ≡ controllerOf state → state ≡ getD l 6 0 → r ≡ optionU64Of present value → present ≡ getD l 7 0 → value ≡ getD l 8 0
+    → c ≡ readController state → state ≡ getD l 6 0 → r ≡ readOptionU64 present value → present ≡ getD l 7 0 → value ≡ getD l 8 0
     → x ≡ stallIn l → f ≡ flightIn l → count ≡ getD l 24 0 → bytes ≡ getD l 25 0
     → _≡_ {A = Session} (record {
       number = number;
@@ -102,8 +102,8 @@ pub session-read : (l : List ℕ) (number generation sequence state present valu
       «in_flight» = f;
       «row_count» = count;
       «row_bytes» = bytes;
-    }) (sessionOf l)
-unfolding sessionOf
+    }) (readSession l)
+unfolding readSession
 session-read l _ _ _ _ _ _ _ _ _ _ _ _ _ e₀ e₁ e₂ ep ec e₆ er e₇ e₈ ex ef en eb = rw (e₀, e₁, e₂, ep, ec, e₆, er, e₇, e₈, ex, ef, en, eb)
 
 -- a session written to its words
@@ -112,10 +112,10 @@ module _ (l : List ℕ) (s : Session) where
   unfolding keptAs
   kept-out h = takes Kept _ _ _ _ (ne-not _ _ h) refl
 
-  pub kept-in : (next after : List ℕ) → length l ≡ 26 → sessionOf next ≡ s → next ≡ sessionWords s → after ≡ splice 0 (take 26 next) l
+  pub kept-in : (next after : List ℕ) → length l ≡ 26 → readSession next ≡ s → next ≡ sessionWords s → after ≡ splice 0 (take 26 next) l
       → keptOf after ≡ keptAs l s
   unfolding keptAs keptOf sessionWords splice
   kept-in next after h eb en ea =
       let k : length l ≤ 26 = omega arith in
       let z : after ≡ sessionWords s = ea ∙ rw (en, drop-of-length-le l k) in
-      passes Kept _ _ _ _ (eq-not _ _ h) (rw (z, ap sessionOf (sym en) ∙ eb))
+      passes Kept _ _ _ _ (eq-not _ _ h) (rw (z, ap readSession (sym en) ∙ eb))

@@ -13,7 +13,7 @@ use Rattle.models.specs.declared.Refusal.{Refusal}
 use Rattle.models.specs.declared.RequestId.{RequestId}
 use Rattle.models.specs.declared.Verdict.{Verdict}
 use Rattle.models.specs.declared.Verdict.the-variants as verdict
-use Rattle.rows.specs.Table.{rowsOf}
+use Rattle.rows.specs.Table.{readRows}
 use Rattle.rows.specs.Store.{Store, storeOf}
 use Rattle.rows.specs.declared.Row.{Row}
 use Rattle.bus.specs.Tables.{Bus}
@@ -75,7 +75,7 @@ module _ (s : Session) (q : ControlPlan) (bytes : List ℕ) (first : PortReading
     unfolding submitPlanOf planBy
     plan-stop store x r e ex = ap (λ (z : PlanSubmitted). planTo z b store area) ex ∙ rw (← ev, e)
 
-    pub plan-on : (l : List ℕ) (o : PlanTo) → v ≡ verdict.Pass → o ≡ planRoomBy (roomIn (rowsOf l)) s q bytes first b (storeOf l) area
+    pub plan-on : (l : List ℕ) (o : PlanTo) → v ≡ verdict.Pass → o ≡ planRoomBy (roomIn (readRows l)) s q bytes first b (storeOf l) area
         → o ≡ submitPlanOf s fits q bytes first b (storeOf l) area
     unfolding submitPlanOf planBy storeOf
     plan-on l o e h = h ∙ rw (← ev, e)

@@ -14,7 +14,7 @@ use Rattle.models.specs.declared.RequestMetadata.{RequestMetadata}
 use Rattle.models.specs.declared.RequestSpec.{RequestSpec}
 use Rattle.models.specs.declared.Verdict.{Verdict}
 use Rattle.models.specs.declared.Verdict.the-variants as verdict
-use Rattle.rows.specs.Table.{rowsOf}
+use Rattle.rows.specs.Table.{readRows}
 use Rattle.rows.specs.Store.{Store, storeOf}
 use Rattle.rows.specs.declared.Row.{Row}
 use Rattle.bus.specs.Tables.{Bus}
@@ -86,7 +86,7 @@ module _ (s : Session) (q : RequestSpec) (bytes : List ℕ) (given : Bool) (firs
     packets-stop store x v r ev e ex = ap (λ (z : Submitted). submitTo z b store area) ex ∙ rw (← ev, e)
 
     pub packets-on : (l : List ℕ) (v : Verdict) (o : SubmitTo) → v ≡ packetsChecked given packets (q .«transfer_type») (q .length) → v ≡ verdict.Pass
-        → o ≡ roomBy (roomIn (rowsOf l)) s q bytes given first second b (storeOf l) area
+        → o ≡ roomBy (roomIn (readRows l)) s q bytes given first second b (storeOf l) area
         → o ≡ packetsBy (packetsChecked given packets (q .«transfer_type») (q .length)) s q bytes given first second b (storeOf l) area
     unfolding packetsBy storeOf
     packets-on l v o ev e h = h ∙ rw (← ev, e)

@@ -3,6 +3,7 @@ use Prim.Native.Nat.{ℕ}
 use mathlib.Core.Bool.{Bool, true, false, not, _&&_}
 use mathlib.Core.Path.{_≡_, refl, ap, sym, _∙_}
 use lib.Dec.{eqb}
+use Rattle.chain.specs.After.{After, after}
 use Rattle.chain.proofs.Chain.{takes, passes, not-through}
 use Rattle.models.specs.Kinds.{isControl, isBulk, isPrepared, isConfigured}
 use Rattle.models.specs.Refusals.{rejected}
@@ -20,11 +21,12 @@ use Rattle.models.specs.declared.Verdict.{Verdict}
 use Rattle.models.specs.declared.Verdict.the-variants as verdict
 use Rattle.standards.specs.Ports.{portSpeed}
 use Rattle.bus.specs.Tables.{Bus, deviceAt, markAt}
-use Rattle.bus.specs.Ports.{VerdictTo, verdictTo, freshTo, freshPort}
+use Rattle.bus.specs.Ports.{freshPort}
 use Rattle.bus.specs.Endpoints.{hasEndpoint}
 use Rattle.bus.specs.declared.ports.PortChecked.{PortChecked}
 use Rattle.bus.specs.declared.ports.PortChecked.the-variants as checked
-use Rattle.targets.specs.Target.{refusedDevice, knownBy, knownDevice, preparedDevice, deviceTo, freshDevice, checkDeviceBy, checkDevice, speedChecked, endpointBy, checkEndpoint, checkTargetBy, checkTarget}
+use Rattle.targets.specs.Target.{refusedDevice, knownBy, knownDevice, preparedDevice, freshDevice, checkDeviceBy, checkDevice, speedChecked, endpointBy, checkEndpoint, checkTargetBy, checkTarget}
+use Rattle.targets.specs.declared.Readings.{Readings}
 use Rattle.targets.specs.declared.target.DeviceChecked.{DeviceChecked}
 use Rattle.targets.specs.declared.target.DeviceChecked.the-variants as answer
 
@@ -76,21 +78,21 @@ module _ (p : PortChecked) (d : DeviceSnapshot) where
     prepared-ready e = rw ep (passes DeviceChecked _ _ _ _ (not-through t _ false et e) refl)
 
 -- the port's reading, then 35
-pub fresh-is : (o : OptionPorts) (d : DeviceSnapshot) (reading : PortReading) (b after : Bus) (p : PortChecked) (r : DeviceChecked)
-    → freshTo p after ≡ freshPort o (d .port) reading b → r ≡ preparedDevice p d → deviceTo r after ≡ freshDevice o d reading b
+pub fresh-is : (o : OptionPorts) (d : DeviceSnapshot) (reading : PortReading) (b left : Bus) (p : PortChecked) (r : DeviceChecked)
+    → after p left ≡ freshPort o (d .port) reading b → r ≡ preparedDevice p d → after r left ≡ freshDevice o d reading b
 unfolding freshDevice
-fresh-is o d reading b after p r e er = rw (er, ← e)
+fresh-is o d reading b left p r e er = rw (er, ← e)
 
 -- 26 to 35
 module _ (i : Bool) (o : OptionPorts) (id : DeviceId) (reading : PortReading) (b : Bus) (k : DeviceChecked) (ek : k ≡ knownDevice i id b) where
-  pub device-refused : (r : Refusal) → k ≡ answer.Refused r → deviceTo (answer.Refused r) b ≡ checkDevice i o id reading b
+  pub device-refused : (r : Refusal) → k ≡ answer.Refused r → after (answer.Refused r) b ≡ checkDevice i o id reading b
   unfolding checkDevice checkDeviceBy
   device-refused r e = rw (← ek, e)
 
-  pub device-fresh : (d : DeviceSnapshot) (r : DeviceChecked) (after : Bus) → k ≡ answer.Ready d → deviceTo r after ≡ freshDevice o d reading b
-      → deviceTo r after ≡ checkDevice i o id reading b
+  pub device-fresh : (d : DeviceSnapshot) (r : DeviceChecked) (left : Bus) → k ≡ answer.Ready d → after r left ≡ freshDevice o d reading b
+      → after r left ≡ checkDevice i o id reading b
   unfolding checkDevice checkDeviceBy
-  device-fresh d r after e er = er ∙ rw (← ek, e)
+  device-fresh d r left e er = er ∙ rw (← ek, e)
 
 -- 37 and 38
 module _ (raw slot endpoint : ℕ) (type : TransferType) (b : Bus) (speed : ℕ) (bulk : Bool) (es : speed ≡ portSpeed raw) (eb : bulk ≡ isBulk type) where
@@ -120,33 +122,33 @@ module _ (p : PortChecked) (m : RequestMetadata) (b : Bus) where
 
 -- 36, then the second reading
 module _ (o : OptionPorts) (d : DeviceSnapshot) (m : RequestMetadata) (reading : PortReading) (b : Bus) (t : Bool) (et : t ≡ isConfigured (d .state)) where
-  pub endpoint-early : (r : Verdict) → not t ≡ true → r ≡ rejected 36 → verdictTo r b ≡ checkEndpoint o d m reading b
+  pub endpoint-early : (r : Verdict) → not t ≡ true → r ≡ rejected 36 → after r b ≡ checkEndpoint o d m reading b
   unfolding checkEndpoint
-  endpoint-early r e er = takes VerdictTo _ _ _ _ (not-through t _ true et e) (rw er)
+  endpoint-early r e er = takes (After Verdict Bus) _ _ _ _ (not-through t _ true et e) (rw er)
 
-  pub endpoint-read : (p : PortChecked) (after : Bus) (r : Verdict) → not t ≡ false → freshTo p after ≡ freshPort o (d .port) reading b
-      → r ≡ endpointBy p m after → verdictTo r after ≡ checkEndpoint o d m reading b
+  pub endpoint-read : (p : PortChecked) (left : Bus) (r : Verdict) → not t ≡ false → after p left ≡ freshPort o (d .port) reading b
+      → r ≡ endpointBy p m left → after r left ≡ checkEndpoint o d m reading b
   unfolding checkEndpoint
-  endpoint-read p after r e ef er = passes VerdictTo _ _ _ _ (not-through t _ false et e) (rw (er, ← ef))
+  endpoint-read p left r e ef er = passes (After Verdict Bus) _ _ _ _ (not-through t _ false et e) (rw (er, ← ef))
 
 -- what follows the device's check
 module _ (k : DeviceChecked) (o : OptionPorts) (m : RequestMetadata) (second : PortReading) (b : Bus) where
-  pub after-refused : (r : Refusal) → k ≡ answer.Refused r → verdictTo (verdict.Refused r) b ≡ checkTargetBy k o m second b
+  pub after-refused : (r : Refusal) → k ≡ answer.Refused r → after (verdict.Refused r) b ≡ checkTargetBy k o m second b
   unfolding checkTargetBy
   after-refused r e = rw e
 
   module _ (d : DeviceSnapshot) (ek : k ≡ answer.Ready d) (t : Bool) (et : t ≡ isControl (m .«transfer_type»)) where
-    pub after-control : t ≡ true → verdictTo verdict.Pass b ≡ checkTargetBy k o m second b
+    pub after-control : t ≡ true → after verdict.Pass b ≡ checkTargetBy k o m second b
     unfolding checkTargetBy
-    after-control e = rw ek (takes VerdictTo _ _ _ _ (sym et ∙ e) refl)
+    after-control e = rw ek (takes (After Verdict Bus) _ _ _ _ (sym et ∙ e) refl)
 
-    pub after-other : (r : Verdict) (after : Bus) → t ≡ false → verdictTo r after ≡ checkEndpoint o d m second b
-        → verdictTo r after ≡ checkTargetBy k o m second b
+    pub after-other : (r : Verdict) (left : Bus) → t ≡ false → after r left ≡ checkEndpoint o d m second b
+        → after r left ≡ checkTargetBy k o m second b
     unfolding checkTargetBy
-    after-other r after e er = rw ek (passes VerdictTo _ _ _ _ (sym et ∙ e) er)
+    after-other r left e er = rw ek (passes (After Verdict Bus) _ _ _ _ (sym et ∙ e) er)
 
-pub target-is : (i : Bool) (o : OptionPorts) (m : RequestMetadata) (first second : PortReading) (b middle after : Bus) (k : DeviceChecked) (r : Verdict)
-    → deviceTo k middle ≡ checkDevice i o (m .device) first b → verdictTo r after ≡ checkTargetBy k o m second middle
-    → verdictTo r after ≡ checkTarget i o m first second b
+pub target-is : (i : Bool) (o : OptionPorts) (m : RequestMetadata) (x : Readings) (b middle left : Bus) (k : DeviceChecked) (r : Verdict)
+    → after k middle ≡ checkDevice i o (m .device) (x .first) b → after r left ≡ checkTargetBy k o m (x .second) middle
+    → after r left ≡ checkTarget i o m x b
 unfolding checkTarget
-target-is i o m first second b middle after k r e er = er ∙ rw (← e)
+target-is i o m x b middle left k r e er = er ∙ rw (← e)

@@ -1,4 +1,4 @@
-use Rattle.words.specs.Words.{optionI32Of}
+use Rattle.words.specs.Words.{readOptionI32}
 use Rattle.words.proofs.Signed.{option-back, option-exact}
 use mathlib.Core.Path.{sym, _∙_}
 use borrow.Author.Needs.{needs}
@@ -6,7 +6,7 @@ use Rattle.words.proofs.option_i32_word.Statement.{statement}
 use Rattle.words.proofs.option_i32_word.Tie as tie
 
 returns : tie.Need-returns
-unfolding optionI32Of
+unfolding readOptionI32
 returns c = (sym (c .enum-told .given .1), rw (c .enum-told .given .1))
 
 returns-2 : tie.Need-returns-2

@@ -1,12 +1,12 @@
 use borrow.Author.Needs.{needs}
 use Prim.Native.Nat.{_-_}
-use Rattle.rows.specs.Table.{rowsOf}
+use Rattle.rows.specs.Table.{readRows}
 use Rattle.reports.proofs.status.Laws.{Leads, best-on, best-end}
 use Rattle.reports.proofs.status.best_of.Statement.{statement}
 use Rattle.reports.proofs.status.best_of.Tie as tie
 
 abbrev Inv-loop : tie.InvT-loop
-Inv-loop rows flight after n best₀ i₀ best i = Leads flight after (rowsOf rows) n i best
+Inv-loop rows flight after n best₀ i₀ best i = Leads flight after (readRows rows) n i best
 
 abbrev μ-loop : tie.MeasureT-loop
 μ-loop rows flight after n best₀ i₀ best i = n - i

@@ -1,12 +1,12 @@
 use borrow.Author.Needs.{needs}
 use Prim.Native.Nat.{_-_}
-use Rattle.rows.specs.Table.{rowsOf}
+use Rattle.rows.specs.Table.{readRows}
 use Rattle.reports.proofs.status.Laws.{Counted, shown-most, count-on, count-end}
 use Rattle.reports.proofs.status.count_shown.Statement.{statement}
 use Rattle.reports.proofs.status.count_shown.Tie as tie
 
 abbrev Inv-loop : tie.InvT-loop
-Inv-loop rows flight n total₀ i₀ total i = Counted flight (rowsOf rows) n i total
+Inv-loop rows flight n total₀ i₀ total i = Counted flight (readRows rows) n i total
 
 abbrev μ-loop : tie.MeasureT-loop
 μ-loop rows flight n total₀ i₀ total i = n - i

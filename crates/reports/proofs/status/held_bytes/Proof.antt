@@ -1,12 +1,15 @@
 use Rattle.reports.proofs.status.Laws.{bytes-unfit, bytes-on}
+use Rattle.rows.specs.Store.{storeOf}
 use borrow.Author.Needs.{needs}
 use Rattle.reports.proofs.status.held_bytes.Statement.{statement}
 use Rattle.reports.proofs.status.held_bytes.Tie as tie
 
 returns : tie.Need-returns
+unfolding storeOf
 returns c = search bytes-unfit
 
 returns-2 : tie.Need-returns-2
+unfolding storeOf
 returns-2 c = search bytes-on
 
 pub held-bytes-spec : {M : Type 1} → statement M

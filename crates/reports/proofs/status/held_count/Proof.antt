@@ -1,12 +1,15 @@
 use Rattle.reports.proofs.status.Laws.{held-unfit, held-on}
+use Rattle.rows.specs.Store.{storeOf}
 use borrow.Author.Needs.{needs}
 use Rattle.reports.proofs.status.held_count.Statement.{statement}
 use Rattle.reports.proofs.status.held_count.Tie as tie
 
 returns : tie.Need-returns
+unfolding storeOf
 returns c = search held-unfit
 
 returns-2 : tie.Need-returns-2
+unfolding storeOf
 returns-2 c = search held-on
 
 pub held-count-spec : {M : Type 1} → statement M

@@ -1,18 +1,22 @@
 use Rattle.reports.proofs.status.Laws.{shown-in, status-unfit, status-none, status-at}
+use Rattle.rows.specs.Store.{storeOf}
 use borrow.Author.Needs.{needs}
 use Rattle.reports.proofs.status.request_status.Statement.{statement}
 use Rattle.reports.proofs.status.request_status.Tie as tie
 
 returns : tie.Need-returns
+unfolding storeOf
 returns c = search status-unfit
 
 returns-2 : tie.Need-returns-2
+unfolding storeOf
 returns-2 c = search status-none
 
 read-row-requires : tie.Need-read-row-requires
 read-row-requires c κs = search shown-in
 
 returns-3 : tie.Need-returns-3
+unfolding storeOf
 returns-3 c = search status-at
 
 pub request-status-spec : {M : Type 1} → statement M

@@ -1,10 +1,10 @@
 use borrow.Author.Needs.{needs}
-use Rattle.scope.specs.Returned.{broughtOf}
+use Rattle.scope.specs.Returned.{readBrought}
 use Rattle.scope.proofs.returned.decode.Statement.{statement}
 use Rattle.scope.proofs.returned.decode.Tie as tie
 
 pub decode-spec : {M : Type 1} → statement M
-unfolding broughtOf
+unfolding readBrought
 decode-spec =
     tie.close
     (tie.spec
