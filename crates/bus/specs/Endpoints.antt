@@ -9,6 +9,7 @@ use Rattle.chain.specs.After.{After, after}
 use Rattle.chain.specs.Lists.{anyIn}
 use Rattle.models.specs.Refusals.{refusalOf}
 use Rattle.models.specs.declared.TransferType.{TransferType}
+use Rattle.models.specs.declared.Verdict.{Verdict}
 use Rattle.models.specs.declared.Verdict.the-variants as verdict
 use Rattle.bus.specs.Layout.{endpointWord}
 use Rattle.bus.specs.Tables.{Bus, endpointsAt, putEndpoints}

@@ -17,6 +17,7 @@ use Rattle.words.proofs.Records.{part-getD, part-first, part-length, chunks-at}
 use Rattle.models.specs.Refusals.{refusalOf}
 use Rattle.models.specs.declared.Refusal.{Refusal}
 use Rattle.models.specs.declared.TransferType.{TransferType}
+use Rattle.models.specs.declared.Verdict.{Verdict}
 use Rattle.models.specs.declared.Verdict.the-variants as verdict
 use Rattle.bus.specs.Layout.{listsAt, busWords, endpointWord, readEndpoints}
 use Rattle.bus.specs.Tables.{Bus, busOf, endpointsAt}
