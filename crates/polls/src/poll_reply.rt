@@ -183,12 +183,12 @@ fn store_data(area: &mut [u8], size: Size, place: Place, bytes: &[u8], stored: b
 // The one place where a poll's reply changes rows and area. `idle` is the session without the poll.
 fn settle(
     j: Judgement,
-    row: Row,
-    place: Place,
-    bytes: &[u8],
     idle: Session,
+    row: Row,
     rows: &mut [u64],
     area: &mut [u8],
+    place: Place,
+    bytes: &[u8],
 ) -> Reported
     requires { ⌜ (place .row < length (readRows (now rows))) × (place .start + idle .size .«row_bytes» ≤ length (now area)) ⌝ }
     ensures { λ r. ⌜ after r (memoryOut rows area)
@@ -213,12 +213,12 @@ fn settle(
 
 // The place's row has the polled id.
 fn reply_at(
-    reply: PollReply,
-    place: Place,
-    bytes: &[u8],
     idle: Session,
     rows: &mut [u64],
     area: &mut [u8],
+    place: Place,
+    reply: PollReply,
+    bytes: &[u8],
 ) -> Reported
     requires { ⌜ (place .row < length (readRows (now rows))) × (place .start + idle .size .«row_bytes» ≤ length (now area)) ⌝ }
     ensures { λ r. ⌜ after r (memoryOut rows area)
@@ -236,19 +236,19 @@ fn reply_at(
         }
         PollReply::Completion(completion) => {
             let j = judge(idle, row, completion, bytes.len() as u64);
-            settle(j, row, place, bytes, idle, rows, area)
+            settle(j, idle, row, rows, area, place, bytes)
         }
     }
 }
 
 // 3; 2: no row has the id.
 fn reply_found(
-    id: RequestId,
-    reply: PollReply,
-    bytes: &[u8],
     session: Session,
     rows: &mut [u64],
     area: &mut [u8],
+    id: RequestId,
+    reply: PollReply,
+    bytes: &[u8],
 ) -> Reported
     ensures { λ r. ⌜ after r (memoryOut rows area) ≡ pollReplyFound id reply (now (bytes .entry)) session (memoryIn rows area) ⌝ }
 {
@@ -262,7 +262,7 @@ fn reply_found(
     };
     let start = i * size.row_bytes as usize;
     let idle = session::with_flight(session, InFlight::Nothing);
-    reply_at(reply, Place { row: i, start }, bytes, idle, rows, area)
+    reply_at(idle, rows, area, Place { row: i, start }, reply, bytes)
 }
 
 // 2: no poll is in flight; 3; 2: no row has its id. Else the operation ends.
@@ -279,7 +279,7 @@ pub fn poll_reply(
     match flight {
         InFlight::Nothing => answers::refused_by(session, 2),
         InFlight::Submission(_) => answers::refused_by(session, 2),
-        InFlight::Poll(id) => reply_found(id, reply, bytes, session, rows, area),
+        InFlight::Poll(id) => reply_found(session, rows, area, id, reply, bytes),
         InFlight::Recovery(_) => answers::refused_by(session, 2),
     }
 }
