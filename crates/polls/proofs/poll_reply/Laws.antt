@@ -40,7 +40,6 @@ use Rattle.checks.specs.declared.completion.CompletionTest.the-variants as test
 use Rattle.session.specs.Session.{marked, withFlight, withStall}
 use Rattle.session.specs.Sizes.{memorySizes, placeOf}
 use Rattle.session.specs.Lent.{Memory, memory, memoryFits}
-use Rattle.session.specs.declared.InFlight.{InFlight}
 use Rattle.session.specs.declared.InFlight.the-variants as flight
 use Rattle.session.specs.declared.OptionStall.{OptionStall}
 use Rattle.session.specs.declared.OptionStall.the-variants as stall
@@ -191,21 +190,17 @@ idle-place s idle w size f ef t p g i eg e ei = rw ei (found-place (s .size) w s
 -- by what is in flight
 module _ (r : PollReply) (bytes : List ℕ) (s : Session) (m : Memory) where
   module _ (x : Reported) (ex : x ≡ reportRefused s (refusalOf 2)) where
-    refused-in : pollReplyIn (s .«in_flight») r bytes s m ≡ after (reportRefused s (refusalOf 2)) m → after x m ≡ pollReplyOf r bytes s m
-    unfolding pollReplyOf
-    refused-in e = rw ex (sym e)
-
     pub reply-idle : s .«in_flight» ≡ flight.Nothing → after x m ≡ pollReplyOf r bytes s m
     unfolding pollReplyOf pollReplyIn
-    reply-idle e = refused-in (ap (λ (f : InFlight). pollReplyIn f r bytes s m) e)
+    reply-idle e = rw (ex, e)
 
     pub reply-submission : (id : RequestId) → s .«in_flight» ≡ flight.Submission id → after x m ≡ pollReplyOf r bytes s m
     unfolding pollReplyOf pollReplyIn
-    reply-submission id e = refused-in (ap (λ (f : InFlight). pollReplyIn f r bytes s m) e)
+    reply-submission id e = rw (ex, e)
 
     pub reply-recovery : (v : Recovery) → s .«in_flight» ≡ flight.Recovery v → after x m ≡ pollReplyOf r bytes s m
     unfolding pollReplyOf pollReplyIn
-    reply-recovery v e = refused-in (ap (λ (f : InFlight). pollReplyIn f r bytes s m) e)
+    reply-recovery v e = rw (ex, e)
 
   pub reply-on : (id : RequestId) (y : After Reported Memory) → s .«in_flight» ≡ flight.Poll id → y ≡ pollReplyFound id r bytes s m → y ≡ pollReplyOf r bytes s m
   unfolding pollReplyOf pollReplyIn
