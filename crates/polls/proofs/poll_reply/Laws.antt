@@ -40,6 +40,7 @@ use Rattle.checks.specs.declared.completion.CompletionTest.the-variants as test
 use Rattle.session.specs.Session.{marked, withFlight, withStall}
 use Rattle.session.specs.Sizes.{memorySizes, placeOf}
 use Rattle.session.specs.Lent.{Memory, memory, memoryFits}
+use Rattle.session.specs.declared.InFlight.{InFlight}
 use Rattle.session.specs.declared.InFlight.the-variants as flight
 use Rattle.session.specs.declared.OptionStall.{OptionStall}
 use Rattle.session.specs.declared.OptionStall.the-variants as stall
@@ -181,11 +182,11 @@ module _ (id : RequestId) (r : PollReply) (bytes : List ℕ) (s : Session) (m : 
     unfolding pollReplyFound pollReplyBy
     found-at i idle y e ei ey = passes (After Reported Memory) _ _ _ _ (not-through f _ false ef t) (ey ∙ rw (sym eg ∙ e, ei))
 
--- the session without the poll has the same sizes
-pub idle-place : (s idle : Session) (w : List ℕ) (size : ℕ) (f : Bool) → f ≡ memorySizes (s .size) (length w) size → not f ≡ false
-    → (p : Row → Bool) (g : Found) (i : ℕ) → g ≡ foundIn p (readRows w) → g ≡ found.At i → idle ≡ withFlight s flight.Nothing
+-- the session with another operation in flight, or none, has the same sizes
+pub idle-place : (s idle : Session) (k : InFlight) (w : List ℕ) (size : ℕ) (f : Bool) → f ≡ memorySizes (s .size) (length w) size → not f ≡ false
+    → (p : Row → Bool) (g : Found) (i : ℕ) → g ≡ foundIn p (readRows w) → g ≡ found.At i → idle ≡ withFlight s k
     → i * s .size .«row_bytes» + idle .size .«row_bytes» ≤ size
-idle-place s idle w size f ef t p g i eg e ei = rw ei (found-place (s .size) w size f ef t p g i eg e)
+idle-place s idle k w size f ef t p g i eg e ei = rw ei (found-place (s .size) w size f ef t p g i eg e)
 
 -- by what is in flight
 module _ (r : PollReply) (bytes : List ℕ) (s : Session) (m : Memory) where
