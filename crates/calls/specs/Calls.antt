@@ -8,14 +8,15 @@ use Rattle.models.specs.declared.DeviceSnapshot.{DeviceSnapshot}
 use Rattle.models.specs.declared.OptionError.{OptionError}
 use Rattle.models.specs.declared.PortReading.{PortReading}
 use Rattle.models.specs.declared.RequestId.{RequestId}
-use Rattle.models.specs.declared.RequestSpec.{RequestSpec}
 use Rattle.bus.specs.declared.PortRow.{PortRow}
 use Rattle.session.specs.declared.RecoveryKind.{RecoveryKind}
 use Rattle.session.specs.declared.lifecycle.AcquireReply.{AcquireReply}
 use Rattle.session.specs.declared.lifecycle.Opening.{Opening}
 use Rattle.reports.specs.declared.OptionId.{OptionId}
 use Rattle.polls.specs.declared.PollReply.{PollReply}
+use Rattle.submissions.specs.Submit.{Request}
 use Rattle.submissions.specs.declared.SubmitReply.{SubmitReply}
+use Rattle.recovery.specs.RecoveryReply.{ReplyLists}
 use Rattle.recovery.specs.declared.RecoveryReply.{RecoveryReply}
 
 -- document 01's placing calls
@@ -33,7 +34,8 @@ pub data Moving : Type 0 where
 
 -- what asks the backend, and waits for its reply
 pub data Beginning : Type 0 where
-  Submit : RequestSpec → List ℕ → Bool → List ℕ → PortReading → PortReading → Beginning
+  -- packets, and the request
+  Submit : List ℕ → Request → Beginning
   SubmitPlan : ControlPlan → List ℕ → PortReading → Beginning
   Poll : RequestId → Beginning
   Recover : RequestId → RecoveryKind → Beginning
@@ -42,8 +44,7 @@ pub data Beginning : Type 0 where
 pub data Replying : Type 0 where
   ToSubmit : SubmitReply → Replying
   ToPoll : PollReply → List ℕ → Replying
-  -- tokens of completed requests, their completions' words, tokens of aborted requests, the data area
-  ToRecovery : RecoveryReply → List ℕ → List ℕ → List ℕ → List ℕ → Replying
+  ToRecovery : RecoveryReply → ReplyLists → Replying
 
 -- a change of one request
 pub data Changing : Type 0 where

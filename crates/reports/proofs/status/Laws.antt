@@ -229,8 +229,11 @@ module _ (id : RequestId) (s : Session) (w area : List ℕ) where
   unfolding partBy
   part-by found.Nothing eg t = omega arith
   part-by (found.At i) eg t =
-      omega (arith, place-in (s .size) w (length area) t i (shown-in (s .«in_flight») id (readRows w) _ i eg refl),
-        min-le-right (completedLength (getD (readRows w) i emptyRow .state)) (s .size .«row_bytes»))
+      omega (
+        arith,
+        place-in (s .size) w (length area) t i (shown-in (s .«in_flight») id (readRows w) _ i eg refl),
+        min-le-right (completedLength (getD (readRows w) i emptyRow .state)) (s .size .«row_bytes»),
+      )
 
   part-fit : (fits : Bool) → fits ≡ memorySizes (s .size) (length w) (length area)
       → Inside (bytes.Refused (refusalOf 3) if not fits else partBy (shownAt (s .«in_flight») id (readRows w)) (s .size .«row_bytes») (readRows w))
