@@ -109,10 +109,8 @@ fn plan_room(
         return plan_refused(session, models::refuse(5));
     };
     let size = session.size;
-    let place = Place {
-        row,
-        start: row * size.row_bytes as usize,
-    };
+    let start = row * size.row_bytes as usize;
+    let place = Place { row, start };
     plan_prepared(session, bus, rows, area, place, q, bytes, first)
 }
 

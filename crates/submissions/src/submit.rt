@@ -112,10 +112,8 @@ fn submit_room(
         return submit_refused(session, models::refuse(5));
     };
     let size = session.size;
-    let place = Place {
-        row,
-        start: row * size.row_bytes as usize,
-    };
+    let start = row * size.row_bytes as usize;
+    let place = Place { row, start };
     submit_prepared(session, bus, rows, area, place, q, bytes, given, readings)
 }
 
