@@ -13,7 +13,11 @@ pub record Below (w : List ℕ) (places : List ℕ) : Type 0 where
   pub some : 1 ≤ length (readRows w)
   pub inside : (k : ℕ) → k < length places → getD places k 0 < length (readRows w)
 
--- and rows and area have their sizes
+-- rows and area have their sizes
+pub record Fit (z : Size) (w area : List ℕ) : Type 0 where
+  pub sizes : memorySizes z (length w) (length area) ≡ true
+
+-- both
 pub record Places (z : Size) (w area places : List ℕ) : Type 0 where
-  pub fit : memorySizes z (length w) (length area) ≡ true
+  pub fit : Fit z w area
   pub below : Below w places

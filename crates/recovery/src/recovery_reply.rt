@@ -36,9 +36,8 @@ ghost use Rattle.models.specs.Refusals.{refusalOf};
 ghost use Rattle.scope.specs.Scope.{meant};
 ghost use Rattle.scope.specs.Returned.{listsAgree};
 ghost use Rattle.session.specs.Lent.{rowsIn, memoryIn, memoryOut};
-ghost use Rattle.session.specs.Sizes.{memorySizes};
 ghost use Rattle.recovery.specs.Entries.{rowListsIn, applyAll};
-ghost use Rattle.recovery.specs.Places.{Below, Places};
+ghost use Rattle.recovery.specs.Places.{Below, Fit, Places};
 ghost use Rattle.recovery.specs.declared.RecoveryReply.the-variants as RecoveryReply;
 ghost use Rattle.recovery.specs.Reports.{noId, idsOf, idLists};
 ghost use Rattle.recovery.specs.RecoveryReply.{listsIn, rowsMeant, recoveryRefused, isWhole, isRevision, matching, restoredBy, resetBy, sessionAfter, refusedAfter, abortReport, concludedBy, settledOf, doneOf, replyBy, replySized, recoveryReplyOf};
@@ -352,7 +351,7 @@ fn reply_done(
     aborted: &[u64],
     bytes: &[u8],
 ) -> Recovered
-    requires { ⌜ (memorySizes (ended .idle .size) (length (now rows)) (length (now area)) ≡ true)
+    requires { ⌜ Fit (ended .idle .size) (now rows) (now area)
         × (listsAgree (length (now tokens)) (now completions) (length (now bytes)) ≡ true) ⌝ }
     ensures { λ r. ⌜ after r (memoryOut rows area)
         ≡ replyBy (RecoveryReply.Done (ended .outcome)) (ended .recovery) (listsIn tokens completions aborted bytes) (ended .idle)
@@ -388,7 +387,7 @@ fn reply_to(
     aborted: &[u64],
     bytes: &[u8],
 ) -> Recovered
-    requires { ⌜ (memorySizes (idle .size) (length (now rows)) (length (now area)) ≡ true)
+    requires { ⌜ Fit (idle .size) (now rows) (now area)
         × (listsAgree (length (now tokens)) (now completions) (length (now bytes)) ≡ true) ⌝ }
     ensures { λ r. ⌜ after r (memoryOut rows area)
         ≡ replyBy reply recovery (listsIn tokens completions aborted bytes) idle (memoryIn rows area) ⌝ }
