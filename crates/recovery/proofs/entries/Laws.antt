@@ -35,12 +35,12 @@ use Rattle.checks.specs.declared.completion.CompletionTest.{CompletionTest}
 use Rattle.checks.specs.declared.completion.CompletionTest.the-variants as test
 use Rattle.session.specs.Lent.{Memory, memory}
 use Rattle.session.specs.declared.Size.{Size}
-use Rattle.session.proofs.sizes.Laws.{place-in}
+use Rattle.session.proofs.sizes.Laws.{place-in, place-small}
 use Rattle.scope.specs.Scope.{slotOf, meant}
 use Rattle.scope.specs.Returned.{completionWords, broughtAt, givenOf, listsAgree}
 use Rattle.scope.specs.declared.returned.Brought.{Brought}
 use Rattle.recovery.specs.Entries.{rowCompletedBy, testedBy, completeOne, abortedBy, abortOne, onwardBy, entryAt, readEntries, completeAll, abortAll}
-use Rattle.recovery.specs.Places.{Below, Places}
+use Rattle.recovery.specs.Places.{Below, Fit}
 
 -- ---- a completion of row i
 module _ (d : Step) (z : Size) (i : ℕ) (bytes : List ℕ) (store : Store) (area : List ℕ) where
@@ -95,6 +95,16 @@ meant-in w affected own t i b e = rw e (caseB (ltb (slotOf own t) (length affect
     (λ y. let q : length affected ≤ slotOf own t = ltb-false (slotOf own t) (length affected) y in rw (List·getD-eq-default affected 0 q) (b .some)))
 
 -- ---- the places that a walk visits
+module _ (z : Size) (w area : List ℕ) (f : Fit z w area) (i : ℕ) (h : i < length (readRows w)) where
+  pub row-room : i * z .«row_bytes» + z .«row_bytes» ≤ length area
+  row-room = place-in z w (length area) (f .sizes) i h
+
+  pub row-small : Fits w64 (i * z .«row_bytes»)
+  row-small = omega (arith, place-small z w (length area) (f .sizes) i h)
+
+pub fit-kept : (z : Size) (w area w₀ area₀ : List ℕ) → length w ≡ length w₀ → length area ≡ length area₀ → Fit z w₀ area₀ → Fit z w area
+fit-kept z w area w₀ area₀ e f x = record { sizes = rw (e, f) (x .sizes) }
+
 pub same-count : (w w₀ : List ℕ) → length w ≡ length w₀ → length (readRows w) ≡ length (readRows w₀)
 unfolding rowCount
 same-count w w₀ e = length-readRows w ∙ rw e (sym (length-readRows w₀))
@@ -105,9 +115,6 @@ below-kept w w₀ places e b = let z = same-count w w₀ e in record { some = om
 module _ (w w₀ places : List ℕ) (n k : ℕ) (e : length w ≡ length w₀) (en : n ≡ length places) (lt : k < n) where
   pub place-below : Below w₀ places → getD places k 0 < length (readRows w)
   place-below b = below-kept w w₀ places e b .inside k (omega arith)
-
-  pub place-room : (area area₀ : List ℕ) (z : Size) → length area ≡ length area₀ → Places z w₀ area₀ places → getD places k 0 * z .«row_bytes» + z .«row_bytes» ≤ length area
-  place-room area area₀ z f p = omega (arith, place-in z w₀ (length area₀) (p .fit .sizes) (getD places k 0) (p .below .inside k (omega arith)))
 
 -- ---- the loop over the aborts
 abbrev pub Aborting : List ℕ → List ℕ → ℕ → List ℕ → ℕ → Type 0

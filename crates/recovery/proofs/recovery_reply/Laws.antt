@@ -155,7 +155,7 @@ fit-some z w area f =
     omega (arith, memory-rows z w (length area) (f .sizes), rows-sized z (length w) (both (rowsFit z (length w)) _ (f .sizes) .0) .some-rows)
 
 module _ (x : Recovery) (w list : List ℕ) (count : ℕ) (ec : take count list ≡ affectedOf (x .device) (x .endpoint) (readRows w)) (h : count ≤ 128) (el : length list ≡ 128) where
-  pub count-is : count ≡ length (affectedOf (x .device) (x .endpoint) (readRows w))
+  count-is : count ≡ length (affectedOf (x .device) (x .endpoint) (readRows w))
   count-is = let len : length (take count list) ≡ count = simp length-take (omega arith) in sym len ∙ ap length ec
 
   pub affected-places : (z : Size) (area : List ℕ) → Fit z w area → Places z w area (take count list)

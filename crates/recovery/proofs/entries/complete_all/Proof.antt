@@ -2,7 +2,7 @@ use native.Mathlib.Omega.{arith}
 use lib.ListN.{length-take, length-drop}
 use borrow.Author.Needs.{needs}
 use Prim.Native.Nat.{_-_}
-use Rattle.recovery.proofs.entries.Laws.{place-below, place-room, Completing, begin-given, words-in, given-on, given-fits, complete-on, complete-stop, complete-end}
+use Rattle.recovery.proofs.entries.Laws.{place-below, fit-kept, Completing, begin-given, words-in, given-on, given-fits, complete-on, complete-stop, complete-end}
 use Rattle.recovery.proofs.entries.complete_all.Statement.{statement}
 use Rattle.recovery.proofs.entries.complete_all.Tie as tie
 
@@ -26,7 +26,7 @@ complete-all-spec =
     (λ c. search needs)
     (λ c. search needs)
     (λ c. search needs)
-    (λ c κs. (search place-below, place-room (c .before .before .before .before .before .before .loop .rows) _ _ _ _ (c .before .before .before .before .before .before .loop .inv .2) (c .before .before .before .before .before .before .loop .inv .0) (c .before .before .before .before .before .loop-test .taken) (c .before .before .before .before .before .before .loop .area) _ _ (c .before .before .before .before .before .before .loop .inv .3) (c .before .before .before .before .before .before .before .before .before .before .before .before .pre .0), simp (length-take, length-drop) (omega (arith, given-on _ _ _ (c .before .before .before .before .before .loop-test .taken) _ _ (c .before .before .before .before .before .before .loop .inv .4) _ (c .before .before .before .before .brought-at .ensures)))))
+    (λ c κs. (fit-kept _ _ _ _ _ (c .before .before .before .before .before .before .loop .inv .2) (c .before .before .before .before .before .before .loop .inv .3) (c .before .before .before .before .before .before .before .before .before .before .before .before .pre .0 .fit), search place-below, simp (length-take, length-drop) (omega (arith, given-on _ _ _ (c .before .before .before .before .before .loop-test .taken) _ _ (c .before .before .before .before .before .before .loop .inv .4) _ (c .before .before .before .before .brought-at .ensures)))))
     (λ c. search needs)
     (λ c. search needs)
     (λ c. search needs)
