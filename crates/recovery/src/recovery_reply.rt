@@ -41,10 +41,10 @@ ghost use Rattle.recovery.specs.Reports.{noId, idsOf, idLists};
 ghost use Rattle.recovery.specs.RecoveryReply.{listsIn, rowsMeant, recoveryRefused, isWhole, isRevision, matching, restoredBy, resetBy, sessionAfter, refusedAfter, abortReport, concludedBy, settledOf, doneOf, replyBy, replySized, recoveryReplyOf};
 
 // A recovery whose reply is in: the session without it, the recovery, and what the backend says.
-struct Ended {
-    idle: Session,
-    recovery: Recovery,
-    outcome: Outcome,
+pub struct Ended {
+    pub idle: Session,
+    pub recovery: Recovery,
+    pub outcome: Outcome,
 }
 
 fn no_id() -> RequestId
