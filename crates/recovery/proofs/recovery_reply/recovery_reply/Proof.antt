@@ -1,0 +1,23 @@
+use borrow.Author.Needs.{needs}
+use Rattle.recovery.proofs.recovery_reply.Laws.{in-idle, in-submission, in-poll, in-recovery}
+use Rattle.recovery.proofs.recovery_reply.recovery_reply.Statement.{statement}
+use Rattle.recovery.proofs.recovery_reply.recovery_reply.Tie as tie
+
+pub recovery-reply-spec : {M : Type 1} → statement M
+recovery-reply-spec =
+    tie.close
+    (tie.spec
+    (λ c. search needs)
+    (λ c κs. search needs)
+    (λ c. search needs)
+    (λ c κs. search needs)
+    (λ c. search needs)
+    (λ c κs. search needs)
+    (λ c. search needs)
+    (λ c κs. search needs)
+    (λ c. search in-idle)
+    (λ c. search in-submission)
+    (λ c. search in-poll)
+    (λ c. search needs)
+    (λ c. search needs)
+    (λ c. search in-recovery))
