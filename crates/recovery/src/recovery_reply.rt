@@ -282,7 +282,8 @@ fn reply_scoped(
     aborted: &[u64],
     bytes: &[u8],
 ) -> Recovered
-    requires { ⌜ Places (ended .idle .size) (now rows) (now area) (now affected) × Agree (now tokens) (now completions) (now bytes)
+    requires { ⌜ Places (ended .idle .size) (now rows) (now area) (now affected)
+        × Agree (now tokens) (now completions) (now bytes)
         × (length (now tokens) + length (now aborted) ≤ 128) ⌝ }
     ensures { λ r. ⌜ after r (memoryOut rows area)
         ≡ settledOf ended (rowsMeant (meant (now (affected .entry)) (now (own .entry)))
@@ -315,7 +316,8 @@ fn reply_affected(
     aborted: &[u64],
     bytes: &[u8],
 ) -> Recovered
-    requires { ⌜ Places (ended .idle .size) (now rows) (now area) (now affected) × Agree (now tokens) (now completions) (now bytes)
+    requires { ⌜ Places (ended .idle .size) (now rows) (now area) (now affected)
+        × Agree (now tokens) (now completions) (now bytes)
         × (length (now own) ≤ 128) ⌝ }
     ensures { λ r. ⌜ after r (memoryOut rows area)
         ≡ doneOf ended (now (affected .entry)) (now (own .entry)) (listsIn tokens completions aborted bytes)
