@@ -1,3 +1,5 @@
 pub mod Outcome
+pub mod Read
 pub mod Changed
+pub mod Polled
 pub mod Reported

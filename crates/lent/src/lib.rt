@@ -1,5 +1,7 @@
 // Document 01's calls over a session that is lent for change: poll, cancel, timeout and reclaim, each the call by value.
 use models::RequestId;
+use polls::PollAnswer;
+use polls::poll;
 use reports::ReportAnswer;
 use reports::change;
 use session::Session;
@@ -8,7 +10,16 @@ ghost use Rattle.chain.specs.After.{after};
 ghost use Rattle.rules.specs.declared.Change.the-variants as Change;
 ghost use Rattle.session.specs.Lent.{storeIn, storeOut};
 ghost use Rattle.reports.specs.Change.{changeOf};
-ghost use Rattle.lent.specs.Lent.{reportedAs};
+ghost use Rattle.polls.specs.Poll.{pollOf};
+ghost use Rattle.lent.specs.Lent.{polledAs, reportedAs};
+
+pub fn poll_request(session: &mut Session, rows: &[u64], id: RequestId) -> PollAnswer
+    ensures { λ r. ⌜ polledAs r (now (session .exit)) ≡ pollOf id (now (session .entry)) (storeIn rows) ⌝ }
+{
+    let done = poll::poll_request(*session, rows, id);
+    *session = done.session;
+    done.answer
+}
 
 pub fn logical_cancel_request(
     session: &mut Session,
