@@ -1,5 +1,3 @@
-pub mod Outcome
-pub mod Read
-pub mod Changed
-pub mod Polled
-pub mod Reported
+pub mod Parts
+pub mod Outcomes
+pub mod Thin

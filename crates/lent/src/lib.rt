@@ -16,7 +16,7 @@ ghost use Rattle.lent.specs.Lent.{polledAs, reportedAs};
 pub fn poll_request(session: &mut Session, rows: &[u64], id: RequestId) -> PollAnswer
     ensures { λ r. ⌜ polledAs r (now (session .exit)) ≡ pollOf id (now (session .entry)) (storeIn rows) ⌝ }
 {
-    let done = poll::poll_request(*session, rows, id);
+    let done = poll::poll_request(*session, &*rows, id);
     *session = done.session;
     done.answer
 }
