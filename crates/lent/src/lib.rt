@@ -1,4 +1,4 @@
-// Document 01's calls over a session that is lent for change: poll, cancel, timeout and reclaim, each the call by value.
+// Document 01's lent form: poll, cancel, timeout and reclaim over a session that is lent for change. Each is the call by value.
 use models::RequestId;
 use polls::PollAnswer;
 use polls::poll;
@@ -13,6 +13,7 @@ ghost use Rattle.reports.specs.Change.{changeOf};
 ghost use Rattle.polls.specs.Poll.{pollOf};
 ghost use Rattle.lent.specs.Lent.{polledAs, reportedAs};
 
+// The rows are lent again, as the others lend theirs: one proof serves all four.
 pub fn poll_request(session: &mut Session, rows: &[u64], id: RequestId) -> PollAnswer
     ensures { λ r. ⌜ polledAs r (now (session .exit)) ≡ pollOf id (now (session .entry)) (storeIn rows) ⌝ }
 {
