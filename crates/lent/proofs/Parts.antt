@@ -104,8 +104,6 @@ pub record Outcome (N : Answer) : Type 2 where
   pub row : RattleType
   pub answer : row .Denot → N .row .Denot
   pub after : row .Denot → Session
-  pub made : N .row .Denot → Session → row .Denot
-  pub whole : (r : row .Denot) → r ≡ made (answer r) (after r)
   pub tells : Tells row (Is row) (λ r. vstruct (vcons (N .val (answer r)) (vcons (vSession (after r)) vnil)) ∷ [])
   pub typed : Typed row (tyStruct name (tcons (N .ty) (tcons S′.mir tnil)))
   pub answer-is : (r : row .Denot) (vs : List Val) → Is row r vs → Is (N .row) (answer r) (N .val (answer r) ∷ [])
