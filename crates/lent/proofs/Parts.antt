@@ -42,7 +42,8 @@ abbrev pub vId : RequestId → Val
 vId = LL.val I.the-type I′.the-laws
 
 -- ---- the rows
--- what differs between a slice that is lent for change and one that is only read: its `mut`, what it owns, and what is left of it at exit
+-- what differs between a slice that is lent for change and one that is only read: its `mut`, what it owns, and what is left of it at exit.
+-- `placed`: that it's owned says that its machine value is its place and its length, for which there is room
 pub record Access : Type 1 where
   pub kind : Mutability
   pub own : Lft → RefT (List ℕ) → List Val → Fml
@@ -78,7 +79,7 @@ Rows a ℓ κ = record {
 
 -- ---- the answer, and the outcome
 -- the type's machine values are of the MIR's type
-abbrev pub Typed : RattleType → Ty → Type 2
+abbrev Typed : RattleType → Ty → Type 2
 Typed row ty =
     (M : Type 1) (𝓤 : URA M) (H : Heap 𝓤) (A : Atoms 𝓤) → Given 𝓤 H A →
     (x : row .Denot) (v : Val) → Is row x (v ∷ []) → Holds (hasTy ty v) × WT v
