@@ -2,6 +2,7 @@
 //! the next call can aim at rows, tokens and states that are really there.
 mod corners;
 mod episode;
+mod marks;
 mod phase;
 mod poll;
 mod recover;

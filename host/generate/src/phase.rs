@@ -53,6 +53,8 @@ pub enum Phase {
     Stalls,
     /// Openings, failed acquires, closes.
     Lifecycle,
+    /// Submissions to marked slots, most of them without a device (26 before 27).
+    Marked,
 }
 
 impl Phase {
@@ -67,6 +69,7 @@ impl Phase {
             "fill" => Self::Fill,
             "stalls" => Self::Stalls,
             "lifecycle" => Self::Lifecycle,
+            "marked" => Self::Marked,
             _ => return None,
         })
     }
@@ -82,6 +85,7 @@ impl Phase {
             (2, Self::Fill),
             (50, Self::Stalls),
             (12, Self::Lifecycle),
+            (30, Self::Marked),
         ])
     }
 
@@ -91,6 +95,7 @@ impl Phase {
             Self::Fill => 2_700 + rng.below(300),
             Self::Hold => 250 + rng.below(150),
             Self::Limits | Self::Lifecycle => 40 + rng.below(60),
+            Self::Marked => 15 + rng.below(20),
             _ => 80 + rng.below(250),
         }
     }
@@ -125,6 +130,7 @@ impl Phase {
             Self::Fill => FILL,
             Self::Stalls => STALLS,
             Self::Lifecycle => LIFECYCLE,
+            Self::Marked => MARKED,
         }
     }
 
@@ -301,3 +307,4 @@ const LIFECYCLE: &[(u32, Action)] = &[
     (4, Cancel),
     (6, Dump),
 ];
+const MARKED: &[(u32, Action)] = &[(45, Submit), (15, Plan), (30, Raw), (6, Device), (4, Dump)];

@@ -1,9 +1,9 @@
 //! How often each refusal and each kind of answer came.
-use std::collections::{BTreeMap, BTreeSet};
+use std::collections::BTreeMap;
 use std::fmt::{self, Display, Formatter};
 
 use oracle::View;
-use script::{Answer, Asked, Call, ControllerState, Outcome, RowState};
+use script::{Answer, Asked, Call, ControllerState, DeviceId, Outcome, RowState};
 
 use crate::Mix;
 use crate::corners::{self, Recovered};
@@ -60,6 +60,7 @@ const KINDS: &[&str] = &[
     "47 by a recovery that keeps earlier entries",
     "48 by a recovery that keeps earlier entries",
     "26 of a slot without a device",
+    "26 of an id that is not its slot's",
     "46 by a token twice",
     "46 by a token that no affected row has",
     "46 by a token missing",
@@ -91,8 +92,8 @@ pub struct Table {
     /// State and held rows before the call.
     state: ControllerState,
     held: u64,
-    /// Slots with a device.
-    slots: BTreeSet<u8>,
+    /// The device of each slot that has one.
+    devices: BTreeMap<u8, DeviceId>,
 }
 
 impl Table {
@@ -108,7 +109,7 @@ impl Table {
             most_rows: 0,
             state: ControllerState::Closed,
             held: 0,
-            slots: BTreeSet::new(),
+            devices: BTreeMap::new(),
         }
     }
 
@@ -134,9 +135,9 @@ impl Table {
         self.held = answer.held;
         match call {
             Call::Device { id, .. } => {
-                self.slots.insert(id.slot);
+                self.devices.insert(id.slot, *id);
             }
-            Call::Open(_) => self.slots.clear(),
+            Call::Open(_) => self.devices.clear(),
             _ => {}
         }
     }
@@ -169,15 +170,31 @@ impl Table {
             31 | 33 | 34 => self.corner(format!("{number} after {} readings", answer.reads)),
             45 => self.corner(format!("45 by {}, category {category}", call.verb())),
             41 | 47 | 48 => self.corner(format!("{number} by {}", call.verb())),
-            26 if corners::slot(call).is_some_and(|slot| !self.slots.contains(&slot)) => {
-                self.corner("26 of a slot without a device");
-            }
+            26 => self.marked(call),
             40 => self.corner(format!("40 by {}", call.verb())),
             _ => {}
         }
         if matches!(number, 41 | 47 | 48) && answer.held < self.held {
             self.corner(format!("{number} by a recovery that keeps earlier entries"));
         }
+    }
+
+    /// 26 of what would be 27 without the mark.
+    fn marked(&mut self, call: &Call) {
+        let Some(device) = corners::device(call) else {
+            return;
+        };
+        match self.devices.get(&device.slot) {
+            None => self.corner("26 of a slot without a device"),
+            Some(own) if *own != device => self.corner("26 of an id that is not its slot's"),
+            Some(_) => {}
+        }
+    }
+
+    /// How often a kind of report or a corner came.
+    pub fn times(&self, name: &str) -> u64 {
+        let found = self.kinds.get(name).or_else(|| self.corners.get(name));
+        found.copied().unwrap_or(0)
     }
 
     /// The numbers that this mix can meet and did not.
@@ -232,11 +249,8 @@ impl Table {
         all.sort();
         all.dedup();
         for name in all {
-            let count = |it: &Self| {
-                let found = it.kinds.get(&name).or_else(|| it.corners.get(&name));
-                found.copied().unwrap_or(0)
-            };
-            text += &format!("{:>10} {:>9}  {name}\n", count(self), count(other));
+            let (own, others) = (self.times(&name), other.times(&name));
+            text += &format!("{own:>10} {others:>9}  {name}\n");
         }
         text
     }

@@ -113,7 +113,9 @@ impl World {
         if idle || (self.is_alone() && (early || action == Action::Plan)) {
             action = Action::Submit;
         }
-        let submits = matches!(action, Action::Submit | Action::Plan);
+        // A marked slot is refused in any state, and is to stay marked.
+        let submits =
+            matches!(action, Action::Submit | Action::Plan) && self.phase != Phase::Marked;
         let ready = self.state == ControllerState::Initialized;
         if submits && !ready && self.rng.chance(60) {
             return self.towards_initialized(rows);
@@ -136,12 +138,16 @@ impl World {
     fn eagerness(&self) -> u32 {
         match self.phase {
             Phase::Stalls | Phase::Lifecycle => 20,
+            Phase::Marked => 5,
             Phase::Hold | Phase::Fill => 90,
             _ => 60,
         }
     }
 
     fn next_phase(&mut self, no_ports: bool) {
+        if self.phase == Phase::Marked {
+            self.clear_marks();
+        }
         let phase = Phase::pick(&mut self.rng);
         self.phase = self.only.unwrap_or(phase);
         self.left = self.phase.duration(&mut self.rng);
@@ -149,7 +155,8 @@ impl World {
             self.phase,
             Phase::Limits | Phase::Lifecycle | Phase::Hold | Phase::Fill
         );
-        if fresh || no_ports || self.rng.chance(50) {
+        let stays = self.phase == Phase::Marked;
+        if fresh || no_ports || (!stays && self.rng.chance(50)) {
             self.plan_opening();
             self.left += self.queue.len();
         }
@@ -172,6 +179,7 @@ impl World {
             Action::Device => self.set_device(oracle),
             Action::Port => self.set_port(oracle),
             Action::Endpoints => self.set_endpoints(),
+            Action::Raw if self.phase == Phase::Marked => self.mark_slot(),
             Action::Raw => self.set_raw(),
             Action::Acquire => self.acquire(),
             Action::Initialise => self.initialise(),
