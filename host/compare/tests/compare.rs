@@ -9,11 +9,15 @@ fn plan(seed: u64, calls: u64) -> Plan {
         calls,
         mix: Mix::Default,
         phase: None,
+        stores: false,
     }
 }
 
 fn run(new_port: &dyn Fn() -> Box<dyn Side>, plan: Plan) -> Result<Tables, Stop> {
-    let mut tables = Tables::new(plan.mix);
+    let mut tables = match plan.stores {
+        true => Tables::in_small_stores(plan.mix),
+        false => Tables::new(plan.mix),
+    };
     compare(plan, new_port, &mut tables).map(|()| tables)
 }
 
@@ -27,6 +31,74 @@ fn the_port_answers_as_the_rust() {
 #[test]
 fn the_safe_session_answers_as_the_rust() {
     run(&|| Box::new(port::Session::new()), plan(12, 20_000)).unwrap();
+}
+
+fn in_small_stores(seed: u64, calls: u64) -> Plan {
+    Plan {
+        stores: true,
+        ..plan(seed, calls)
+    }
+}
+
+#[test]
+fn a_smaller_store_answers_as_the_rust_until_its_limit() {
+    let tables = run(&|| Box::new(port::Port::new()), in_small_stores(13, 20_000)).unwrap();
+    assert!(tables.port.times("5 with the only row of a store used") > 100);
+    assert!(tables.port.times("5 with all of more rows of a store used") > 100);
+    assert!(tables.port.times("7 by submit") > 100);
+    assert!(tables.port.times("7 by plan") > 50);
+    let session = || Box::new(port::Session::new()) as Box<dyn Side>;
+    run(&session, in_small_stores(14, 20_000)).unwrap();
+}
+
+/// The port, but its store has a row more than it should.
+struct Roomy(port::Port);
+
+impl Side for Roomy {
+    fn apply(&mut self, call: &Call) -> Result<Answer, String> {
+        match call {
+            Call::Store { rows, bytes } => self.0.apply(&Call::Store {
+                rows: rows + 1,
+                bytes: *bytes,
+            }),
+            call => self.0.apply(call),
+        }
+    }
+}
+
+#[test]
+fn a_store_with_a_row_too_many_is_found() {
+    let roomy = || Box::new(Roomy(port::Port::new())) as Box<dyn Side>;
+    let Err(Stop::Difference { found, .. }) = run(&roomy, in_small_stores(1, 20_000)) else {
+        panic!("it was not found");
+    };
+    assert!(found.rust.starts_with("refuse 5 V.5.-.- |"), "{found}");
+    assert!(!found.port.starts_with("refuse 5 "), "{found}");
+    assert!(matches!(found.script.first(), Some(Call::Store { .. })));
+}
+
+/// The port, but its rows have a byte less than they should.
+struct Tight(port::Port);
+
+impl Side for Tight {
+    fn apply(&mut self, call: &Call) -> Result<Answer, String> {
+        match call {
+            Call::Store { rows, bytes } if *bytes > 1 => self.0.apply(&Call::Store {
+                rows: *rows,
+                bytes: bytes - 1,
+            }),
+            call => self.0.apply(call),
+        }
+    }
+}
+
+#[test]
+fn a_row_with_a_byte_too_few_is_found() {
+    let tight = || Box::new(Tight(port::Port::new())) as Box<dyn Side>;
+    let Err(Stop::Difference { found, .. }) = run(&tight, in_small_stores(1, 20_000)) else {
+        panic!("it was not found");
+    };
+    assert!(found.port.starts_with("refuse 7 V.7.-.- |"), "{found}");
 }
 
 /// The port, but a request that timed out is shown as not timed out.

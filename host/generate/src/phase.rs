@@ -100,10 +100,10 @@ impl Phase {
         }
     }
 
-    /// The next action, where so many rows are in use and so many held.
-    pub fn action(self, rng: &mut Rng, mix: Mix, rows: usize, held: usize) -> Action {
-        let weights = match (rows, held) {
-            (1_000.., _) => FULL,
+    /// The next action, where so many rows are held.
+    pub fn action(self, rng: &mut Rng, mix: Mix, full: bool, held: usize) -> Action {
+        let weights = match (full, held) {
+            (true, _) => FULL,
             (_, 124..) => HELD,
             _ => self.weights(),
         };

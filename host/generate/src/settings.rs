@@ -5,6 +5,7 @@ use script::{
 };
 
 use crate::Mix;
+use crate::bounded::StoreSize;
 use crate::phase::Phase;
 use crate::values;
 use crate::world::{Device, World};
@@ -36,6 +37,11 @@ impl World {
         self.endpoints.clear();
         self.marked.clear();
         let (session, ports) = (open.session, open.ports);
+        if self.small_stores {
+            self.store = self.small_store();
+            let StoreSize { rows, bytes } = self.store;
+            self.queue.push_back(Call::Store { rows, bytes });
+        }
         self.queue.push_back(Call::Open(open));
         // One endpoint alone lets a recovery affect all of 128 held rows.
         self.alone = self.phase == Phase::Hold && self.rng.chance(50);

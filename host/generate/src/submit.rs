@@ -97,12 +97,13 @@ impl World {
         };
         let (_, address, transfer_type) = choice;
         let readings = [self.reading(row), self.reading(row)];
+        let length = self.length(65_536);
         let mut submit = Submit {
             device,
             endpoint: address,
             transfer_type,
             direction: direction_of(address),
-            length: values::length(&mut self.rng, 65_536),
+            length,
             setup: None,
             data: Data::Zeros(0),
             packets: None,
@@ -263,7 +264,7 @@ impl World {
     }
 
     fn right_plan(&mut self, device: DeviceId, row: Option<PortRow>) -> Plan {
-        let length = values::length(&mut self.rng, 65_535);
+        let length = self.length(65_535);
         let setup = self.setup(length as u16);
         let direction = direction_of(setup.request_type);
         let stage = (length > 0).then_some((direction, length));

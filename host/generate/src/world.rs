@@ -7,6 +7,7 @@ use script::{
 };
 
 use crate::Mix;
+use crate::bounded::StoreSize;
 use crate::episode::Step;
 use crate::phase::{Action, Phase};
 use crate::rng::Rng;
@@ -44,6 +45,10 @@ pub struct World {
     /// The opening's session number, which port ids carry.
     pub opening: u64,
     pub next_token: u64,
+    /// Whether every opening has a smaller store.
+    pub small_stores: bool,
+    /// The latest opening's store.
+    pub store: StoreSize,
     /// What was there before the latest call.
     pub before: View,
 }
@@ -67,6 +72,8 @@ impl World {
             session: 0,
             opening: 0,
             next_token: 1,
+            small_stores: false,
+            store: StoreSize::WHOLE,
             before: View::default(),
         }
     }
@@ -107,7 +114,8 @@ impl World {
 
     fn free_call(&mut self, oracle: &Oracle, rows: &[RowView]) -> Call {
         let held = rows.iter().filter(|row| row.held).count();
-        let mut action = self.phase.action(&mut self.rng, self.mix, rows.len(), held);
+        let full = self.is_full(rows.len());
+        let mut action = self.phase.action(&mut self.rng, self.mix, full, held);
         let idle = rows.is_empty() && action.needs_a_row() && self.rng.chance(85);
         let early = matches!(action, Action::Abort | Action::Reset) && held < 124;
         if idle || (self.is_alone() && (early || action == Action::Plan)) {
