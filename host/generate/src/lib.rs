@@ -7,7 +7,6 @@ mod marks;
 mod phase;
 mod poll;
 mod recover;
-mod rng;
 mod settings;
 mod stores;
 mod submit;

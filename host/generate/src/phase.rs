@@ -1,6 +1,7 @@
 //! What a stretch of a script is after: which calls come how often.
+use seeded::Rng;
+
 use crate::Mix;
-use crate::rng::Rng;
 
 #[derive(Debug, Clone, Copy, PartialEq, Eq)]
 pub enum Action {

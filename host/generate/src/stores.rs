@@ -1,4 +1,6 @@
 //! Smaller stores: their sizes, and lengths about their limit.
+use seeded::Rng;
+
 use crate::bounded::StoreSize;
 use crate::values;
 use crate::world::World;
@@ -8,7 +10,7 @@ impl World {
     /// would have them.
     pub fn small_store(&mut self) -> StoreSize {
         let rng = &mut self.rng;
-        let some = |rng: &mut crate::rng::Rng, most| 1 + rng.below(most) as u64;
+        let some = |rng: &mut Rng, most| 1 + rng.below(most) as u64;
         let rows = match rng.below(10) {
             0 | 1 => 1,
             2 => 2,

@@ -1,7 +1,6 @@
 //! Random values, with the edges more often than chance would have them.
 use script::{Category, Completion, Data, Error};
-
-use crate::rng::Rng;
+use seeded::Rng;
 
 const CATEGORIES: [Category; 7] = [
     Category::Validation,

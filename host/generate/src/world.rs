@@ -5,12 +5,12 @@ use oracle::{Oracle, RowView, View};
 use script::{
     Answer, Call, ControllerState, DeviceId, DeviceState, Outcome, PortId, RequestId, TransferType,
 };
+use seeded::Rng;
 
 use crate::Mix;
 use crate::bounded::StoreSize;
 use crate::episode::Step;
 use crate::phase::{Action, Phase};
-use crate::rng::Rng;
 
 /// A device as it was last set.
 #[derive(Debug, Clone, Copy)]
