@@ -7,7 +7,7 @@
 use std::ops::Range;
 
 use tapewoad::ErrorCategory;
-use tapewoad::calls::{ANSWER_WORDS, Answer, ROW_WORDS, Refusal};
+use tapewoad::calls::{ANSWER_WORDS, Answer, ROW_WORDS, Refusal, SESSION_WORDS};
 
 use crate::answers::encode;
 use crate::judge;
@@ -201,6 +201,9 @@ const ENDPOINT_WORDS: usize = 31;
 const MARKS: usize = 10_494;
 
 /// Words of the session.
+const EVERY_WORD: Range<usize> = 0..SESSION_WORDS;
+/// Session number, generation and next sequence.
+const LEDGER: Range<usize> = 0..3;
 const SEQUENCE: Range<usize> = 2..3;
 const STATE: Range<usize> = 6..7;
 /// State and revision.
@@ -230,7 +233,7 @@ fn may_change(before: &Slices, answer: &Answer) -> Changes {
     match (call[0], answer) {
         (_, Answer::Refused(refusal)) => refused(call, refusal.number, rows),
         (0, _) => Changes {
-            session: &[0..26],
+            session: &[EVERY_WORD],
             bus: Part::All,
             rows: Part::All,
             area: Part::None,
@@ -244,7 +247,7 @@ fn may_change(before: &Slices, answer: &Answer) -> Changes {
             ..NOTHING
         },
         (7, _) => Changes {
-            session: &[0..3, STATE],
+            session: &[LEDGER, STATE],
             rows: Part::All,
             ..NOTHING
         },

@@ -34,7 +34,7 @@ const EDGES: [u64; 24] = [
 
 pub fn word(rng: &mut Rng) -> u64 {
     match rng.below(4) {
-        0 => rng.next(),
+        0 => rng.next_u64(),
         1 => rng.below(64) as u64,
         _ => rng.pick(&EDGES),
     }
@@ -76,6 +76,25 @@ pub fn flip_one(rng: &mut Rng, words: &mut [u64]) {
     if !words.is_empty() {
         let at = rng.below(words.len());
         words[at] = flip(rng, words[at]);
+    }
+}
+
+/// Puts a small value into one of the first words after the call's number.
+pub fn odd(rng: &mut Rng, words: &mut [u64]) {
+    const SMALL: [u64; 16] = [
+        0, 1, 2, 3, 4, 5, 6, 9, 11, 0x10, 0x1f, 0x60, 0x80, 0x81, 0xe0, 255,
+    ];
+    let last = words.len().min(15);
+    if last > 1 {
+        words[1 + rng.below(last - 1)] = rng.pick(&SMALL);
+    }
+}
+
+/// Another controller state, or any word flipped.
+pub fn session(rng: &mut Rng, words: &mut [u64]) {
+    match rng.chance(20) {
+        true => words[6] = rng.below(5) as u64,
+        false => flip_one(rng, words),
     }
 }
 
@@ -126,7 +145,7 @@ pub fn contents(rng: &mut Rng, slices: &mut Slices) {
             2 => flip_one(rng, &mut slices.bus),
             _ if !slices.area.is_empty() => {
                 let at = rng.below(slices.area.len());
-                slices.area[at] = rng.next() as u8;
+                slices.area[at] = rng.next_u64() as u8;
             }
             _ => {}
         }

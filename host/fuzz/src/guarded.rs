@@ -196,7 +196,9 @@ extern "C" fn tell(_signal: c_int) {
 #[cfg(test)]
 mod tests {
     use super::*;
-    use std::process::Command;
+    use std::process::{Command, Output};
+
+    use crate::{Fuzz, Lent, apply};
 
     fn words(length: usize, edge: Edge) -> Guarded {
         let mut guarded = Guarded::new(8 * length);
@@ -229,21 +231,16 @@ mod tests {
         assert!(!guarded.canaries_stand());
     }
 
-    /// Runs one of the ignored tests in a process of its own, which must end
-    /// with the message of `tell`.
-    fn assert_told(test: &str) {
+    /// Runs one of the ignored tests in a process of its own.
+    fn alone(test: &str, seed: u64) -> (Output, String) {
         let name = format!("guarded::tests::{test}");
         let output = Command::new(std::env::current_exe().unwrap())
             .args([&name, "--exact", "--ignored", "--nocapture"])
+            .env("FUZZ_TEST_SEED", seed.to_string())
             .output()
             .unwrap();
-        let text = String::from_utf8_lossy(&output.stderr);
-        assert_eq!(output.status.code(), Some(1), "{text}");
-        assert!(
-            text.contains("seed 5, call 42: memory was touched"),
-            "{text}"
-        );
-        assert!(text.contains("call [7, 7, 7]"), "{text}");
+        let text = String::from_utf8_lossy(&output.stderr).into_owned();
+        (output, text)
     }
 
     fn announced() {
@@ -252,7 +249,7 @@ mod tests {
     }
 
     #[test]
-    #[ignore = "ends the process; run by the test below"]
+    #[ignore = "ends the process; run by `a_guard_page_is_told_with_the_call`"]
     fn writes_a_word_past_the_end() {
         announced();
         let mut guarded = words(3, Edge::End);
@@ -261,7 +258,7 @@ mod tests {
     }
 
     #[test]
-    #[ignore = "ends the process; run by the test below"]
+    #[ignore = "ends the process; run by `a_guard_page_is_told_with_the_call`"]
     fn reads_a_word_before_the_start() {
         announced();
         let guarded = words(3, Edge::Start);
@@ -271,7 +268,51 @@ mod tests {
 
     #[test]
     fn a_guard_page_is_told_with_the_call() {
-        assert_told("writes_a_word_past_the_end");
-        assert_told("reads_a_word_before_the_start");
+        for test in [
+            "writes_a_word_past_the_end",
+            "reads_a_word_before_the_start",
+        ] {
+            let (output, text) = alone(test, 0);
+            assert_eq!(output.status.code(), Some(1), "{text}");
+            assert!(
+                text.contains("seed 5, call 42: memory was touched"),
+                "{text}"
+            );
+            assert!(text.contains("call [7, 7, 7]"), "{text}");
+        }
+    }
+
+    /// The library, but it writes a word past `rows`.
+    fn one_past(lent: &mut Lent<'_>) -> u64 {
+        let status = apply(lent);
+        // SAFETY: none; there is a canary or a guard page.
+        unsafe { lent.rows.as_mut_ptr_range().end.write_volatile(1) };
+        status
+    }
+
+    #[test]
+    #[ignore = "ends the process; run by `a_library_that_writes_past_its_rows_is_found`"]
+    fn runs_a_library_that_writes_past_its_rows() {
+        tell_faults();
+        let seed = std::env::var("FUZZ_TEST_SEED").unwrap().parse().unwrap();
+        let mut fuzz = Fuzz::new(seed, &one_past);
+        for _ in 0..100 {
+            fuzz.step().unwrap_or_else(|failure| panic!("{failure}"));
+        }
+    }
+
+    /// By the guard page or by the canary, as the seed places the rows.
+    #[test]
+    fn a_library_that_writes_past_its_rows_is_found() {
+        let (mut touched, mut beside) = (0, 0);
+        for seed in 1..=8 {
+            let (output, text) = alone("runs_a_library_that_writes_past_its_rows", seed);
+            assert!(!output.status.success(), "seed {seed}");
+            assert!(text.contains(&format!("seed {seed}, call 1")), "{text}");
+            touched += u32::from(text.contains("memory was touched that was not lent"));
+            beside += u32::from(text.contains("written beside `rows`"));
+        }
+        assert_eq!(touched + beside, 8);
+        assert!(touched > 0 && beside > 0, "{touched} and {beside}");
     }
 }

@@ -51,8 +51,10 @@ pub struct Host {
     /// The tokens that the recovery in flight affects.
     pub affected: Vec<u64>,
     pub next_token: u64,
-    /// The opening's session number, rows, and bytes a row.
+    /// The opening's session number, and the generation of its ports.
     pub opening: u64,
+    generation: u64,
+    /// Rows and bytes a row of its store.
     pub row_count: usize,
     pub row_bytes: usize,
 }
@@ -66,6 +68,7 @@ impl Host {
             affected: Vec::new(),
             next_token: 0,
             opening: 0,
+            generation: 1,
             row_count: 1,
             row_bytes: 1,
         }
@@ -75,6 +78,7 @@ impl Host {
     pub fn open(&mut self) {
         let rng = &mut self.rng;
         self.opening = rng.pick(&[1, 7, u64::MAX]);
+        self.generation = rng.weighted(&[(8, 1), (1, u64::MAX)]);
         self.row_count = rng.pick(&[1, 2, 5, 12, 40]);
         self.row_bytes = rng.pick(&[1, 8, 64, 200]);
         let opening = Opening {
@@ -92,7 +96,7 @@ impl Host {
         for number in 1..=SLOTS {
             self.push(&Call::SetPort {
                 number,
-                generation: 1,
+                generation: self.generation,
                 reading: Some(WORD),
             });
             let device = self.device(number, DeviceState::Configured);
@@ -121,7 +125,7 @@ impl Host {
             id: self.device_id(number),
             port: PortId {
                 session: self.opening,
-                generation: 1,
+                generation: self.generation,
                 number,
             },
             state,
@@ -173,7 +177,9 @@ impl Host {
     }
 
     fn any(&mut self) -> Words {
+        let idle = self.known.is_empty() && self.rng.chance(80);
         match self.rng.below(40) {
+            16..33 if idle => self.submit(),
             0..12 => self.submit(),
             12..16 => self.plan(),
             16..23 => Words::from(&Call::PollRequest(self.id())),
@@ -210,7 +216,7 @@ impl Host {
         ];
         Error {
             category: self.rng.pick(&CATEGORIES),
-            message: self.rng.next() as u16,
+            message: self.rng.next_u64() as u16,
             os_code: self.rng.pick(&[None, Some(-5), Some(i32::MIN)]),
             completion_code: self.rng.pick(&[None, Some(6), Some(u32::MAX)]),
         }
@@ -257,7 +263,7 @@ impl Host {
             (1, DeviceState::Addressed),
             (1, DeviceState::Observed),
         ]);
-        let generation = self.rng.weighted(&[(8, 1), (1, 2), (1, u64::MAX)]);
+        let generation = self.rng.weighted(&[(9, self.generation), (1, 2)]);
         let reading = self.rng.weighted(&[(8, Some(WORD)), (1, None)]);
         Words::from(&match self.rng.below(8) {
             0..3 => self.device(slot, state),
@@ -303,6 +309,9 @@ impl Host {
         match answer {
             Answer::Passed if matches!(call[0], 0 | 7) && session[6] == CLOSED => {
                 self.known.clear();
+                if call[0] == 0 {
+                    self.opening = session[0];
+                }
             }
             Answer::Begun { begun, .. } | Answer::PlanBegun { begun, .. } => {
                 self.known.push(Known {

@@ -1,5 +1,5 @@
 //! What a call is lent: eight slices, each between guard pages while it runs.
-use tapewoad::library::Memory;
+use tapewoad::library::{self, Memory};
 
 use crate::guarded::{Edge, Guarded, announce};
 
@@ -26,8 +26,31 @@ pub struct Slices {
     pub lists: Vec<u64>,
 }
 
-/// `tapewoad::library::apply`, or what a test puts in its place.
-pub type Library<'a> = &'a dyn Fn(Memory<'_>, &[u64], &[u8], &mut [u64], &mut [u64]) -> u64;
+/// The slices as the library is lent them.
+pub struct Lent<'a> {
+    pub session: &'a mut [u64],
+    pub bus: &'a mut [u64],
+    pub rows: &'a mut [u64],
+    pub area: &'a mut [u8],
+    pub call: &'a [u64],
+    pub bytes: &'a [u8],
+    pub out: &'a mut [u64],
+    pub lists: &'a mut [u64],
+}
+
+/// [`apply`], or what a test puts in its place.
+pub type Library<'a> = &'a dyn Fn(&mut Lent<'_>) -> u64;
+
+/// The library's own function.
+pub fn apply(lent: &mut Lent<'_>) -> u64 {
+    let memory = Memory {
+        session: lent.session,
+        bus: lent.bus,
+        rows: lent.rows,
+        area: lent.area,
+    };
+    library::apply(memory, lent.call, lent.bytes, lent.out, lent.lists)
+}
 
 /// Memory for the eight slices.
 pub struct Lender {
@@ -76,26 +99,28 @@ impl Lender {
     /// Runs the call that was lent and gives the status.
     pub fn run(&mut self, library: Library<'_>, seed: u64, number: u64) -> u64 {
         announce(seed, number, &self.call);
-        let memory = Memory {
+        library(&mut Lent {
             session: self.session.words_mut(),
             bus: self.bus.words_mut(),
             rows: self.rows.words_mut(),
             area: self.area.bytes_mut(),
-        };
-        let (out, lists) = (self.out.words_mut(), self.lists.words_mut());
-        library(memory, self.call.words(), self.bytes.bytes(), out, lists)
+            call: self.call.words(),
+            bytes: self.bytes.bytes(),
+            out: self.out.words_mut(),
+            lists: self.lists.words_mut(),
+        })
     }
 
-    /// What stands in the slices now.
+    /// Writes what stands in the slices now in place of what `slices` has.
     pub fn take(&self, slices: &mut Slices) {
-        slices.session.copy_from_slice(self.session.words());
-        slices.bus.copy_from_slice(self.bus.words());
-        slices.rows.copy_from_slice(self.rows.words());
-        slices.area.copy_from_slice(self.area.bytes());
-        slices.call.copy_from_slice(self.call.words());
-        slices.bytes.copy_from_slice(self.bytes.bytes());
-        slices.out.copy_from_slice(self.out.words());
-        slices.lists.copy_from_slice(self.lists.words());
+        copy(&mut slices.session, self.session.words());
+        copy(&mut slices.bus, self.bus.words());
+        copy(&mut slices.rows, self.rows.words());
+        copy(&mut slices.area, self.area.bytes());
+        copy(&mut slices.call, self.call.words());
+        copy(&mut slices.bytes, self.bytes.bytes());
+        copy(&mut slices.out, self.out.words());
+        copy(&mut slices.lists, self.lists.words());
     }
 
     /// The slice beside which something was written that was not lent.
@@ -113,6 +138,11 @@ impl Lender {
         let broken = all.iter().find(|(slice, _)| !slice.canaries_stand());
         broken.map(|(_, name)| *name)
     }
+}
+
+fn copy<T: Copy>(to: &mut Vec<T>, from: &[T]) {
+    to.clear();
+    to.extend_from_slice(from);
 }
 
 fn lend_words(slice: &mut Guarded, words: &[u64], edge: Edge) {

@@ -18,7 +18,7 @@ use seeded::Rng;
 use tapewoad::calls::{ANSWER_WORDS, Answer, BUS_WORDS, LIST_WORDS, ROW_WORDS, SESSION_WORDS};
 
 pub use guarded::tell_faults;
-pub use lent::{Library, Slices};
+pub use lent::{Lent, Library, Slices, apply};
 pub use tally::Tally;
 
 use host::{Host, Words};
@@ -28,6 +28,8 @@ use lent::Lender;
 #[derive(Debug, Clone, Copy, PartialEq, Eq, PartialOrd, Ord)]
 pub enum Case {
     Good,
+    /// One word is another that may be in its field's range.
+    OddCall,
     DamagedCall,
     RandomCall,
     WrongSize,
@@ -39,8 +41,9 @@ pub enum Case {
 }
 
 const CASES: &[(u32, Case)] = &[
-    (50, Case::Good),
-    (16, Case::DamagedCall),
+    (45, Case::Good),
+    (12, Case::OddCall),
+    (12, Case::DamagedCall),
     (4, Case::RandomCall),
     (8, Case::WrongSize),
     (4, Case::DamagedCallAndSize),
@@ -52,7 +55,8 @@ const CASES: &[(u32, Case)] = &[
 impl Case {
     /// Whether what the call leaves is what calls lead to.
     fn leads_on(self) -> bool {
-        matches!(self, Self::Good | Self::DamagedCall | Self::RandomCall)
+        use Case::*;
+        matches!(self, Good | OddCall | DamagedCall | RandomCall)
     }
 
     /// Whether calls led to the session and the rows that it is lent.
@@ -119,7 +123,7 @@ pub struct Fuzz<'a> {
 impl<'a> Fuzz<'a> {
     pub fn new(seed: u64, library: Library<'a>) -> Self {
         let mut rng = Rng::new(seed);
-        let mut host = Host::new(Rng::new(rng.next()));
+        let mut host = Host::new(Rng::new(rng.next_u64()));
         let live = Slices {
             session: vec![0; SESSION_WORDS],
             bus: damage::words(&mut rng, BUS_WORDS),
@@ -146,11 +150,10 @@ impl<'a> Fuzz<'a> {
     pub fn step(&mut self) -> Result<(), Box<Failure>> {
         let case = self.rng.weighted(CASES);
         self.prepare(case);
-        let edges = self.rng.next() as u8;
+        let edges = self.rng.next_u64() as u8;
         self.lender.lend(&self.before, edges);
         let number = self.tally.calls + 1;
         let status = self.lender.run(self.library, self.seed, number);
-        self.after.clone_from(&self.before);
         self.lender.take(&mut self.after);
         let checked = match self.lender.broken_canary() {
             Some(name) => Err(format!("written beside `{name}`")),
@@ -183,6 +186,7 @@ impl<'a> Fuzz<'a> {
         it.bytes.clone_from(&self.next.bytes);
         match case {
             Case::Good => {}
+            Case::OddCall => damage::odd(rng, &mut it.call),
             Case::DamagedCall | Case::DamagedCallAndSize => {
                 for _ in 0..1 + rng.below(3) {
                     damage::list(rng, &mut it.call, lent::MOST_CALL);
@@ -196,7 +200,7 @@ impl<'a> Fuzz<'a> {
                 }
             }
             Case::WrongSize => damage::size(rng, it),
-            Case::DamagedSession => damage::flip_one(rng, &mut it.session),
+            Case::DamagedSession => damage::session(rng, &mut it.session),
             Case::RandomSession => it.session = damage::words(rng, SESSION_WORDS),
             Case::DamagedContents => damage::contents(rng, it),
         }
@@ -209,7 +213,7 @@ impl<'a> Fuzz<'a> {
     fn size_store(&mut self) {
         let (rows, bytes) = (self.host.row_count, self.host.row_bytes);
         self.live.rows = damage::words(&mut self.rng, rows * ROW_WORDS);
-        self.live.area = vec![self.rng.next() as u8; rows * bytes];
+        self.live.area = vec![self.rng.next_u64() as u8; rows * bytes];
     }
 
     /// Keeps what the call left, where calls may lead to it.

@@ -25,14 +25,14 @@ impl Host {
 
     fn data(&mut self, length: usize) -> Vec<u8> {
         let length = length.min(self.row_bytes);
-        (0..length).map(|_| self.rng.next() as u8).collect()
+        (0..length).map(|_| self.rng.next_u64() as u8).collect()
     }
 
     fn setup(&mut self, length: usize) -> SetupPacket {
         SetupPacket {
             request_type: self.rng.pick(&[0x80, 0xa1, 0xc0, 0x00, 0x21, 0x40]),
             request: self.rng.pick(&[0, 6, 8]),
-            value: self.rng.next() as u16,
+            value: self.rng.next_u64() as u16,
             index: 0,
             length: length as u16,
         }
@@ -41,7 +41,8 @@ impl Host {
     pub fn submit(&mut self) -> Words {
         let length = self.length();
         let control = self.rng.chance(20);
-        let setup = control.then(|| self.setup(length));
+        let bare = self.rng.chance(3);
+        let setup = (control && !bare).then(|| self.setup(length));
         let (endpoint, transfer_type) = match control {
             true => (0, TransferType::Control),
             false => self.rng.pick(&ENDPOINTS),

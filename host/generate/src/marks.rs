@@ -25,7 +25,7 @@ impl World {
             return Call::Raw { slot, set: false };
         }
         let slot = match self.devices.is_empty() || self.rng.chance(70) {
-            true => self.rng.next() as u8,
+            true => self.rng.next_u64() as u8,
             false => self.rng.pick(&self.devices).id.slot,
         };
         if !self.marked.contains(&slot) {
@@ -45,7 +45,7 @@ impl World {
     /// none, else mostly another than the slot's; or one without device and mark.
     pub fn marked_target(&mut self) -> Option<DeviceId> {
         if self.marked.is_empty() || self.rng.chance(10) {
-            let slot = self.rng.next() as u8;
+            let slot = self.rng.next_u64() as u8;
             return (!self.is_placed(slot)).then_some(DeviceId { slot, ..NO_DEVICE });
         }
         let slot = self.rng.pick(&self.marked);

@@ -250,7 +250,7 @@ impl World {
         let reading = match self.rng.below(8) {
             0 => None,
             1 => Some(0x2a0),
-            2 => Some(self.rng.next() as u32),
+            2 => Some(self.rng.next_u64() as u32),
             _ => Some(self.rng.pick(&WORDS)),
         };
         Call::Port {
@@ -281,7 +281,7 @@ impl World {
             return match self.rng.below(3) {
                 0 => Err(values::error(&mut self.rng)),
                 1 => Ok(word ^ 1),
-                _ => Ok(self.rng.next() as u32),
+                _ => Ok(self.rng.next_u64() as u32),
             };
         }
         if !self.phase.is_steady() && self.rng.chance(6) {
