@@ -1,6 +1,6 @@
 //! Good words made bad.
 use seeded::Rng;
-use tapewoad::calls::{BUS_WORDS, LIST_WORDS, SESSION_WORDS};
+use tapewoad::calls::{ANSWER_WORDS, BUS_WORDS, LIST_WORDS};
 
 use crate::lent::{self, Slices};
 
@@ -90,51 +90,82 @@ pub fn odd(rng: &mut Rng, words: &mut [u64]) {
     }
 }
 
-/// Another controller state, or any word flipped.
+/// Another controller state, two words swapped, or one flipped.
 pub fn session(rng: &mut Rng, words: &mut [u64]) {
-    match rng.chance(20) {
-        true => words[6] = rng.below(5) as u64,
-        false => flip_one(rng, words),
+    match rng.below(5) {
+        0 => words[6] = rng.below(5) as u64,
+        1 => words.swap(rng.below(words.len()), rng.below(words.len())),
+        _ => flip_one(rng, words),
     }
 }
 
-/// A length that is wrong, empty or off by one more often than chance would.
-fn length(rng: &mut Rng, right: usize, most: usize) -> usize {
-    let wrong = match rng.below(4) {
-        0 => 0,
-        1 => right + 1,
-        2 => right.saturating_sub(1),
-        _ => rng.below(most + 1),
-    };
-    wrong.min(most)
+/// One of the eight slices.
+#[derive(Debug, Clone, Copy, PartialEq, Eq)]
+pub enum Slice {
+    Session,
+    Bus,
+    Rows,
+    Area,
+    Call,
+    Bytes,
+    Out,
+    Lists,
 }
 
-/// Gives one slice a wrong length.
-pub fn size(rng: &mut Rng, slices: &mut Slices) {
-    let of = |rng: &mut Rng, slice: &mut Vec<u64>, right, most| {
-        let length = length(rng, right, most);
-        slice.resize_with(length, || 0);
+/// Each slice, the most elements that it is lent with, and from which length on
+/// none is left out; below it every 32nd is taken.
+const SLICES: [(Slice, usize, usize); 8] = [
+    (Slice::Out, lent::MOST_OUT, 0),
+    (Slice::Lists, lent::MOST_LISTS, LIST_WORDS - 16),
+    (Slice::Session, lent::MOST_SESSION, 0),
+    (Slice::Call, 64, 0),
+    (Slice::Bytes, 256, 0),
+    (Slice::Area, lent::MOST_AREA, lent::MOST_AREA),
+    (Slice::Bus, lent::MOST_BUS, BUS_WORDS - 16),
+    (Slice::Rows, lent::MOST_ROWS, 0),
+];
+
+/// These lengths of every slice, the empty one first.
+pub fn sizes() -> Vec<(Slice, usize)> {
+    let of = |(slice, most, all): (Slice, usize, usize)| {
+        let lengths = (0..all).step_by(32).chain(all..=most);
+        lengths.map(move |length| (slice, length))
     };
-    let (rows, area) = (slices.rows.len(), slices.area.len());
-    match rng.below(8) {
-        0 => of(rng, &mut slices.session, SESSION_WORDS, lent::MOST_SESSION),
-        1 => of(rng, &mut slices.bus, BUS_WORDS, lent::MOST_BUS),
-        2 => of(rng, &mut slices.rows, rows, lent::MOST_ROWS),
-        3 => {
-            let length = length(rng, area, lent::MOST_AREA);
-            slices.area.resize(length, 0);
-        }
-        4 => of(rng, &mut slices.out, 32, lent::MOST_OUT),
-        5 => of(rng, &mut slices.lists, LIST_WORDS, lent::MOST_LISTS),
-        6 => {
-            let length = length(rng, slices.bytes.len(), lent::MOST_BYTES);
-            slices.bytes.resize(length, 0);
-        }
-        _ => {
-            let right = slices.call.len();
-            of(rng, &mut slices.call, right, lent::MOST_CALL);
-        }
+    SLICES.into_iter().flat_map(of).collect()
+}
+
+/// Gives a slice this length.
+pub fn resize(slices: &mut Slices, slice: Slice, length: usize) {
+    match slice {
+        Slice::Session => slices.session.resize(length, 0),
+        Slice::Bus => slices.bus.resize(length, 0),
+        Slice::Rows => slices.rows.resize(length, 0),
+        Slice::Area => slices.area.resize(length, 0),
+        Slice::Call => slices.call.resize(length, 0),
+        Slice::Bytes => slices.bytes.resize(length, 0),
+        Slice::Out => slices.out.resize(length, 0),
+        Slice::Lists => slices.lists.resize(length, 0),
     }
+}
+
+/// Takes an element away from a slice or adds one.
+pub fn off_by_one(rng: &mut Rng, slices: &mut Slices) {
+    let (slice, most, _) = rng.pick(&SLICES);
+    let right = match slice {
+        Slice::Session => slices.session.len(),
+        Slice::Bus => slices.bus.len(),
+        Slice::Rows => slices.rows.len(),
+        Slice::Area => slices.area.len(),
+        Slice::Call => slices.call.len(),
+        Slice::Bytes => slices.bytes.len(),
+        Slice::Out => ANSWER_WORDS,
+        Slice::Lists => LIST_WORDS,
+    };
+    let length = match rng.chance(50) {
+        true => right + 1,
+        false => right.saturating_sub(1),
+    };
+    resize(slices, slice, length.min(most));
 }
 
 /// Flips words of the rows, the bus or bytes of the area: no call leaves such.

@@ -21,6 +21,7 @@ pub use guarded::tell_faults;
 pub use lent::{Lent, Library, Slices, apply};
 pub use tally::Tally;
 
+use damage::Slice;
 use host::{Host, Words};
 use lent::Lender;
 
@@ -32,6 +33,7 @@ pub enum Case {
     OddCall,
     DamagedCall,
     RandomCall,
+    /// The slices in turn with each length of a list, some with two of them wrong.
     WrongSize,
     DamagedCallAndSize,
     DamagedSession,
@@ -45,7 +47,7 @@ const CASES: &[(u32, Case)] = &[
     (12, Case::OddCall),
     (12, Case::DamagedCall),
     (4, Case::RandomCall),
-    (8, Case::WrongSize),
+    (12, Case::WrongSize),
     (4, Case::DamagedCallAndSize),
     (8, Case::DamagedSession),
     (2, Case::RandomSession),
@@ -111,6 +113,9 @@ pub struct Fuzz<'a> {
     host: Host,
     /// The host's next call.
     next: Words,
+    /// Slices with each length of a list, and how many of these were lent.
+    sizes: Vec<(Slice, usize)>,
+    next_size: usize,
     lender: Lender,
     /// What calls led to.
     live: Slices,
@@ -138,12 +143,19 @@ impl<'a> Fuzz<'a> {
             rng,
             next: host.next(&live.session),
             host,
+            sizes: damage::sizes(),
+            next_size: 0,
             lender: Lender::default(),
             live,
             before: Slices::default(),
             after: Slices::default(),
             tally: Tally::default(),
         }
+    }
+
+    /// How often the slices were lent with each length of the list.
+    pub fn size_rounds(&self) -> usize {
+        self.next_size / self.sizes.len()
     }
 
     /// Makes the next call and checks what came of it.
@@ -199,13 +211,18 @@ impl<'a> Fuzz<'a> {
                     *number = rng.below(26) as u64;
                 }
             }
-            Case::WrongSize => damage::size(rng, it),
+            Case::WrongSize => {
+                let (slice, length) = self.sizes[self.next_size % self.sizes.len()];
+                self.next_size += 1;
+                damage::resize(it, slice, length);
+            }
             Case::DamagedSession => damage::session(rng, &mut it.session),
             Case::RandomSession => it.session = damage::words(rng, SESSION_WORDS),
             Case::DamagedContents => damage::contents(rng, it),
         }
-        if matches!(case, Case::DamagedCallAndSize) || (case == Case::WrongSize && rng.chance(30)) {
-            damage::size(rng, it);
+        let also = case == Case::WrongSize && rng.chance(30);
+        if case == Case::DamagedCallAndSize || also {
+            damage::off_by_one(rng, it);
         }
     }
 

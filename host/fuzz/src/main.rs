@@ -37,6 +37,10 @@ fn run() -> Result<(), String> {
     let calls = fuzz.tally.calls;
     println!("{}", fuzz.tally);
     println!(
+        "every slice with each length of the list: {} times",
+        fuzz.size_rounds()
+    );
+    println!(
         "fuzz: {calls} calls answered as docs/CALLS.md says, seed {}, {seconds:.0} seconds",
         options.seed
     );

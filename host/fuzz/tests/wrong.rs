@@ -1,7 +1,7 @@
 //! The library is found right, and a wrapper that is wrong in one place is found.
 use fuzz::{Fuzz, Lent, Library, apply};
 
-const CALLS: u64 = 20_000;
+const CALLS: u64 = 25_000;
 
 /// What a run of this library failed by.
 fn failure(library: Library<'_>) -> Option<String> {
@@ -31,6 +31,7 @@ fn the_library_is_found_right_and_everything_is_met() {
     assert_eq!(tally.calls, CALLS);
     assert!(tally.statuses.iter().all(|count| *count > 50), "{tally}");
     assert_eq!(tally.cases.len(), 9, "{tally}");
+    assert_eq!(fuzz.size_rounds(), 1);
     for number in [1, 2, 3, 31, 33, 41, 45, 46, 47, 48, 49] {
         assert!(tally.refusals.contains_key(&number), "{number}: {tally}");
     }
