@@ -119,7 +119,7 @@ impl Side for Liar {
 #[test]
 fn a_difference_is_found_and_cut_down() {
     let lying = || Box::new(Liar(port::Port::new())) as Box<dyn Side>;
-    let stop = run(&lying, plan(3, 20_000));
+    let stop = run(&lying, plan(7, 20_000));
     let Err(Stop::Difference { after, found }) = stop else {
         panic!("it was not found");
     };
@@ -172,7 +172,7 @@ impl Side for Reversing {
 #[test]
 fn a_difference_in_a_recovery_is_found() {
     let reversing = || Box::new(Reversing(port::Port::new())) as Box<dyn Side>;
-    let Err(Stop::Difference { found, .. }) = run(&reversing, plan(6, 20_000)) else {
+    let Err(Stop::Difference { found, .. }) = run(&reversing, plan(10, 20_000)) else {
         panic!("it was not found");
     };
     let Some(Call::Recover {

@@ -82,11 +82,11 @@ impl Phase {
             (20, Self::Plans),
             (24, Self::Ports),
             (24, Self::Limits),
-            (10, Self::Hold),
+            (11, Self::Hold),
             (2, Self::Fill),
             (50, Self::Stalls),
             (12, Self::Lifecycle),
-            (30, Self::Marked),
+            (20, Self::Marked),
         ])
     }
 
