@@ -314,43 +314,32 @@ fn changed_later(before: &Slices, answer: &Answer, rows: Records) -> Changes {
 /// A refusal changes nothing but port readings, marks, the row of a failed
 /// submission, entries applied before it, and what its reply ends.
 fn refused(call: &[u64], number: u16, rows: Records) -> Changes {
+    let session: &[_] = match (call[0], number) {
+        // A failed acquire that retained nothing.
+        (5, 45) if call[2] == 0 => &[],
+        (5..=7, 45) => &[MARK],
+        (10 | 12 | 24, 45) | (24, 46 | 48) => &[MARK, IN_FLIGHT],
+        (12 | 24, 41) | (24, 47) => &[IN_FLIGHT],
+        _ => &[],
+    };
     match (call[0], number) {
         (8 | 9, 31 | 33..=39) => Changes {
+            session,
             bus: PORT_ROW,
             ..NOTHING
         },
-        // A failed acquire that retained nothing.
-        (5, 45) if call[2] == 0 => NOTHING,
-        (5..=7, 45) => Changes {
-            session: &[MARK],
-            ..NOTHING
-        },
         (10, 45) => Changes {
-            session: &[MARK, IN_FLIGHT],
+            session,
             rows: Part::One(rows, None),
             ..NOTHING
         },
-        (12, 41) => Changes {
-            session: &[IN_FLIGHT],
-            ..NOTHING
-        },
-        (12 | 24, 45 | 46) => Changes {
-            session: &[MARK, IN_FLIGHT],
-            ..NOTHING
-        },
-        (24, 41 | 47) => Changes {
-            session: &[IN_FLIGHT],
+        (24, 41 | 47 | 48) => Changes {
+            session,
             rows: Part::All,
             area: Part::All,
             ..NOTHING
         },
-        (24, 48) => Changes {
-            session: &[MARK, IN_FLIGHT],
-            rows: Part::All,
-            area: Part::All,
-            ..NOTHING
-        },
-        _ => NOTHING,
+        _ => Changes { session, ..NOTHING },
     }
 }
 

@@ -46,8 +46,8 @@ pub fn early_refusal(slices: &Slices) -> Option<u16> {
     (number == 24 && !lists_agree(&slices.call, slices.bytes.len())).then_some(49)
 }
 
-/// Whether the slices that the call uses have the sizes that the session, or the
-/// opening, records.
+/// Whether the slices that the call uses (crates/calls/specs/Step.antt) have the
+/// sizes that the session, or the opening, records.
 fn sizes_fit(slices: &Slices, number: u64) -> bool {
     let (count, bytes) = match number {
         0 => (slices.call[7], slices.call[8]),

@@ -97,13 +97,12 @@ impl World {
         };
         let (_, address, transfer_type) = choice;
         let readings = [self.reading(row), self.reading(row)];
-        let length = self.length(65_536);
         let mut submit = Submit {
             device,
             endpoint: address,
             transfer_type,
             direction: direction_of(address),
-            length,
+            length: self.length(65_536),
             setup: None,
             data: Data::Zeros(0),
             packets: None,
