@@ -1,7 +1,9 @@
 //! The two sides agree; where one lies, it is found and cut down.
+use std::collections::BTreeMap;
+
 use compare::{Plan, Stop, Tables, compare};
 use generate::Mix;
-use script::{Answer, Call, Outcome, RowState, Side};
+use script::{Answer, Call, DeviceId, Outcome, RowState, Side};
 
 fn plan(seed: u64, calls: u64) -> Plan {
     Plan {
@@ -185,4 +187,47 @@ fn a_difference_in_a_recovery_is_found() {
     // the reply names, and the recovery.
     let tokens = reply.completed.len() + reply.aborted.len();
     assert!(found.script.len() <= tokens + 8, "{found}");
+}
+
+/// The port, but it looks at the mark of a slot after its device (27 before 26).
+#[derive(Default)]
+struct Late {
+    port: port::Port,
+    devices: BTreeMap<u8, DeviceId>,
+}
+
+impl Side for Late {
+    fn apply(&mut self, call: &Call) -> Result<Answer, String> {
+        let mut answer = self.port.apply(call)?;
+        let device = match call {
+            Call::Open(_) => {
+                self.devices.clear();
+                None
+            }
+            Call::Device { id, .. } => self.devices.insert(id.slot, *id),
+            Call::Submit(submit) => Some(submit.device),
+            Call::Plan(plan) => Some(plan.device),
+            _ => None,
+        };
+        if let Outcome::Refused { number, error } = &mut answer.outcome
+            && *number == 26
+            && device.is_some_and(|id| self.devices.get(&id.slot) != Some(&id))
+        {
+            (*number, error.message) = (27, 27);
+        }
+        Ok(answer)
+    }
+}
+
+#[test]
+fn a_mark_that_is_looked_at_after_the_device_is_found_by_every_seed() {
+    let late = || Box::new(Late::default()) as Box<dyn Side>;
+    for seed in 1..=5 {
+        let Err(Stop::Difference { after, found }) = run(&late, plan(seed, 20_000)) else {
+            panic!("it was not found by seed {seed}");
+        };
+        println!("seed {seed}: call {after}");
+        assert!(found.rust.starts_with("refuse 26 "), "{found}");
+        assert!(found.port.starts_with("refuse 27 "), "{found}");
+    }
 }
