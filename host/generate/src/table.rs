@@ -85,11 +85,15 @@ const KINDS: &[&str] = &[
 
 /// What only the whole store meets, and what only smaller ones do.
 const FULL_STORE: &str = "5 with all 1,024 rows used";
+const ONE_ROW: &str = "opening of a store of one row";
+const MORE_ROWS: &str = "opening of a store of more rows";
+const ONE_ROW_USED: &str = "5 with the only row of a store used";
+const MORE_ROWS_USED: &str = "5 with all of more rows of a store used";
 const SMALL_KINDS: [&str; 6] = [
-    "opening of a store of one row",
-    "opening of a store of more rows",
-    "5 with the only row of a store used",
-    "5 with all of more rows of a store used",
+    ONE_ROW,
+    MORE_ROWS,
+    ONE_ROW_USED,
+    MORE_ROWS_USED,
     "7 by plan",
     "7 by submit",
 ];
@@ -171,8 +175,8 @@ impl Table {
                 self.store = mem::replace(&mut self.next_store, StoreSize::WHOLE);
                 match self.store {
                     StoreSize::WHOLE => {}
-                    StoreSize { rows: 1, .. } => self.corner(SMALL_KINDS[0]),
-                    _ => self.corner(SMALL_KINDS[1]),
+                    StoreSize { rows: 1, .. } => self.corner(ONE_ROW),
+                    _ => self.corner(MORE_ROWS),
                 }
             }
             Call::Store { rows, bytes } => {
@@ -224,8 +228,8 @@ impl Table {
     fn no_room(&self, rows: usize) -> &'static str {
         match (self.store, rows as u64) {
             (StoreSize::WHOLE, 1_024..) => FULL_STORE,
-            (StoreSize { rows: 1, .. }, 1..) => SMALL_KINDS[2],
-            (store, rows) if rows >= store.rows => SMALL_KINDS[3],
+            (StoreSize { rows: 1, .. }, 1..) => ONE_ROW_USED,
+            (store, rows) if rows >= store.rows => MORE_ROWS_USED,
             _ => "5 with 128 held",
         }
     }
