@@ -60,15 +60,19 @@ pub record Draft : Type 0 where
 abbrev pub draft : Place → RequestMetadata → List ℕ → Draft
 draft p m bytes = record { place = p; metadata = m; bytes = bytes }
 
--- 39, or the number is spent, the row holds the request and its bytes the buffer
+-- the number is spent, the row holds the request and its bytes the buffer
+abbrev pub begun : ℕ → Draft → Session → Memory → After Started Memory
+begun next d s m =
+    after
+    (record { answer = start.At (newId s) (d .place .row); session = session.spent s next (newId s) })
+    (memory (putIn (m .store) (d .place .row) (pendingRow (newId s) (d .metadata))) (writeOf (d .place .start) (d .metadata) (d .bytes) (m .area)))
+
+-- 39
 unfoldable pub beginOf : Draft → Session → Memory → After Started Memory
 beginOf d s m =
     elim (spendSequence (s .«next_sequence»)) [
       | spent.Refused r ↦ after (startRefused s r) m
-      | spent.Next next ↦
-          after
-          (record { answer = start.At (newId s) (d .place .row); session = session.spent s next (newId s) })
-          (memory (putIn (m .store) (d .place .row) (pendingRow (newId s) (d .metadata))) (writeOf (d .place .start) (d .metadata) (d .bytes) (m .area)))
+      | spent.Next next ↦ begun next d s m
     ]
 
 abbrev pub withBus : Bus → After Started Memory → After Started Lent
