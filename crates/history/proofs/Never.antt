@@ -58,11 +58,12 @@ abbrev pub Not : ℕ → Answer → Type 0
 Not n a = eqb (refusalNumber a) n ≡ false
 
 -- ---- 44: a held row is there only while the controller may recover
-never-44 : (s : Session) (store : Store) → Sound s store → (id : RequestId) (q : RecoveryKind) → Not 44 (ofBegin (recoverOf id q s store .answer))
-unfolding begunAs
-never-44 s store k id q =
-    begin-all id q s store (λ (o : Begun). Not 44 (ofBegin (o .answer))) (λ n e. e)
-    (λ i h e m. absurd (true≢false (ap not (sym m) ∙ full s store k i h (at-used id (rowIn (store .rows) i) e)))) (λ i h e a m. refl)
+module _ {s : Session} {store : Store} (k : Sound s store) where
+  never-44 : (id : RequestId) (q : RecoveryKind) → Not 44 (ofBegin (recoverOf id q s store .answer))
+  unfolding begunAs
+  never-44 id q =
+      begin-all id q s store (λ (o : Begun). Not 44 (ofBegin (o .answer))) (λ n e. e)
+      (λ i h e m. absurd (true≢false (ap not (sym m) ∙ full k i h (at-used id (rowIn (store .rows) i) e)))) (λ i h e a m. refl)
 
 -- ---- 43: a token of a reply in scope means a held row until its own entry
 module _ (s : Session) (m : Memory) (entries : List Entry) (few : count isHeld (m .store .rows) ≤ 128) (k : Led (m .store .rows) entries) (l : ReplyLists) where
@@ -100,7 +101,7 @@ module _ (o : Opening) (w : World) (es : List Event) (pass : stepOf (Open o) w .
   pub start-44 : (q : RecoveryKind) (id : RequestId) (h : Handed) → Handing h (Begin (Recover id q)) → Not 44 (answerTo at (starts q id h))
   unfolding stepOf begunOf
   start-44 q id h f =
-      by-handed h (Begin (Recover id q)) at (λ a v. Not 44 a) f (λ first bus area. never-44 (at .session) (worldStore at) (sound-run o w es pass follows) id q) refl
+      by-handed h (Begin (Recover id q)) at (λ a v. Not 44 a) f (λ first bus area. never-44 (sound-run o w es pass follows) id q) refl
 
   -- the affected rows are all of them, with no bound on their number
   pub all-affected : (d : DeviceId) (endpoint : ℕ) → affectedOf d endpoint (worldStore at .rows) ≡ allOf d endpoint (worldStore at .rows)

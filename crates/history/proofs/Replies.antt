@@ -89,7 +89,7 @@ module _ (s : Session) (store : Store) (sound : Sound s store) (j : Journal) (se
     its = entryOf id (j .entries)
 
     replied-held : isHeld replied ≡ true
-    replied-held = pending-held id replied hit (submission-pending s store sound id i lt hit own)
+    replied-held = pending-held id replied hit (submission-pending sound id i lt hit own)
 
     about : (g : Entry → Entry) → atWaiting (j .waiting) g (j .entries) ≡ atEntry id g (j .entries)
     about g = ap (λ (f : InFlight). atWaiting f g (j .entries)) (k .agree ∙ own)
@@ -142,7 +142,7 @@ module _ (s : Session) (store : Store) (sound : Sound s store) (j : Journal) (se
     quiet = withFlight s flight.Nothing
 
     polled : isPending (row .state) ≡ true
-    polled = poll-pending s store sound id i lt hit own
+    polled = poll-pending sound id i lt hit own
 
     held : isHeld row ≡ true
     held = pending-held id row hit polled

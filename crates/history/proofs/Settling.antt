@@ -35,8 +35,8 @@ use Rattle.checks.specs.declared.completion.CompletionTest.{CompletionTest}
 use Rattle.checks.specs.declared.completion.CompletionTest.the-variants as test
 use Rattle.session.specs.Session.{withFlight}
 use Rattle.session.specs.Lent.{Memory, memory}
+use Rattle.session.specs.declared.InFlight.{InFlight}
 use Rattle.session.specs.declared.InFlight.the-variants as flight
-use Rattle.session.specs.declared.RecoveryKind.{RecoveryKind}
 use Rattle.session.specs.declared.Session.{Session}
 use Rattle.scope.specs.Affected.{isAffected, affectedOf, tokensOf}
 use Rattle.scope.specs.Scope.{isAmong, slotOf, eachOnce, allIn, inScope}
@@ -59,7 +59,7 @@ use Rattle.runs.proofs.Ways.{recovery-all}
 use Rattle.runs.proofs.Entries.{Onward, entries-all}
 use Rattle.runs.proofs.Tokens.{tokensIn, Each, Distinct, each-last, scope-each, scope-distinct}
 use Rattle.history.specs.Journal.{View}
-use Rattle.history.specs.Claim.{rowView, lengthIn, codeIn, cancelledIn, completedAs, namedAs, recoveredAs, isSettled, Different, Recovered}
+use Rattle.history.specs.Claim.{rowView, lengthIn, codeIn, cancelledIn, completedAs, namedAs, recoveredAs, isSettled, Different, Recovered, ReportOf}
 use Rattle.history.proofs.Led.{rowW}
 use Rattle.history.proofs.Affects.{seen, scoped, affected-cond, affected-weighs}
 use Rattle.history.proofs.Sparing.{Spares, scope-spares}
@@ -461,23 +461,17 @@ module _ (l : ReplyLists) (s : Session) (m : Memory) (x : AbortReport) where
         (λ y own o n. concluded-told y o n _ (applyAll (s .size) (rowsMeant (placeMeant (y .device) (y .endpoint) rows) l) m) refl refl _ _ _) r
 
   -- ---- the report is of the operation that waited
-  abbrev pub recoveryBy : RecoveryKind → Recovery
-  recoveryBy q = record { target = x .target; device = x .device; endpoint = x .endpoint; kind = q }
-
   concluded-same : (y : Recovery) (o : Outcome) (v : Verdict) (a b : ℕ) (ids : Ids) (rows′ : List Row)
-      → ofRecovery (concludedBy v (ended quiet y o) (abortReport (ended quiet y o) a b) ids rows′ .answer) ≡ answer.Recovered x → y ≡ recoveryBy (y .kind)
+      → ofRecovery (concludedBy v (ended quiet y o) (abortReport (ended quiet y o) a b) ids rows′ .answer) ≡ answer.Recovered x → ReportOf (flight.Recovery y) x
   unfolding concludedBy
   concluded-same y o (verdict.Refused r) a b ids rows′ e = no-report r x _ e
   concluded-same y o verdict.Pass a b ids rows′ e =
       let q : abortReport (ended quiet y o) a b ≡ x = cc in
-      ap (λ (z : AbortReport). record { target = z .target; device = z .device; endpoint = z .endpoint; kind = y .kind }) q
+      subst (ReportOf (flight.Recovery y)) q (y .kind, refl)
 
-  abbrev pub Waited : Type 0
-  Waited = (q : RecoveryKind) × (s .«in_flight» ≡ flight.Recovery (recoveryBy q))
-
-  pub waited-told : (r : RecoveryReply) → ofRecovery (recoveryReplyOf r l s m .result .answer) ≡ answer.Recovered x → Waited
+  pub waited-told : (r : RecoveryReply) → ofRecovery (recoveryReplyOf r l s m .result .answer) ≡ answer.Recovered x → ReportOf (s .«in_flight») x
   unfolding settledOf
   waited-told r =
-      recovery-all l s m (λ (o : After recovery.Recovered Memory). ofRecovery (o .result .answer) ≡ answer.Recovered x → Waited)
+      recovery-all l s m (λ (o : After recovery.Recovered Memory). ofRecovery (o .result .answer) ≡ answer.Recovered x → ReportOf (s .«in_flight») x)
       (no-report _ x _) (no-report _ x _) (no-report _ x _) (λ e. no-report _ x _) (no-report _ x _)
-      (λ y own o n e. (y .kind, own ∙ ap flight.Recovery (concluded-same y o _ _ _ _ _ e))) r
+      (λ y own o n e. subst (λ (f : InFlight). ReportOf f x) (sym own) (concluded-same y o _ _ _ _ _ e)) r

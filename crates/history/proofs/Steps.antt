@@ -132,21 +132,20 @@ module _ (s : Session) (j : Journal) (seen : List ℕ) (store : Store) (k : Inv 
 abbrev pub Kept : Call → Journal → List ℕ → After Outcome Lent → Type 0
 Kept c j seen a = Inv (a .result .session) (a .lent .memory .store .rows) (journalStep c (a .result .answer) j) (noted (numberOf c) seen)
 
-pub step-kept : (c : Call) (w : World) → Sound (w .session) (worldStore w) → (j : Journal) (seen : List ℕ) → Inv (w .session) (worldStore w .rows) j seen → isOpening c ≡ false
-    → isNew (numberOf c) seen ≡ true → Kept c j seen (stepOf c w)
-unfolding stepOf movedOf begunOf repliedOf journalStep
-step-kept (Open o) w sound j seen k first new = absurd (true≢false first)
-step-kept (Place p) w sound j seen k first new = k
-step-kept (Move (Acquire reply)) w sound j seen k first new = acquire-kept (w .session) j seen (worldStore w) k reply
-step-kept (Move (Initialize reply)) w sound j seen k first new = initialize-kept (w .session) j seen (worldStore w) k reply
-step-kept (Move (Close fresh reply)) w sound j seen k first new =
-    close-kept (w .session) j seen (worldStore w) k (closed-unheld (w .session) (worldStore w) sound) fresh reply new
-step-kept (Begin (Submit packets q)) w sound j seen k first new = submit-kept (w .session) j seen (w .lent) k packets q
-step-kept (Begin (SubmitPlan q bytes one)) w sound j seen k first new = plan-kept (w .session) j seen (w .lent) k q bytes one
-step-kept (Begin (Poll id)) w sound j seen k first new = poll-kept (w .session) (worldStore w) sound j seen k id
-step-kept (Begin (Recover id kind)) w sound j seen k first new = begin-kept (w .session) j seen (worldStore w) k id kind
-step-kept (Reply (ToSubmit reply)) w sound j seen k first new = reply-kept (w .session) (worldStore w) sound j seen k reply
-step-kept (Reply (ToPoll reply bytes)) w sound j seen k first new = finish-kept (w .session) (worldStore w) sound j seen k reply bytes (w .lent .memory .area)
-step-kept (Reply (ToRecovery reply lists)) w sound j seen k first new = recovery-kept (w .session) j seen (w .lent .memory) k (sound .held) lists reply
-step-kept (Change id c) w sound j seen k first new = change-kept (w .session) j seen (worldStore w) k id (changeBy c) (change-stays c)
-step-kept (Read r) w sound j seen k first new = k
+module _ (w : World) (sound : Sound (w .session) (worldStore w)) (j : Journal) (seen : List ℕ) (k : Inv (w .session) (worldStore w .rows) j seen) where
+  pub step-kept : (c : Call) → isOpening c ≡ false → isNew (numberOf c) seen ≡ true → Kept c j seen (stepOf c w)
+  unfolding stepOf movedOf begunOf repliedOf journalStep
+  step-kept (Open o) first new = absurd (true≢false first)
+  step-kept (Place p) first new = k
+  step-kept (Move (Acquire reply)) first new = acquire-kept (w .session) j seen (worldStore w) k reply
+  step-kept (Move (Initialize reply)) first new = initialize-kept (w .session) j seen (worldStore w) k reply
+  step-kept (Move (Close fresh reply)) first new = close-kept (w .session) j seen (worldStore w) k (closed-unheld sound) fresh reply new
+  step-kept (Begin (Submit packets q)) first new = submit-kept (w .session) j seen (w .lent) k packets q
+  step-kept (Begin (SubmitPlan q bytes one)) first new = plan-kept (w .session) j seen (w .lent) k q bytes one
+  step-kept (Begin (Poll id)) first new = poll-kept (w .session) (worldStore w) sound j seen k id
+  step-kept (Begin (Recover id kind)) first new = begin-kept (w .session) j seen (worldStore w) k id kind
+  step-kept (Reply (ToSubmit reply)) first new = reply-kept (w .session) (worldStore w) sound j seen k reply
+  step-kept (Reply (ToPoll reply bytes)) first new = finish-kept (w .session) (worldStore w) sound j seen k reply bytes (w .lent .memory .area)
+  step-kept (Reply (ToRecovery reply lists)) first new = recovery-kept (w .session) j seen (w .lent .memory) k (sound .held) lists reply
+  step-kept (Change id c) first new = change-kept (w .session) j seen (worldStore w) k id (changeBy c) (change-stays c)
+  step-kept (Read r) first new = k

@@ -51,7 +51,7 @@ use Rattle.runs.proofs.Ways.{change-all}
 use Rattle.runs.proofs.Run.{Whole, lent-rows, sound-open, left-leads, sound-run, fitted-run, SoundIn}
 use Rattle.runs.proofs.Tally.{count-answer, bytes-answer}
 use Rattle.history.specs.Journal.{Entry, Journal, blank, isNone, isOpen, isEntry, noEntry, entryOf, recoveryWaits, journalStep, journalOf, View, entryView}
-use Rattle.history.specs.Claim.{rowView, heldAs, openAs, Agrees, releasesOf, rowsBy, entriesAfter, reclaims, starts, returns, Spared, Claim}
+use Rattle.history.specs.Claim.{rowView, heldAs, openAs, Agrees, releasesOf, rowsBy, entriesAfter, reclaims, starts, returns, Spared, Claim, ReportOf}
 use Rattle.history.proofs.Led.{cond-and, rowW, entryW, each, lengthOf, at, twice, Led, row-none, known-in, entry-is}
 use Rattle.history.proofs.Changes.{none-held, none-at}
 use Rattle.history.proofs.Inv.{Inv, seen-more}
@@ -59,7 +59,7 @@ use Rattle.history.proofs.Recovery.{begin-names}
 use Rattle.history.proofs.Steps.{step-kept}
 use Rattle.history.proofs.Counting.{refused-3, handed-over}
 use Rattle.history.proofs.Refusing.{refused-untouched}
-use Rattle.history.proofs.Settling.{no-report, Settles, recovered-told, waited-told, recoveryBy, Waited}
+use Rattle.history.proofs.Settling.{no-report, Settles, recovered-told, waited-told}
 use Rattle.history.proofs.Sparing.{all-spared, reply-spares}
 
 -- ---- rows and entries that agree, seen through a filter
@@ -134,7 +134,7 @@ event-kept : (h : Handed) (c : Call) (w : World) → SoundIn w → (j : Journal)
     → Holds (leftBy h c w) (journalStep c (answerTo w (record { call = c; handed = h })) j) (noted (numberOf c) seen)
 event-kept h c w sound j seen k f n =
     by-handed h c w (λ a v. Holds v (journalStep c a j) (noted (numberOf c) seen)) f
-    (λ first bus area. step-kept c (beside bus area w) sound j seen k first n)
+    (λ first bus area. step-kept (beside bus area w) sound j seen k c first n)
     (subst (λ (x : Journal). Holds w x (noted (numberOf c) seen)) (sym (refused-3 c j)) (seen-more (w .session) (worldStore w .rows) j seen k (numberOf c)))
 
 pub run-kept : (es : List Event) (w : World) (j : Journal) (seen : List ℕ) → SoundIn w → Holds w j seen → Follows es → Fresh seen es
@@ -242,11 +242,10 @@ module _ (o : Opening) (w : World) (es : List Event) (pass : stepOf (Open o) w .
         (λ bus area. recovered-told l (mid .session) (memory (worldStore mid) area) x (sound-run o w before pass (follows-front before (ending ∷ after) (subst Follows is follows)) .held) reply)
         (no-report (refusalOf 3) x _)
 
-    reported-at : (x : AbortReport) → answerTo mid ending ≡ answer.Recovered x
-        → (q : RecoveryKind) × (journalOf (historyOf start before) blank .waiting ≡ flight.Recovery (recoveryBy l (mid .session) (mid .lent .memory) x q))
+    reported-at : (x : AbortReport) → answerTo mid ending ≡ answer.Recovered x → ReportOf (journalOf (historyOf start before) blank .waiting) x
     unfolding stepOf repliedOf
     reported-at x e =
-        let q = by-reply (λ a v. a ≡ answer.Recovered x → Waited l (mid .session) (mid .lent .memory) x)
+        let q = by-reply (λ a v. a ≡ answer.Recovered x → ReportOf (mid .session .«in_flight») x)
         (λ bus area. waited-told l (mid .session) (memory (worldStore mid) area) x reply) (no-report (refusalOf 3) x _) e in
         (q .0, holds before after ending is .1 .agree ∙ q .1)
 
@@ -260,14 +259,13 @@ module _ (o : Opening) (w : World) (es : List Event) (pass : stepOf (Open o) w .
   pub whole-claim : Whole w → Claim start es
   unfolding stepOf readOf
   whole-claim whole =
-      let end : World = endOf start es in
       let sound = sound-run o w es pass follows in
       let fitted = fitted-run o w es pass follows whole in
       let k = run-kept es start blank seen (sound-open o w pass) (opened-holds o w pass) follows fresh .1 .led in
       record {
         agrees = agreed _ _ k (sound .held);
-        count-is = ap ofTally (count-answer (end .session) (worldStore end) sound fitted) ∙ ap (λ (n : ℕ). answer.Number n) (k .same each);
-        bytes-is = ap ofTally (bytes-answer (end .session) (worldStore end) sound fitted) ∙ ap (λ (n : ℕ). answer.Number n) (k .same lengthOf);
+        count-is = ap ofTally (count-answer sound fitted) ∙ ap (λ (n : ℕ). answer.Number n) (k .same each);
+        bytes-is = ap ofTally (bytes-answer sound fitted) ∙ ap (λ (n : ℕ). answer.Number n) (k .same lengthOf);
         one-entry = k .once;
         one-release = release-once _ _ k;
         reclaimed = reclaim-at;
@@ -279,10 +277,11 @@ module _ (o : Opening) (w : World) (es : List Event) (pass : stepOf (Open o) w .
         untouched = refused-untouched;
       }
 
--- the theorem: over lent slices, which always have as many rows as their words say
+-- what lent slices say
 abbrev pub worldOf : Session → List ℕ → List ℕ → List ℕ → World
 worldOf s bus rows area = world s (lent (busOf bus) (memory (storeOf rows) area))
 
+-- the theorem: lent slices always have as many rows as their words say
 pub history-claim : (o : Opening) (s : Session) (bus rows area : List ℕ) (es : List Event)
     → stepOf (Open o) (worldOf s bus rows area) .result .answer ≡ answer.Pass → Follows es → Fresh (o .session ∷ []) es
     → Claim (next (stepOf (Open o) (worldOf s bus rows area))) es

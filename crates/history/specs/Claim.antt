@@ -170,6 +170,10 @@ starts q id h = record { call = Begin (Recover id q); handed = h }
 abbrev pub returns : RecoveryReply → ReplyLists → Handed → Event
 returns reply l h = record { call = Reply (ToRecovery reply l); handed = h }
 
+-- a report is of the operation
+abbrev pub ReportOf : InFlight → AbortReport → Type 0
+ReportOf f x = (q : RecoveryKind) × (f ≡ flight.Recovery (record { target = x .target; device = x .device; endpoint = x .endpoint; kind = q }))
+
 pub record Claim (w : World) (es : List Event) : Type 0 where
   pub agrees : (p : View → Bool) → Agrees p (rowsAfter w es) (entriesAfter w es)
   -- the calls' own tallies stop at their widths' maxima, and never come to them
@@ -187,19 +191,15 @@ pub record Claim (w : World) (es : List Event) : Type 0 where
       → answerTo (endOf w before) (starts q id h) ≡ answer.Recovering x
       → flight.Recovery x ≡ recoveryWaits id q (journalOf (historyOf w before) blank) .waiting
   -- each recovery that succeeded, ready and without an error, the affected tokens all different
-  pub recovered : (before after : List Event) (h : Handed) (reply : RecoveryReply) (l : ReplyLists)
-      → es ≡ before ++ (returns reply l h ∷ after) → (x : AbortReport)
+  pub recovered : (before after : List Event) (h : Handed) (reply : RecoveryReply) (l : ReplyLists) → es ≡ before ++ (returns reply l h ∷ after) → (x : AbortReport)
       → answerTo (endOf w before) (returns reply l h) ≡ answer.Recovered x → x .«restart_ready» ≡ true → hasError (x .error) ≡ false
       → Different (x .device) (x .endpoint) (rowsAfter w before)
       → Recovered (x .device) (x .endpoint) l (rowsAfter w before) (rowsBy (endOf w before) (returns reply l h))
   -- whatever a recovery's reply is answered, it changes no row but those that are affected by the operation that, by the history, waits
-  pub spared : (before after : List Event) (h : Handed) (reply : RecoveryReply) (l : ReplyLists)
-      → es ≡ before ++ (returns reply l h ∷ after)
+  pub spared : (before after : List Event) (h : Handed) (reply : RecoveryReply) (l : ReplyLists) → es ≡ before ++ (returns reply l h ∷ after)
       → Spared (journalOf (historyOf w before) blank .waiting) (rowsAfter w before) (rowsBy (endOf w before) (returns reply l h))
   -- the report of any recovery is of the operation that, by the history, waited
-  pub reported : (before after : List Event) (h : Handed) (reply : RecoveryReply) (l : ReplyLists)
-      → es ≡ before ++ (returns reply l h ∷ after) → (x : AbortReport)
-      → answerTo (endOf w before) (returns reply l h) ≡ answer.Recovered x
-      → (q : RecoveryKind) × (journalOf (historyOf w before) blank .waiting ≡ flight.Recovery (record { target = x .target; device = x .device; endpoint = x .endpoint; kind = q }))
+  pub reported : (before after : List Event) (h : Handed) (reply : RecoveryReply) (l : ReplyLists) → es ≡ before ++ (returns reply l h ∷ after) → (x : AbortReport)
+      → answerTo (endOf w before) (returns reply l h) ≡ answer.Recovered x → ReportOf (journalOf (historyOf w before) blank .waiting) x
   -- a refusal by 3 leaves whatever the call was handed as it was
   pub untouched : (c : Call) (v : World) → stepOf c v .result .answer ≡ answer.Refused (refusalOf 3) → next (stepOf c v) ≡ v
