@@ -1,29 +1,30 @@
 -- The rows that a recovery affects, and those that a reply's tokens mean. Assumes nothing.
 use Prim.Native.Nat.{ℕ, zero, suc, _<_}
-use mathlib.Core.Path.{_≡_, _∙_}
+use mathlib.Core.Path.{_≡_}
 use mathlib.Core.Bool.{true, _&&_}
-use mathlib.Core.List.{List, [], _∷_, map}
+use mathlib.Core.List.{List, [], _∷_}
 use native.Mathlib.Omega.{arith}
 use native.Mathlib.Nat.{le-of-suc-le-suc}
 use borrow.Author.Tests.{ltb-true}
 use lib.Dec.{ltb}
 use lib.ListN.{length, getD, length-map}
 use Rattle.chain.proofs.Chain.{caseB, both}
-use Rattle.words.proofs.Records.{map-tab, tab-list}
 use Rattle.models.specs.declared.DeviceId.{DeviceId}
 use Rattle.rows.specs.Table.{isHeld, rowIn, idIn, tokenIn}
 use Rattle.rows.specs.declared.Row.{Row}
 use Rattle.scope.specs.Affected.{isAffected, comesBefore, insertRow, joined, affectedUpTo, affectedOf, tokensOf}
 use Rattle.scope.specs.Scope.{slotOf, isAmong, meant}
-use Rattle.scope.specs.Returned.{Returned, returnedAt, readReturned}
 use Rattle.scope.proofs.affected.Laws.{affected-bounded}
 
-pub returned-tokens : (tokens words : List ℕ) → map (λ (e : Returned). e .token) (readReturned tokens words) ≡ tokens
-unfolding readReturned
-returned-tokens tokens words = map-tab (λ (e : Returned). e .token) (returnedAt tokens words) (length tokens) ∙ tab-list tokens 0
-
--- ---- an affected row is held
 module _ (d : DeviceId) (endpoint : ℕ) (rows : List Row) where
+  -- the tokens of the affected rows, and the place of the row that a token means
+  abbrev pub ownTokens : List ℕ
+  ownTokens = tokensOf rows (affectedOf d endpoint rows)
+
+  abbrev pub placeMeant : ℕ → ℕ
+  placeMeant t = meant (affectedOf d endpoint rows) ownTokens t
+
+  -- ---- an affected row is held
   abbrev AllHeld : List ℕ → Type 0
   AllHeld l = (k : ℕ) → k < length l → isAffected d endpoint (rowIn rows (getD l k 0)) ≡ true
 
@@ -53,12 +54,12 @@ module _ (d : DeviceId) (endpoint : ℕ) (rows : List Row) where
   affected-held = up-to-held (length rows)
 
   -- the row that an expected token means is affected
-  module _ (t : ℕ) (e : isAmong t (tokensOf rows (affectedOf d endpoint rows)) ≡ true) where
-    pub slot-in : slotOf (tokensOf rows (affectedOf d endpoint rows)) t < length (affectedOf d endpoint rows)
-    slot-in = omega (arith, ltb-true (slotOf (tokensOf rows (affectedOf d endpoint rows)) t) (length (tokensOf rows (affectedOf d endpoint rows))) e, length-map (affectedOf d endpoint rows) (tokenIn rows))
+  module _ (t : ℕ) (e : isAmong t ownTokens ≡ true) where
+    pub slot-in : slotOf ownTokens t < length (affectedOf d endpoint rows)
+    slot-in = omega (arith, ltb-true (slotOf ownTokens t) (length ownTokens) e, length-map (affectedOf d endpoint rows) (tokenIn rows))
 
-    pub meant-below : meant (affectedOf d endpoint rows) (tokensOf rows (affectedOf d endpoint rows)) t < length rows
-    meant-below = affected-bounded d endpoint rows (slotOf (tokensOf rows (affectedOf d endpoint rows)) t) slot-in
+    pub meant-below : placeMeant t < length rows
+    meant-below = affected-bounded d endpoint rows (slotOf ownTokens t) slot-in
 
-    pub meant-affected : isAffected d endpoint (rowIn rows (meant (affectedOf d endpoint rows) (tokensOf rows (affectedOf d endpoint rows)) t)) ≡ true
-    meant-affected = affected-held (slotOf (tokensOf rows (affectedOf d endpoint rows)) t) slot-in
+    pub meant-affected : isAffected d endpoint (rowIn rows (placeMeant t)) ≡ true
+    meant-affected = affected-held (slotOf ownTokens t) slot-in

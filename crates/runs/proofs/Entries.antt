@@ -1,67 +1,100 @@
 -- The walk over the entries of a recovery's reply, for whatever is kept on the way. Assumes nothing.
-use Prim.Native.Nat.{ℕ, _*_}
-use mathlib.Core.List.{List, [], _∷_}
-use mathlib.Core.Path.{_≡_, refl, sym, subst}
-use lib.ListN.{take, drop}
+use Prim.Native.Nat.{ℕ, _<_}
+use mathlib.Core.List.{List, [], _∷_, map}
+use mathlib.Core.Path.{_≡_, refl, sym, ap, _∙_, subst}
+use native.Mathlib.Omega.{arith}
+use lib.ListN.{length, take, drop, length-map, List·getD-map}
+use Rattle.chain.specs.After.{After}
+use Rattle.chain.proofs.Lists.{getD-any}
+use Rattle.words.specs.Records.{tab}
+use Rattle.words.proofs.Records.{tab-same, map-tab}
 use Rattle.models.specs.declared.Verdict.{Verdict}
 use Rattle.models.specs.declared.Verdict.the-variants as verdict
 use Rattle.rows.specs.Store.{Store}
-use Rattle.scope.specs.Returned.{Returned}
-use Rattle.recovery.specs.Entries.{WalkTo, completeOne, onwardBy, completeAll, AbortTo, abortOne, furtherBy, abortAll}
-use Rattle.recovery.specs.Reply.{abortsAfter, applyAll}
+use Rattle.session.specs.Lent.{Memory, memory}
+use Rattle.session.specs.declared.Size.{Size}
+use Rattle.scope.specs.Returned.{broughtAt, Returned, returnedAt, readReturned}
+use Rattle.recovery.specs.Entries.{Entry, entryAt, readEntries, completeOne, onwardBy, completeAll, abortOne, abortAll, abortsIn, applyAll}
+use Rattle.recovery.specs.RecoveryReply.{ReplyLists, rowsMeant}
+use Rattle.runs.proofs.Tokens.{returnedIn}
 
--- J: the entries that are left, their bytes, and the store and the area where the walk has come; P: where it ends
-module _ (place : ℕ → ℕ) (room : ℕ) (J : List Returned → List ℕ → List ℕ → Store → List ℕ → Type 0) (P : Verdict → Store → List ℕ → Type 0) where
+-- J: the entries that are left, their bytes, and the memory where the walk has come; P: where it ends
+module _ (place : ℕ → ℕ) (z : Size) (J : List Returned → List ℕ → List ℕ → Memory → Type 0) (P : Verdict → Memory → Type 0) where
   -- an entry is refused, and ends it, or passes
-  abbrev pub Onward : Verdict → List Returned → List ℕ → List ℕ → Store → List ℕ → Type 0
-  Onward (verdict.Refused r) es ts bytes store area = P (verdict.Refused r) store area
-  Onward verdict.Pass es ts bytes store area = J es ts bytes store area
+  abbrev pub Onward : Verdict → List Returned → List ℕ → List ℕ → Memory → Type 0
+  Onward (verdict.Refused r) es ts bytes m = P (verdict.Refused r) m
+  Onward verdict.Pass es ts bytes m = J es ts bytes m
 
-  abbrev Onto : WalkTo → List Returned → List ℕ → List ℕ → Type 0
-  Onto w es ts bytes = Onward (w .verdict) es ts bytes (w .store) (w .area)
+  abbrev Onto : After Verdict Memory → List Returned → List ℕ → List ℕ → Type 0
+  Onto o es ts bytes = Onward (o .result) es ts bytes (o .lent)
 
   abbrev bytesLeft : List Returned → List ℕ → List ℕ
   bytesLeft [] bytes = bytes
   bytesLeft (e ∷ es) bytes = bytesLeft es (drop (e .brought .given) bytes)
 
-  module _ (done : (bytes : List ℕ) (store : Store) (area : List ℕ) → J [] [] bytes store area → P verdict.Pass store area)
-      (completes : (e : Returned) (es : List Returned) (ts bytes : List ℕ) (store : Store) (area : List ℕ) → J (e ∷ es) ts bytes store area
-      → Onto (completeOne (place (e .token)) (place (e .token) * room) room (e .brought .completion) (take (e .brought .given) bytes) store area) es ts
-      (drop (e .brought .given) bytes))
-      (aborts : (t : ℕ) (ts bytes : List ℕ) (store : Store) (area : List ℕ) → J [] (t ∷ ts) bytes store area
-      → Onward (abortOne (place t) store .verdict) [] ts bytes (abortOne (place t) store .store) area) where
-    completed : (es : List Returned) (ts bytes : List ℕ) (store : Store) (area : List ℕ) → J es ts bytes store area
-        → Onto (completeAll place room es bytes store area) [] ts (bytesLeft es bytes)
-    completed [] ts bytes store area k = k
-    completed (e ∷ es) ts bytes store area k =
-        go _ (completeOne (place (e .token)) (place (e .token) * room) room (e .brought .completion) (take (e .brought .given) bytes) store area) refl
-        (completes e es ts bytes store area k) (λ s x h. completed es ts (drop (e .brought .given) bytes) s x h)
-      where
-        go : (v : Verdict) (w : WalkTo) → w .verdict ≡ v → Onward v es ts (drop (e .brought .given) bytes) (w .store) (w .area)
-            → ((s : Store) (x : List ℕ) → J es ts (drop (e .brought .given) bytes) s x
-            → Onto (completeAll place room es (drop (e .brought .given) bytes) s x) [] ts (bytesLeft es (drop (e .brought .given) bytes)))
-            → Onto (onwardBy v w (λ (s : Store) (x : List ℕ). completeAll place room es (drop (e .brought .given) bytes) s x)) [] ts (bytesLeft es (drop (e .brought .given) bytes))
-        go (verdict.Refused r) w ev h rest =
-            subst (λ (v : Verdict). Onward v [] ts (bytesLeft es (drop (e .brought .given) bytes)) (w .store) (w .area)) (sym ev) h
-        go verdict.Pass w ev h rest = rest (w .store) (w .area) h
+  -- the row that an entry's token means
+  abbrev rowOf : Returned → Entry
+  rowOf e = record { row = place (e .token); brought = e .brought }
 
-    aborted : (ts bytes : List ℕ) (store : Store) (area : List ℕ) → J [] ts bytes store area → P (abortAll place ts store .verdict) (abortAll place ts store .store) area
-    aborted [] bytes store area k = done bytes store area k
-    aborted (t ∷ ts) bytes store area k =
-        go _ (abortOne (place t) store) refl (aborts t ts bytes store area k) (λ s h. aborted ts bytes s area h)
-      where
-        go : (v : Verdict) (w : AbortTo) → w .verdict ≡ v → Onward v [] ts bytes (w .store) area
-            → ((s : Store) → J [] ts bytes s area → P (abortAll place ts s .verdict) (abortAll place ts s .store) area)
-            → P (furtherBy v w (λ (s : Store). abortAll place ts s) .verdict) (furtherBy v w (λ (s : Store). abortAll place ts s) .store) area
-        go (verdict.Refused r) w ev h rest = subst (λ (v : Verdict). P v (w .store) area) (sym ev) h
-        go verdict.Pass w ev h rest = rest (w .store) h
+  rows-meant : (tokens words : List ℕ) → readEntries (map place tokens) words ≡ map rowOf (readReturned tokens words)
+  unfolding readEntries readReturned
+  rows-meant tokens words =
+      ap (tab (entryAt (map place tokens) words)) (length-map tokens place)
+      ∙ tab-same (λ (k : ℕ). rowOf (returnedAt tokens words k)) (entryAt (map place tokens) words) (length tokens) each
+      ∙ sym (map-tab rowOf (returnedAt tokens words) (length tokens))
+    where
+      each : (k : ℕ) → k < length tokens → entryAt (map place tokens) words k ≡ rowOf (returnedAt tokens words k)
+      each k h =
+          ap {B = Entry} (λ (i : ℕ). record { row = i; brought = broughtAt words k })
+          (getD-any (map place tokens) k 0 (place 0) (omega (arith, length-map tokens place)) ∙ List·getD-map place tokens k 0)
 
-    pub entries-all : (es : List Returned) (ts bytes : List ℕ) (store : Store) (area : List ℕ) → J es ts bytes store area
-        → P (applyAll place room es ts bytes store area .verdict) (applyAll place room es ts bytes store area .store) (applyAll place room es ts bytes store area .area)
-    unfolding applyAll abortsAfter
-    entries-all es ts bytes store area k = go _ (completeAll place room es bytes store area) refl (completed es ts bytes store area k)
+  abbrev one : Returned → List ℕ → Memory → After Verdict Memory
+  one e bytes m = completeOne z (place (e .token)) (e .brought .completion) (take (e .brought .given) bytes) m
+
+  module _ (done : (bytes : List ℕ) (m : Memory) → J [] [] bytes m → P verdict.Pass m)
+      (completes : (e : Returned) (es : List Returned) (ts bytes : List ℕ) (m : Memory) → J (e ∷ es) ts bytes m → Onto (one e bytes m) es ts (drop (e .brought .given) bytes))
+      (aborts : (t : ℕ) (ts bytes : List ℕ) (m : Memory) → J [] (t ∷ ts) bytes m
+      → Onward (abortOne (place t) (m .store) .result) [] ts bytes (memory (abortOne (place t) (m .store) .lent) (m .area))) where
+    completed : (es : List Returned) (ts bytes : List ℕ) (m : Memory) → J es ts bytes m → Onto (completeAll z (map rowOf es) bytes m) [] ts (bytesLeft es bytes)
+    completed [] ts bytes m k = k
+    completed (e ∷ es) ts bytes m k = go _ (one e bytes m) refl (completes e es ts bytes m k) (λ n h. completed es ts (drop (e .brought .given) bytes) n h)
       where
-        go : (v : Verdict) (w : WalkTo) → w .verdict ≡ v → Onward v [] ts (bytesLeft es bytes) (w .store) (w .area)
-            → P (abortsAfter v w place ts .verdict) (abortsAfter v w place ts .store) (abortsAfter v w place ts .area)
-        go (verdict.Refused r) w ev h = subst (λ (v : Verdict). P v (w .store) (w .area)) (sym ev) h
-        go verdict.Pass w ev h = aborted ts (bytesLeft es bytes) (w .store) (w .area) h
+        left : List ℕ
+        left = drop (e .brought .given) bytes
+
+        go : (v : Verdict) (o : After Verdict Memory) → o .result ≡ v → Onward v es ts left (o .lent)
+            → ((n : Memory) → J es ts left n → Onto (completeAll z (map rowOf es) left n) [] ts (bytesLeft es left))
+            → Onto (onwardBy v o (λ (n : Memory). completeAll z (map rowOf es) left n)) [] ts (bytesLeft es left)
+        go (verdict.Refused r) o ev h rest = subst (λ (v : Verdict). Onward v [] ts (bytesLeft es left) (o .lent)) (sym ev) h
+        go verdict.Pass o ev h rest = rest (o .lent) h
+
+    abbrev Ends : After Verdict Store → List ℕ → Type 0
+    Ends o area = P (o .result) (memory (o .lent) area)
+
+    aborted : (ts bytes : List ℕ) (m : Memory) → J [] ts bytes m → Ends (abortAll (map place ts) (m .store)) (m .area)
+    aborted [] bytes m k = done bytes m k
+    aborted (t ∷ ts) bytes m k = go _ (abortOne (place t) (m .store)) refl (aborts t ts bytes m k) (λ s h. aborted ts bytes (memory s (m .area)) h)
+      where
+        go : (v : Verdict) (o : After Verdict Store) → o .result ≡ v → Onward v [] ts bytes (memory (o .lent) (m .area))
+            → ((s : Store) → J [] ts bytes (memory s (m .area)) → Ends (abortAll (map place ts) s) (m .area))
+            → Ends (onwardBy v o (λ (s : Store). abortAll (map place ts) s)) (m .area)
+        go (verdict.Refused r) o ev h rest = subst (λ (v : Verdict). P v (memory (o .lent) (m .area))) (sym ev) h
+        go verdict.Pass o ev h rest = rest (o .lent) h
+
+    module _ (l : ReplyLists) (m : Memory) (k : J (returnedIn l) (l .aborted) (l .bytes) m) where
+      abbrev Ended : After Verdict Memory → Type 0
+      Ended o = P (o .result) (o .lent)
+
+      by-completed : (v : Verdict) (o : After Verdict Memory) → o .result ≡ v → (bytes : List ℕ) → Onward v [] (l .aborted) bytes (o .lent)
+          → Ended (onwardBy v o (abortsIn (map place (l .aborted))))
+      by-completed (verdict.Refused r) o ev bytes h = subst (λ (v : Verdict). P v (o .lent)) (sym ev) h
+      by-completed verdict.Pass o ev bytes h = aborted (l .aborted) bytes (o .lent) h
+
+      pub entries-all : Ended (applyAll z (rowsMeant place l) m)
+      unfolding applyAll
+      entries-all =
+          subst
+          (λ (es : List Entry). Ended (onwardBy (completeAll z es (l .bytes) m .result) (completeAll z es (l .bytes) m) (abortsIn (map place (l .aborted)))))
+          (sym (rows-meant (l .tokens) (l .completions)))
+          (by-completed _ (completeAll z (map rowOf (returnedIn l)) (l .bytes) m) refl _
+          (completed (returnedIn l) (l .aborted) (l .bytes) m k))

@@ -9,33 +9,34 @@ use Rattle.chain.proofs.Lists.{sum-le}
 use Rattle.models.specs.Requests.{isPending}
 use Rattle.models.specs.declared.RequestId.{RequestId}
 use Rattle.models.specs.declared.RequestState.{RequestState}
-use Rattle.rows.specs.Table.{isHeld}
+use Rattle.rows.specs.Table.{isHeld, rowIn}
+use Rattle.rows.specs.Store.{Store}
 use Rattle.ledger.specs.Search.{isAt}
 use Rattle.session.specs.Session.{isClosed}
 use Rattle.session.specs.declared.InFlight.{InFlight}
 use Rattle.session.specs.declared.InFlight.the-variants as flight
-use Rattle.calls.specs.Step.{World}
-use Rattle.runs.specs.Sound.{worldRow, InFlightAt, FlightSound, isUsed, Sound}
+use Rattle.session.specs.declared.Session.{Session}
+use Rattle.runs.specs.Sound.{InFlightAt, FlightSound, isUsed, Sound}
 use Rattle.runs.proofs.Ids.{at-used, at-own}
 use Rattle.runs.proofs.Rows.{one, held-less}
 use Rattle.runs.proofs.Lifecycle.{closed-bare}
 
-module _ (w : World) (k : Sound w) where
+module _ {s : Session} {store : Store} (k : Sound s store) where
   -- a submission or a poll that waits: the row that its id finds is Pending
-  module _ (id : RequestId) (i : ℕ) (h : i < length (w .store .rows)) (hit : isAt id (worldRow w i) ≡ true) where
-    at-flight : (state : RequestState → Type 0) → InFlightAt (w .store .rows) id state → state (worldRow w i .state)
+  module _ (id : RequestId) (i : ℕ) (h : i < length (store .rows)) (hit : isAt id (rowIn (store .rows) i) ≡ true) where
+    at-flight : (state : RequestState → Type 0) → InFlightAt (store .rows) id state → state (rowIn (store .rows) i .state)
     at-flight state f =
-        subst (λ (n : ℕ). state (worldRow w n .state))
-        (k .distinct (f .index) i (f .below) h (f .used) (at-used id (worldRow w i) hit) (f .own ∙ sym (at-own id (worldRow w i) hit))) (f .state-is)
+        subst (λ (n : ℕ). state (rowIn (store .rows) n .state))
+        (k .distinct (f .index) i (f .below) h (f .used) (at-used id (rowIn (store .rows) i) hit) (f .own ∙ sym (at-own id (rowIn (store .rows) i) hit))) (f .state-is)
 
-    in-flight : (f : InFlight) → w .session .«in_flight» ≡ f → FlightSound f (w .store .rows)
-    in-flight f e = subst (λ (g : InFlight). FlightSound g (w .store .rows)) e (k .flight)
+    in-flight : (f : InFlight) → s .«in_flight» ≡ f → FlightSound f (store .rows)
+    in-flight f e = subst (λ (g : InFlight). FlightSound g (store .rows)) e (k .flight)
 
-    pub submission-pending : w .session .«in_flight» ≡ flight.Submission id → isPending (worldRow w i .state) ≡ true
+    pub submission-pending : s .«in_flight» ≡ flight.Submission id → isPending (rowIn (store .rows) i .state) ≡ true
     submission-pending e = ap isPending (at-flight _ (in-flight (flight.Submission id) e))
 
-    pub poll-pending : w .session .«in_flight» ≡ flight.Poll id → isPending (worldRow w i .state) ≡ true
+    pub poll-pending : s .«in_flight» ≡ flight.Poll id → isPending (rowIn (store .rows) i .state) ≡ true
     poll-pending e = at-flight _ (in-flight (flight.Poll id) e)
 
-  pub closed-unheld : isClosed (w .session .state) ≡ true → count isHeld (w .store .rows) ≡ 0
-  closed-unheld e = omega (arith, k .empty (closed-bare (w .session .state) e), sum-le (one isHeld) (one isUsed) (w .store .rows) held-less)
+  pub closed-unheld : isClosed (s .state) ≡ true → count isHeld (store .rows) ≡ 0
+  closed-unheld e = omega (arith, k .empty (closed-bare (s .state) e), sum-le (one isHeld) (one isUsed) (store .rows) held-less)

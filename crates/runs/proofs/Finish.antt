@@ -1,5 +1,5 @@
 -- The backend's reply to a poll keeps the session sound. Assumes nothing.
-use Prim.Native.Nat.{ℕ, _*_, _<_, _≤_}
+use Prim.Native.Nat.{ℕ, _<_, _≤_}
 use mathlib.Core.Bool.{Bool, true, false, not, _||_, true≢false}
 use mathlib.Core.List.{List}
 use mathlib.Core.Logic.{_⊎_, inl, inr}
@@ -7,6 +7,7 @@ use mathlib.Core.Path.{_≡_, refl, subst}
 use borrow.Author.Tests.{not-false, ltb-false}
 use lib.Dec.{eqb}
 use lib.ListN.{length}
+use Rattle.chain.specs.After.{After}
 use Rattle.chain.proofs.Chain.{if-by}
 use Rattle.words.specs.declared.OptionU32.{OptionU32}
 use Rattle.words.specs.declared.OptionU32.the-variants as u32
@@ -16,6 +17,8 @@ use Rattle.models.specs.declared.BackendCompletion.{BackendCompletion}
 use Rattle.models.specs.declared.OperationError.{OperationError}
 use Rattle.models.specs.declared.OptionError.{OptionError}
 use Rattle.models.specs.declared.OptionError.the-variants as error
+use Rattle.rows.specs.Store.{Store}
+use Rattle.rows.specs.Table.{rowIn}
 use Rattle.rows.specs.declared.Row.{Row}
 use Rattle.rules.specs.Rules.{changeRow}
 use Rattle.rules.specs.declared.Step.{Step}
@@ -24,16 +27,19 @@ use Rattle.checks.specs.Completion.{hasError, codeTested, testCode, testLength,
 use Rattle.checks.specs.declared.completion.CompletionTest.{CompletionTest}
 use Rattle.checks.specs.declared.completion.CompletionTest.the-variants as test
 use Rattle.session.specs.Session.{isInitialized, withFlight}
+use Rattle.session.specs.Lent.{Memory}
+use Rattle.session.specs.Sizes.{placeOf}
 use Rattle.session.specs.declared.InFlight.{InFlight}
 use Rattle.session.specs.declared.InFlight.the-variants as flight
 use Rattle.session.specs.declared.Session.{Session}
+use Rattle.session.specs.declared.sizes.Place.{Place}
 use Rattle.reports.specs.Answers.{effect}
-use Rattle.polls.specs.Finish.{FinishTo, failedAs, invalidAs, judgedTest, judgedBy, judged, settled, finishAt, finishOf}
+use Rattle.reports.specs.declared.Reported.{Reported}
+use Rattle.polls.specs.PollReply.{pollReplyAt, pollReplyOf, failedAs, invalidAs, judgedTest, judgedBy, judged, settled}
 use Rattle.polls.specs.declared.PollReply.{PollReply}
 use Rattle.polls.specs.declared.PollReply.the-variants as reply
 use Rattle.polls.specs.declared.poll_reply.Judgement.{Judgement}
-use Rattle.calls.specs.Step.{World, world}
-use Rattle.runs.specs.Sound.{worldRow, FlightReady, Sound}
+use Rattle.runs.specs.Sound.{FlightReady, Sound}
 use Rattle.runs.proofs.Moves.{Moves, Idle, stays, marked-moves, effect-moves, moves-on, marked-idle, effect-idle, marked-apart}
 use Rattle.runs.proofs.Rows.{Leads, kept, moved-idle, changed-certain, changed-uncertain}
 use Rattle.runs.proofs.Rules.{StepSound, StepCertain, complete-step, fail-step, quiet-step}
@@ -108,40 +114,37 @@ module _ (s : Session) (i : Idle s) (r : Row) (c : BackendCompletion) where
   unfolding judged
   judged-sound given = by-error (c .error) given
 
-abbrev pub FinishedSound : World → FinishTo → Type 0
-FinishedSound w o = Leads w (world (o .result .session) (w .bus) (o .store) (o .area))
+abbrev pub FinishedSound : Session → Store → After Reported Memory → Type 0
+FinishedSound s store o = Leads s store (o .result .session) (o .lent .store)
 
 -- the row that was polled; the controller is Initialized
-module _ (w : World) (k : Sound w) (ready : isInitialized (w .session .state) ≡ true) (i : ℕ) (h : i < length (w .store .rows)) (u : worldRow w i .used ≡ true)
-    (at room : ℕ) (bytes area : List ℕ) where
+module _ {s : Session} (m : Memory) (k : Sound s (m .store)) (ready : isInitialized (s .state) ≡ true) (p : Place) (h : p .row < length (m .store .rows))
+    (u : rowIn (m .store .rows) (p .row) .used ≡ true) (bytes : List ℕ) where
   abbrev idle : Session
-  idle = withFlight (w .session) flight.Nothing
+  idle = withFlight s flight.Nothing
 
-  idle-moves : Moves (w .session) idle
-  idle-moves = stays (w .session)
+  abbrev row : Row
+  row = rowIn (m .store .rows) (p .row)
 
-  settled-sound : (m : Step) (j : Judgement) → Moves (w .session) (j .session) → Idle (j .session)
-      → StepCertain (worldRow w i) m ⊎ (StepSound (worldRow w i) m × (isInitialized (j .session .state) ≡ false))
-      → FinishedSound w (settled m j idle i at room bytes (w .store) area)
+  settled-sound : (n : Step) (j : Judgement) → Moves s (j .session) → Idle (j .session)
+      → StepCertain row n ⊎ (StepSound row n × (isInitialized (j .session .state) ≡ false)) → FinishedSound s (m .store) (settled n j p bytes idle m)
   unfolding settled
-  settled-sound (step.Refused x) j m d c = moved-idle w k idle idle-moves (w .bus) area refl
-  settled-sound (step.To q x) j m d (inl c) = changed-certain w k i h u q (c .0) (j .session) m (w .bus) _ d (c .1)
-  settled-sound (step.To q x) j m d (inr c) = changed-uncertain w k i h u q (c .0) (j .session) m (w .bus) _ d ready (c .1)
+  settled-sound (step.Refused x) j v d c = moved-idle k idle (stays s) refl
+  settled-sound (step.To q x) j v d (inl c) = changed-certain k (p .row) h u q (c .0) (j .session) v d (c .1)
+  settled-sound (step.To q x) j v d (inr c) = changed-uncertain k (p .row) h u q (c .0) (j .session) v d ready (c .1)
 
-  by-reply : (x : PollReply) → FinishedSound w (finishAt x idle i at room bytes (w .store) area)
-  unfolding finishAt
-  by-reply reply.Nothing = moved-idle w k idle idle-moves (w .bus) area refl
-  by-reply (reply.Error e) =
-      moved-idle w k (effect e idle) (moves-on (w .session) idle (effect e idle) idle-moves (effect-moves e idle)) (w .bus) area (effect-idle e idle refl)
+  by-reply : (x : PollReply) → FinishedSound s (m .store) (pollReplyAt x row p bytes idle m)
+  unfolding pollReplyAt
+  by-reply reply.Nothing = moved-idle k idle (stays s) refl
+  by-reply (reply.Error e) = moved-idle k (effect e idle) (moves-on s idle (effect e idle) (stays s) (effect-moves e idle)) (effect-idle e idle refl)
   by-reply (reply.Completion c) =
-      let j = judged idle (worldRow w i) c (length bytes) in
-      let d = judged-sound idle refl (worldRow w i) c (length bytes) in
-      settled-sound (changeRow (worldRow w i) (j .change)) j (moves-on (w .session) idle (j .session) idle-moves (d .moves)) (d .idle) (d .step)
+      let j = judged idle row c (length bytes) in
+      let d = judged-sound idle refl row c (length bytes) in
+      settled-sound (changeRow row (j .change)) j (moves-on s idle (j .session) (stays s) (d .moves)) (d .idle) (d .step)
 
-pub finish-sound : (w : World) → Sound w → (x : PollReply) (bytes : List ℕ) (fits : Bool) → FinishedSound w (finishOf (w .session) fits x bytes (w .store) (w .area))
-finish-sound w k x bytes fits =
-    finish-all (w .session) x bytes (w .store) (w .area) (FinishedSound w) (kept w k) (kept w k)
-    (λ id own i h e.
-    by-reply w k (subst (λ (g : InFlight). FlightReady g (w .session .state)) own (k .ready)) i h (at-used id (worldRow w i) e)
-    (i * w .session .«row_bytes») (w .session .«row_bytes») bytes (w .area) x)
-    fits
+module _ {s : Session} (m : Memory) (k : Sound s (m .store)) where
+  pub finish-sound : (x : PollReply) (bytes : List ℕ) → FinishedSound s (m .store) (pollReplyOf x bytes s m)
+  finish-sound x bytes =
+      finish-all x bytes s m (FinishedSound s (m .store)) (kept k) (kept k)
+      (λ id own i h e.
+      by-reply m k (subst (λ (g : InFlight). FlightReady g (s .state)) own (k .ready)) (placeOf (s .size) i) h (at-used id (rowIn (m .store .rows) i) e) bytes x)

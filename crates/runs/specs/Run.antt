@@ -3,33 +3,40 @@ use Prim.Native.Nat.{ℕ}
 use mathlib.Core.Bool.{Bool, true, false, not}
 use mathlib.Core.Path.{_≡_}
 use mathlib.Core.List.{List, [], _∷_}
+use Rattle.chain.specs.After.{After}
 use Rattle.words.specs.declared.OptionU64.{OptionU64}
 use Rattle.words.specs.declared.OptionU64.the-variants as u64
 use Rattle.models.specs.Refusals.{refusalOf}
 use Rattle.bus.specs.Tables.{Bus}
+use Rattle.session.specs.Lent.{Lent, memory, lent}
 use Rattle.scope.specs.Scope.{isAmong}
 use Rattle.calls.specs.Calls.{Call, Open, Place, Move, Acquire, Initialize, Close, Begin, Reply, Change, Read}
-use Rattle.calls.specs.Step.{World, After, world, stepOf}
+use Rattle.calls.specs.Step.{World, world, worldStore, stepOf}
 use Rattle.calls.specs.declared.Answer.{Answer}
 use Rattle.calls.specs.declared.Answer.the-variants as answer
+use Rattle.calls.specs.declared.Outcome.{Outcome}
 
 -- what a call is handed: the session and the slices that the calls before it left; the session and the rows, with any bus and area;
 -- or any others
 pub data Handed : Type 0 where
   own : Handed
-  lent : Bus → List ℕ → Handed
+  rowsOnly : Bus → List ℕ → Handed
   other : World → Handed
 
 pub record Event : Type 0 where
   pub call : Call
   pub handed : Handed
 
-abbrev pub next : After → World
-next a = world (a .result .session) (a .bus) (a .store) (a .area)
+abbrev pub next : After Outcome Lent → World
+next o = world (o .result .session) (o .lent)
+
+-- the session and the rows, with that bus and that area
+abbrev pub beside : Bus → List ℕ → World → World
+beside bus area w = world (w .session) (lent bus (memory (worldStore w) area))
 
 abbrev pub given : Handed → World → World
 given own w = w
-given (lent bus area) w = world (w .session) bus (w .store) area
+given (rowsOnly bus area) w = beside bus area w
 given (other v) w = v
 
 abbrev pub answerTo : World → Event → Answer
@@ -38,7 +45,7 @@ answerTo w e = stepOf (e .call) (given (e .handed) w) .result .answer
 -- a call that was handed others leaves ours as they are
 abbrev pub leftBy : Handed → Call → World → World
 leftBy own c w = next (stepOf c w)
-leftBy (lent bus area) c w = next (stepOf c (world (w .session) bus (w .store) area))
+leftBy (rowsOnly bus area) c w = next (stepOf c (beside bus area w))
 leftBy (other v) c w = w
 
 abbrev pub endOf : World → List Event → World
@@ -68,7 +75,7 @@ isOpening (Read r) = false
 -- there is no second opening; a call that is handed another session or other slices is refused by 3
 abbrev pub Handing : Handed → Call → Type 0
 Handing own c = isOpening c ≡ false
-Handing (lent bus area) c = isOpening c ≡ false
+Handing (rowsOnly bus area) c = isOpening c ≡ false
 Handing (other v) c = stepOf c v .result .answer ≡ answer.Refused (refusalOf 3)
 
 abbrev pub Follows : List Event → Type 0
