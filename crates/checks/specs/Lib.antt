@@ -2,4 +2,3 @@ pub mod Packets
 pub mod Prepare
 pub mod Plan
 pub mod Completion
-pub mod Numbers

@@ -17,3 +17,4 @@ pub mod Theorem
 pub mod Never
 pub mod Waiting
 pub mod Examples
+pub mod Starred

@@ -1,20 +1,12 @@
 -- Worked values of the definitions of both standards, by computing. Assumes nothing.
 use mathlib.Core.Bool.{true, false}
-use mathlib.Core.List.{[], _∷_}
 use mathlib.Core.Path.{_≡_, refl}
 use Rattle.models.specs.declared.Direction.the-variants.{In, Out}
-use Rattle.standards.specs.Setup.{setupBytes, requestDirection, requestKind, recipientOf, endpointNumber, endpointReserved, endpointDirection}
+use Rattle.standards.specs.Setup.{requestDirection, requestKind, recipientOf, endpointNumber, endpointReserved, endpointDirection}
 use Rattle.standards.specs.Ports.{portStatusOf}
 use Rattle.standards.specs.Completion.{isFinished}
 
--- document 01: GET_DESCRIPTOR of the device, 18 bytes
-pub get-device-descriptor :
-    setupBytes (record { «request_type» = 0x80; request = 6; value = 0x0100; index = 0; length = 18 })
-    ≡ 0x80 ∷ 0x06 ∷ 0x00 ∷ 0x01 ∷ 0x00 ∷ 0x00 ∷ 0x12 ∷ 0x00 ∷ []
-unfolding setupBytes
-get-device-descriptor = refl
-
--- its type 80h: from device to host, standard, to the device
+-- type 80h: from device to host, standard, to the device
 pub get-descriptor-type : (requestDirection 0x80 ≡ In) × (requestKind 0x80 ≡ 0) × (recipientOf 0x80 ≡ 0)
 get-descriptor-type = (refl, refl, refl)
 
