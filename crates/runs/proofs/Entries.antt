@@ -14,7 +14,7 @@ use Rattle.rows.specs.Store.{Store}
 use Rattle.session.specs.Lent.{Memory, memory}
 use Rattle.session.specs.declared.Size.{Size}
 use Rattle.scope.specs.Returned.{broughtAt, Returned, returnedAt, readReturned}
-use Rattle.recovery.specs.Entries.{Entry, entryAt, readEntries, completeOne, onwardBy, completeAll, abortOne, abortAll, abortsIn, applyAll}
+use Rattle.recovery.specs.Entries.{RowEntry, entryAt, readEntries, completeOne, onwardBy, completeAll, abortOne, abortAll, abortsIn, applyAll}
 use Rattle.recovery.specs.RecoveryReply.{ReplyLists, rowsMeant}
 use Rattle.runs.proofs.Tokens.{returnedIn}
 
@@ -33,7 +33,7 @@ module _ (place : ℕ → ℕ) (z : Size) (J : List Returned → List ℕ → Li
   bytesLeft (e ∷ es) bytes = bytesLeft es (drop (e .brought .given) bytes)
 
   -- the row that an entry's token means
-  abbrev rowOf : Returned → Entry
+  abbrev rowOf : Returned → RowEntry
   rowOf e = record { row = place (e .token); brought = e .brought }
 
   rows-meant : (tokens words : List ℕ) → readEntries (map place tokens) words ≡ map rowOf (readReturned tokens words)
@@ -45,7 +45,7 @@ module _ (place : ℕ → ℕ) (z : Size) (J : List Returned → List ℕ → Li
     where
       each : (k : ℕ) → k < length tokens → entryAt (map place tokens) words k ≡ rowOf (returnedAt tokens words k)
       each k h =
-          ap {B = Entry} (λ (i : ℕ). record { row = i; brought = broughtAt words k })
+          ap {B = RowEntry} (λ (i : ℕ). record { row = i; brought = broughtAt words k })
           (getD-any (map place tokens) k 0 (place 0) (omega (arith, length-map tokens place)) ∙ List·getD-map place tokens k 0)
 
   abbrev one : Returned → List ℕ → Memory → After Verdict Memory
@@ -94,7 +94,7 @@ module _ (place : ℕ → ℕ) (z : Size) (J : List Returned → List ℕ → Li
       unfolding applyAll
       entries-all =
           subst
-          (λ (es : List Entry). Ended (onwardBy (completeAll z es (l .bytes) m .result) (completeAll z es (l .bytes) m) (abortsIn (map place (l .aborted)))))
+          (λ (es : List RowEntry). Ended (onwardBy (completeAll z es (l .bytes) m .result) (completeAll z es (l .bytes) m) (abortsIn (map place (l .aborted)))))
           (sym (rows-meant (l .tokens) (l .completions)))
           (by-completed _ (completeAll z (map rowOf (returnedIn l)) (l .bytes) m) refl _
           (completed (returnedIn l) (l .aborted) (l .bytes) m k))
