@@ -46,24 +46,24 @@ abbrev pub worldStore : World → Store
 worldStore w = w .lent .memory .store
 
 -- what a call leaves where it was lent a part alone
-abbrev pub withBus : After Outcome Bus → World → After Outcome Lent
-withBus o w = after (o .result) (lent (o .lent) (w .lent .memory))
+abbrev pub onBus : After Outcome Bus → World → After Outcome Lent
+onBus o w = after (o .result) (lent (o .lent) (w .lent .memory))
 
-abbrev pub withMemory : After Outcome Memory → World → After Outcome Lent
-withMemory o w = after (o .result) (lent (w .lent .bus) (o .lent))
+abbrev pub onMemory : After Outcome Memory → World → After Outcome Lent
+onMemory o w = after (o .result) (lent (w .lent .bus) (o .lent))
 
-abbrev pub withStore : After Outcome Store → World → After Outcome Lent
-withStore o w = withMemory (after (o .result) (memory (o .lent) (w .lent .memory .area))) w
+abbrev pub onStore : After Outcome Store → World → After Outcome Lent
+onStore o w = onMemory (after (o .result) (memory (o .lent) (w .lent .memory .area))) w
 
 -- the answer of each kind of call
 abbrev pub opens : After Opened Lent → World → After Outcome Lent
 opens o w = after (ofOpened (o .result) (w .session)) (o .lent)
 
 abbrev pub places : After Verdict Bus → World → After Outcome Lent
-places o w = withBus (after (outcome (ofVerdict (o .result)) (w .session)) (o .lent)) w
+places o w = onBus (after (outcome (ofVerdict (o .result)) (w .session)) (o .lent)) w
 
 abbrev pub moves : After Called Store → World → After Outcome Lent
-moves o w = withStore (after (outcome (ofVerdict (o .result .answer)) (o .result .session)) (o .lent)) w
+moves o w = onStore (after (outcome (ofVerdict (o .result .answer)) (o .result .session)) (o .lent)) w
 
 abbrev pub submits : After Submitted Lent → After Outcome Lent
 submits o = after (outcome (ofSubmit (o .result .answer)) (o .result .session)) (o .lent)
@@ -78,13 +78,13 @@ abbrev pub begins : Begun → World → After Outcome Lent
 begins o w = after (outcome (ofBegin (o .answer)) (o .session)) (w .lent)
 
 abbrev pub reports : After Reported Store → World → After Outcome Lent
-reports o w = withStore (after (outcome (ofReport (o .result .answer)) (o .result .session)) (o .lent)) w
+reports o w = onStore (after (outcome (ofReport (o .result .answer)) (o .result .session)) (o .lent)) w
 
 abbrev pub finishes : After Reported Memory → World → After Outcome Lent
-finishes o w = withMemory (after (outcome (ofReport (o .result .answer)) (o .result .session)) (o .lent)) w
+finishes o w = onMemory (after (outcome (ofReport (o .result .answer)) (o .result .session)) (o .lent)) w
 
 abbrev pub recovers : After Recovered Memory → World → After Outcome Lent
-recovers o w = withMemory (after (outcome (ofRecovery (o .result .answer)) (o .result .session)) (o .lent)) w
+recovers o w = onMemory (after (outcome (ofRecovery (o .result .answer)) (o .result .session)) (o .lent)) w
 
 abbrev pub reads : Answer → World → After Outcome Lent
 reads a w = after (outcome a (w .session)) (w .lent)
