@@ -30,12 +30,9 @@ module _ (w : List ℕ) where
   unfolding part broughtAt
   brought-is k r e = let z : k * completionWords + completionWords - k * completionWords ≡ completionWords = omega arith in e ∙ rw z
 
-  pub given-is : (k : ℕ) → broughtAt w k .given ≡ getD w (k * completionWords + 10) 0
+  given-is : (k : ℕ) → broughtAt w k .given ≡ getD w (k * completionWords + 10) 0
   unfolding readBrought broughtAt
   given-is k = part-getD 0 (k * completionWords) completionWords w 10 (omega arith)
-
-  pub given-read : (k : ℕ) → getD w (k * completionWords + 10) 0 ≡ broughtAt w k .given
-  given-read k = sym (given-is k)
 
 -- ---- the data lengths
 abbrev givens : List ℕ → ℕ → List Brought
