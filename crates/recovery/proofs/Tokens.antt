@@ -27,14 +27,14 @@ module _ (place : ℕ → ℕ) where
   map-at l k h = getD-any (map place l) k 0 (place 0) (omega (arith, length-map l place)) ∙ List·getD-map place l k 0
 
   -- what a token's row is brought
-  abbrev pub entryOf : Returned → RowEntry
-  entryOf e = record { row = place (e .token); brought = e .brought }
+  abbrev pub rowMeant : Returned → RowEntry
+  rowMeant e = record { row = place (e .token); brought = e .brought }
 
-  pub entries-meant : (tokens words : List ℕ) → readEntries (map place tokens) words ≡ map entryOf (readReturned tokens words)
+  pub entries-meant : (tokens words : List ℕ) → readEntries (map place tokens) words ≡ map rowMeant (readReturned tokens words)
   unfolding readEntries readReturned
   entries-meant tokens words =
-      rw (length-map tokens place, map-tab entryOf (returnedAt tokens words) (length tokens))
-      (tab-same (λ (k : ℕ). entryOf (returnedAt tokens words k)) (entryAt (map place tokens) words) (length tokens)
+      rw (length-map tokens place, map-tab rowMeant (returnedAt tokens words) (length tokens))
+      (tab-same (λ (k : ℕ). rowMeant (returnedAt tokens words k)) (entryAt (map place tokens) words) (length tokens)
       (λ k h. ap (λ (i : ℕ). record { row = i; brought = broughtAt words k }) (map-at tokens k h)))
 
 -- ---- the places in the first of a fixed list

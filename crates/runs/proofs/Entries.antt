@@ -1,21 +1,18 @@
 -- The walk over the entries of a recovery's reply, for whatever is kept on the way. Assumes nothing.
-use Prim.Native.Nat.{ℕ, _<_}
+use Prim.Native.Nat.{ℕ}
 use mathlib.Core.List.{List, [], _∷_, map}
-use mathlib.Core.Path.{_≡_, refl, sym, ap, _∙_, subst}
-use native.Mathlib.Omega.{arith}
-use lib.ListN.{length, take, drop, length-map, List·getD-map}
+use mathlib.Core.Path.{_≡_, refl, sym, subst}
+use lib.ListN.{take, drop}
 use Rattle.chain.specs.After.{After}
-use Rattle.chain.proofs.Lists.{getD-any}
-use Rattle.words.specs.Records.{tab}
-use Rattle.words.proofs.Records.{tab-same, map-tab}
 use Rattle.models.specs.declared.Verdict.{Verdict}
 use Rattle.models.specs.declared.Verdict.the-variants as verdict
 use Rattle.rows.specs.Store.{Store}
 use Rattle.session.specs.Lent.{Memory, memory}
 use Rattle.session.specs.declared.Size.{Size}
-use Rattle.scope.specs.Returned.{broughtAt, Returned, returnedAt, readReturned}
-use Rattle.recovery.specs.Entries.{RowEntry, entryAt, readEntries, completeOne, onwardBy, completeAll, abortOne, abortAll, abortsIn, applyAll}
+use Rattle.scope.specs.Returned.{Returned}
+use Rattle.recovery.specs.Entries.{RowEntry, completeOne, onwardBy, completeAll, abortOne, abortAll, abortsIn, applyAll}
 use Rattle.recovery.specs.RecoveryReply.{ReplyLists, rowsMeant}
+use Rattle.recovery.proofs.Tokens.{rowMeant, entries-meant}
 use Rattle.runs.proofs.Tokens.{returnedIn}
 
 -- J: the entries that are left, their bytes, and the memory where the walk has come; P: where it ends
@@ -32,22 +29,7 @@ module _ (place : ℕ → ℕ) (z : Size) (J : List Returned → List ℕ → Li
   bytesLeft [] bytes = bytes
   bytesLeft (e ∷ es) bytes = bytesLeft es (drop (e .brought .given) bytes)
 
-  -- the row that an entry's token means
-  abbrev rowOf : Returned → RowEntry
-  rowOf e = record { row = place (e .token); brought = e .brought }
-
-  rows-meant : (tokens words : List ℕ) → readEntries (map place tokens) words ≡ map rowOf (readReturned tokens words)
-  unfolding readEntries readReturned
-  rows-meant tokens words =
-      ap (tab (entryAt (map place tokens) words)) (length-map tokens place)
-      ∙ tab-same (λ (k : ℕ). rowOf (returnedAt tokens words k)) (entryAt (map place tokens) words) (length tokens) each
-      ∙ sym (map-tab rowOf (returnedAt tokens words) (length tokens))
-    where
-      each : (k : ℕ) → k < length tokens → entryAt (map place tokens) words k ≡ rowOf (returnedAt tokens words k)
-      each k h =
-          ap {B = RowEntry} (λ (i : ℕ). record { row = i; brought = broughtAt words k })
-          (getD-any (map place tokens) k 0 (place 0) (omega (arith, length-map tokens place)) ∙ List·getD-map place tokens k 0)
-
+  -- a completion of the row that its token means
   abbrev one : Returned → List ℕ → Memory → After Verdict Memory
   one e bytes m = completeOne z (place (e .token)) (e .brought .completion) (take (e .brought .given) bytes) m
 
@@ -55,7 +37,7 @@ module _ (place : ℕ → ℕ) (z : Size) (J : List Returned → List ℕ → Li
       (completes : (e : Returned) (es : List Returned) (ts bytes : List ℕ) (m : Memory) → J (e ∷ es) ts bytes m → Onto (one e bytes m) es ts (drop (e .brought .given) bytes))
       (aborts : (t : ℕ) (ts bytes : List ℕ) (m : Memory) → J [] (t ∷ ts) bytes m
       → Onward (abortOne (place t) (m .store) .result) [] ts bytes (memory (abortOne (place t) (m .store) .lent) (m .area))) where
-    completed : (es : List Returned) (ts bytes : List ℕ) (m : Memory) → J es ts bytes m → Onto (completeAll z (map rowOf es) bytes m) [] ts (bytesLeft es bytes)
+    completed : (es : List Returned) (ts bytes : List ℕ) (m : Memory) → J es ts bytes m → Onto (completeAll z (map (rowMeant place) es) bytes m) [] ts (bytesLeft es bytes)
     completed [] ts bytes m k = k
     completed (e ∷ es) ts bytes m k = go _ (one e bytes m) refl (completes e es ts bytes m k) (λ n h. completed es ts (drop (e .brought .given) bytes) n h)
       where
@@ -63,8 +45,8 @@ module _ (place : ℕ → ℕ) (z : Size) (J : List Returned → List ℕ → Li
         left = drop (e .brought .given) bytes
 
         go : (v : Verdict) (o : After Verdict Memory) → o .result ≡ v → Onward v es ts left (o .lent)
-            → ((n : Memory) → J es ts left n → Onto (completeAll z (map rowOf es) left n) [] ts (bytesLeft es left))
-            → Onto (onwardBy v o (λ (n : Memory). completeAll z (map rowOf es) left n)) [] ts (bytesLeft es left)
+            → ((n : Memory) → J es ts left n → Onto (completeAll z (map (rowMeant place) es) left n) [] ts (bytesLeft es left))
+            → Onto (onwardBy v o (λ (n : Memory). completeAll z (map (rowMeant place) es) left n)) [] ts (bytesLeft es left)
         go (verdict.Refused r) o ev h rest = subst (λ (v : Verdict). Onward v [] ts (bytesLeft es left) (o .lent)) (sym ev) h
         go verdict.Pass o ev h rest = rest (o .lent) h
 
@@ -95,6 +77,6 @@ module _ (place : ℕ → ℕ) (z : Size) (J : List Returned → List ℕ → Li
       entries-all =
           subst
           (λ (es : List RowEntry). Ended (onwardBy (completeAll z es (l .bytes) m .result) (completeAll z es (l .bytes) m) (abortsIn (map place (l .aborted)))))
-          (sym (rows-meant (l .tokens) (l .completions)))
-          (by-completed _ (completeAll z (map rowOf (returnedIn l)) (l .bytes) m) refl _
+          (sym (entries-meant place (l .tokens) (l .completions)))
+          (by-completed _ (completeAll z (map (rowMeant place) (returnedIn l)) (l .bytes) m) refl _
           (completed (returnedIn l) (l .aborted) (l .bytes) m k))
