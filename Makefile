@@ -1,7 +1,7 @@
 # make run: proves and runs the programs `examples` and `life`; make test: the merge gate; make fmt: lays every file out.
 SHELL := /bin/bash
 .SHELLFLAGS := -o pipefail -c
-.PHONY: run test fmt staticlib oracle compare
+.PHONY: run test fmt staticlib oracle compare mutants
 
 run:
 	@rt check examples life | .ci/progress examples life
@@ -26,3 +26,7 @@ oracle:
 # Runs the unchanged Rust and the port on some millions of generated calls.
 compare: staticlib
 	$(MAKE) --no-print-directory -C host compare
+
+# Tries every small change of host/mutants on the port, compiled without proof, and writes docs/mutants.md.
+mutants:
+	$(MAKE) --no-print-directory -C host mutants
