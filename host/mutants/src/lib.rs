@@ -6,7 +6,7 @@ mod tools;
 mod trial;
 
 pub use edit::{Edit, edits};
-pub use table::table;
+pub use table::{head, line, summary};
 pub use tools::Tools;
 pub use trial::{Found, Trial, Verdict};
 

@@ -3,7 +3,7 @@ use std::fs;
 use std::process::ExitCode;
 use std::time::Instant;
 
-use mutants::{Edit, Found, Tools, Trial, Verdict, edits, root, table};
+use mutants::{Edit, Tools, Trial, Verdict, edits, head, line, root, summary};
 
 const USAGE: &str = "usage: mutants [--seeds N] [--calls N] [NAME..]
   all of host/mutants without a NAME, and then the table is written to docs/mutants.md";
@@ -32,12 +32,16 @@ fn run() -> Result<bool, String> {
     let edits = chosen(&options.names)?;
     let tools = Tools::new()?;
     unchanged(&tools, &options)?;
+    let mut text = head(options.seeds, options.calls);
+    print!("{text}");
     let mut trials = Vec::new();
     let mut built = true;
     for edit in edits {
         match trial(&tools, &edit, &options) {
             Ok(trial) => {
-                println!("{} ({} s)", told(&edit, &trial), start.elapsed().as_secs());
+                let line = line(&edit, &trial);
+                print!("{line}");
+                text += &line;
                 trials.push((edit, trial));
             }
             Err(error) => {
@@ -46,12 +50,14 @@ fn run() -> Result<bool, String> {
             }
         }
     }
-    let text = table(&trials, options.calls, "make mutants");
-    if options.names.is_empty() {
+    let end = summary(&trials, options.calls);
+    let minutes = start.elapsed().as_secs() / 60;
+    println!("\n{end}mutants: {minutes} minutes");
+    if built && options.names.is_empty() {
         let path = root().join("docs/mutants.md");
-        fs::write(&path, &text).map_err(|error| format!("{}: {error}", path.display()))?;
+        let written = fs::write(&path, format!("{text}\n{end}"));
+        written.map_err(|error| format!("{}: {error}", path.display()))?;
     }
-    print!("\n{text}");
     Ok(built && trials.iter().all(|(edit, trial)| passes(edit, trial)))
 }
 
@@ -74,8 +80,7 @@ fn chosen(names: &[String]) -> Result<Vec<Edit>, String> {
 
 /// The port without a change is told from the Rust by nothing.
 fn unchanged(tools: &Tools, options: &Options) -> Result<(), String> {
-    let library = tools.library("unchanged", None)?;
-    let trial = Trial::run(tools, &library, options.seeds, options.calls)?;
+    let trial = Trial::run(tools, &tools.unchanged, options.seeds, options.calls)?;
     match trial.found() {
         true => Err(format!(
             "the unchanged port is taken for a mutant: {trial:?}"
@@ -89,43 +94,10 @@ fn trial(tools: &Tools, edit: &Edit, options: &Options) -> Result<Trial, String>
     Trial::run(tools, &library, options.seeds, options.calls)
 }
 
-/// What a mutant came to, in a line.
-fn told(edit: &Edit, trial: &Trial) -> String {
-    let by = match (trial.shortest(), &trial.test) {
-        (Some((script, found)), _) => {
-            format!(
-                "{} scripts, {script} {}",
-                trial.recorded.len(),
-                place(*found)
-            )
-        }
-        (None, Some(test)) => format!("no script, the test {test}"),
-        (None, None) => "no script".into(),
-    };
-    let seeds: Vec<_> = trial
-        .seeds
-        .iter()
-        .map(|it| it.map_or("-".into(), place))
-        .collect();
-    let verdict = trial.verdict(edit);
-    format!(
-        "{}: {verdict:?}: {by}; seeds {}",
-        edit.name,
-        seeds.join(" ")
-    )
-}
-
-fn place(found: Found) -> String {
-    match found {
-        Found::At(call) => call.to_string(),
-        Found::Ended => "ended".into(),
-    }
-}
-
 fn options(mut words: impl Iterator<Item = String>) -> Result<Options, String> {
     let mut options = Options {
         seeds: 3,
-        calls: 1_000_000,
+        calls: 300_000,
         names: Vec::new(),
     };
     let number = |word: Option<String>| word.and_then(|it| it.parse().ok()).ok_or(USAGE);

@@ -1,28 +1,17 @@
-//! docs/mutants.md.
+//! docs/mutants.md, in parts.
 use std::fmt::Write;
 
 use crate::{Edit, Found, Trial, Verdict};
 
-/// The table of all trials, with what the whole says.
-pub fn table(trials: &[(Edit, Trial)], calls: u64, command: &str) -> String {
-    let seeds = trials.first().map_or(0, |(_, trial)| trial.seeds.len());
-    let mut text = head(command, calls, seeds);
-    for (edit, trial) in trials {
-        let _ = writeln!(text, "{}", line(edit, trial));
-    }
-    text.push('\n');
-    text += &summary(trials, calls);
-    text
-}
-
-fn head(command: &str, calls: u64, seeds: usize) -> String {
+/// What stands before the mutants' lines.
+pub fn head(seeds: u64, calls: u64) -> String {
     let mut text = format!(
         "# Mutants
 
-Written by `{command}`, which says how (host/README.md, \"Mutants\"). Each is the port with the one change that `host/mutants/NAME.edit` makes,
-compiled without proof. *Recorded* is how many of the recorded scripts answer otherwise than the Rust did, with the script that shows it in the
-fewest calls and the number of that call. *Seed* is the generated call, of {}, at which the sides parted; `–` where they did not. *Ended* means that
-the mutant stopped the program.
+Written by `make mutants` (host/README.md, \"Mutants\"). Each is the port with the one change that `host/mutants/NAME.edit` makes, compiled without proof.
+*Recorded* is how many of the recorded scripts answer otherwise than the Rust did, with the script that shows it in the fewest calls and the number of
+that call. A *seed*'s column has the generated call, of {}, at which the sides parted; `–` where they did not. *Ended* means that the mutant
+stopped the program. A test is named where neither shows it.
 
 | mutant | change | in | recorded |",
         thousands(calls)
@@ -31,31 +20,34 @@ the mutant stopped the program.
         let _ = write!(text, " seed {seed} |");
     }
     text += "\n|---|---|---|---|";
-    text += &"---:|".repeat(seeds);
+    for _ in 0..seeds {
+        text += "---:|";
+    }
     text.push('\n');
     text
 }
 
-fn line(edit: &Edit, trial: &Trial) -> String {
+/// A mutant's line of the table.
+pub fn line(edit: &Edit, trial: &Trial) -> String {
     let file = edit.file.trim_start_matches("crates/");
     let file = file.replacen("/src/", "/", 1);
-    let mut text = format!("| `{}` | {} | {file} |", edit.name, edit.what);
-    let recorded = match (trial.shortest(), &trial.test, &edit.survives) {
-        (Some((script, found)), ..) => {
+    let recorded = match (trial.shortest(), &trial.test) {
+        (Some((script, found)), _) => {
             format!("{}: {script} {}", trial.recorded.len(), shown(*found))
         }
-        (None, Some(test), _) => format!("–; the test `{test}`"),
-        (None, None, Some(_)) => "survives".into(),
-        (None, None, None) => "–".into(),
+        (None, Some(test)) => format!("–; test `{test}`"),
+        (None, None) => "–".into(),
     };
-    let _ = write!(text, " {recorded} |");
+    let mut text = format!("| `{}` | {} | {file} | {recorded} |", edit.name, edit.what);
     for seed in &trial.seeds {
         let _ = write!(text, " {} |", seed.map_or("–".into(), shown));
     }
+    text.push('\n');
     text
 }
 
-fn summary(trials: &[(Edit, Trial)], calls: u64) -> String {
+/// What all of them come to, and every one that was not found.
+pub fn summary(trials: &[(Edit, Trial)], calls: u64) -> String {
     let count = |test: &dyn Fn(&Trial) -> bool| trials.iter().filter(|(_, it)| test(it)).count();
     let recorded = count(&|it| !it.recorded.is_empty());
     let some = count(&|it| it.seeds.iter().any(Option::is_some));
@@ -126,7 +118,7 @@ mod tests {
             test: None,
         };
         let line = line(&edit(None), &trial);
-        assert_eq!(line, "| `lie` | a lie | a/lib.rt | 2: a 9 | ended | – |");
+        assert_eq!(line, "| `lie` | a lie | a/lib.rt | 2: a 9 | ended | – |\n");
     }
 
     #[test]
@@ -135,8 +127,8 @@ mod tests {
             seeds: vec![None],
             ..Trial::default()
         };
-        assert!(table(&[(edit(None), trial.clone())], 10, "make").contains("SURVIVED"));
-        let explained = table(&[(edit(Some("no call reads it")), trial)], 10, "make");
+        assert!(summary(&[(edit(None), trial.clone())], 10).contains("`lie` SURVIVED"));
+        let explained = summary(&[(edit(Some("no call reads it")), trial)], 10);
         assert!(explained.contains("`lie` survives: no call reads it."));
     }
 }

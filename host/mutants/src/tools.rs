@@ -14,6 +14,8 @@ const LIMIT: &str = "600";
 
 pub struct Tools {
     work: PathBuf,
+    /// The folder of the port without a change.
+    pub unchanged: PathBuf,
     /// The executables of the tests of `tapewoad` and `port`.
     tests: Vec<PathBuf>,
 }
@@ -21,8 +23,10 @@ pub struct Tools {
 impl Tools {
     /// Builds the unchanged port, the comparison and the tests over it.
     pub fn new() -> Result<Self, String> {
+        let work = root().join("target/mutants");
         let mut tools = Self {
-            work: root().join("target/mutants"),
+            unchanged: work.join("unchanged"),
+            work,
             tests: Vec::new(),
         };
         tools.library("unchanged", None)?;
