@@ -89,9 +89,11 @@ fn scripts() -> Result<Vec<PathBuf>, String> {
     Ok(found)
 }
 
+/// A script's name below host/recorded.
 fn name(path: &Path) -> String {
-    let name = path.file_stem().unwrap_or_default();
-    name.to_string_lossy().into_owned()
+    let path = path.with_extension("");
+    let name = path.strip_prefix(root().join("host/recorded"));
+    name.unwrap_or(&path).display().to_string()
 }
 
 /// Runs a recorded script and finds the first answer that is not as recorded.
