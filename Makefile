@@ -1,7 +1,7 @@
 # make run: proves and runs the programs `examples` and `life`; make test: the merge gate; make fmt: lays every file out.
 SHELL := /bin/bash
 .SHELLFLAGS := -o pipefail -c
-.PHONY: run test fmt staticlib oracle compare fuzz
+.PHONY: run test fmt staticlib oracle compare fuzz mutants
 
 run:
 	@rt check examples life | .ci/progress examples life
@@ -30,3 +30,7 @@ compare: staticlib
 # Throws bad words, sessions and slices at the library for SECONDS seconds (180 without it).
 fuzz: staticlib
 	$(MAKE) --no-print-directory -C host fuzz
+
+# Tries every small change of host/mutants on the port, compiled without proof, and writes docs/mutants.md.
+mutants:
+	$(MAKE) --no-print-directory -C host mutants

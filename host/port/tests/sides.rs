@@ -41,6 +41,12 @@ fn a_smaller_store_has_its_own_limits() {
 }
 
 #[test]
+fn the_smallest_store_is_a_row_of_a_byte() {
+    let line = last(&format!("store rows=1 bytes=1\n{SETTING}{SUBMIT} len=1"));
+    assert!(line.starts_with("row id=1.0.0 "), "{line}");
+}
+
+#[test]
 fn only_the_next_opening_has_the_stores_size() {
     let text = format!("store rows=1 bytes=8\n{SETTING}{SETTING}{SUBMIT} len=9");
     let line = last(&text);

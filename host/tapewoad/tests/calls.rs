@@ -6,7 +6,7 @@ use common::store::{ERROR, completion, others, ready, refusal, submit, words};
 use common::{DEVICE, ENDPOINTS, WORD, id};
 use tapewoad::calls::*;
 use tapewoad::library::{self, Memory};
-use tapewoad::{ControllerState, Endpoint, Opening};
+use tapewoad::{ControllerState, Endpoint, Opening, RequestId};
 
 #[test]
 fn a_submission_and_a_poll_are_two_calls_each() {
@@ -83,6 +83,26 @@ fn reports_are_answered_during_a_poll_and_other_calls_are_not() {
     assert!(matches!(store.apply(&completion(&[1])), Answer::Report(_)));
 }
 
+/// Ids are ordered by session, then by generation, then by sequence.
+#[test]
+fn reports_are_asked_for_after_any_id() {
+    let mut store = ready();
+    store.apply(&submit());
+    let report = store.apply(&Call::SubmitReply(Ok(1)));
+    let mut after = |session, generation, sequence| {
+        let id = RequestId {
+            session,
+            generation,
+            sequence,
+        };
+        store.apply(&Call::RequestReports { after: Some(id) })
+    };
+    assert_eq!(after(0, 9, 9), report);
+    assert_eq!(after(1, 0, 0), Answer::NoReport);
+    assert_eq!(after(1, 1, 0), Answer::NoReport);
+    assert_eq!(after(2, 0, 0), Answer::NoReport);
+}
+
 #[test]
 fn replies_that_fit_nothing_are_refused() {
     let mut store = ready();
@@ -150,12 +170,16 @@ fn wrong_sizes_are_refused() {
 #[test]
 fn too_many_endpoints_are_refused() {
     let mut store = ready();
-    let endpoints: &[Endpoint] = &[ENDPOINTS[0]; 31];
+    let mut endpoints = [ENDPOINTS[0]; 31];
+    endpoints[29] = ENDPOINTS[1];
+    let endpoints: &[Endpoint] = &endpoints;
     let call = Call::SetEndpoints { slot: 2, endpoints };
     assert_eq!(refusal(store.apply(&call)), 53);
     let endpoints = &endpoints[..30];
     let call = Call::SetEndpoints { slot: 2, endpoints };
     assert_eq!(store.apply(&call), Answer::Passed);
+    // The thirtieth takes requests.
+    assert!(matches!(store.apply(&submit()), Answer::Begun { .. }));
 }
 
 #[test]
@@ -289,4 +313,28 @@ fn wrong_memory_is_told_by_the_status() {
     assert_eq!(apply(26, &open, 32, LIST_WORDS), 0);
     assert_eq!(apply(26, &count, 32, LIST_WORDS), 0);
     assert_eq!(apply(26, &open, 40, 1000), 0);
+}
+
+/// An answer is 32 words, zeros where it has fewer of its own; what `out` has
+/// past them stays.
+#[test]
+fn an_answer_takes_32_words() {
+    let (mut session, mut out) = ([0; SESSION_WORDS], [9; 40]);
+    let (mut bus, mut rows, mut area) = ([9; BUS_WORDS], [9; ROW_WORDS], [9; 4]);
+    let memory = Memory {
+        session: &mut session,
+        bus: &mut bus,
+        rows: &mut rows,
+        area: &mut area,
+    };
+    let open = Call::Open {
+        opening: Opening::new(1, None),
+        rows: 1,
+        row_bytes: 4,
+    };
+    let mut lists = [9; LIST_WORDS];
+    let status = library::apply(memory, &open.words(), &[], &mut out, &mut lists);
+    assert_eq!((status, out[0]), (0, 1));
+    assert_eq!(out[1..ANSWER_WORDS], [0; 31]);
+    assert_eq!(out[ANSWER_WORDS..], [9; 8]);
 }
