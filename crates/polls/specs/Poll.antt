@@ -1,7 +1,6 @@
 -- Polling a request (document 01, "Request row", and the place poll, recovery start). Assumes nothing.
-use mathlib.Core.Bool.{Bool, not}
+use mathlib.Core.Bool.{not}
 use mathlib.Core.List.{List}
-use lib.ListN.{getD}
 use Rattle.chain.specs.Chain.{_if_else_}
 use Rattle.chain.specs.Lists.{foundIn}
 use Rattle.chain.specs.declared.Found.{Found}
@@ -10,12 +9,14 @@ use Rattle.models.specs.Refusals.{refusalOf}
 use Rattle.models.specs.Requests.{isPending}
 use Rattle.models.specs.declared.Refusal.{Refusal}
 use Rattle.models.specs.declared.RequestId.{RequestId}
-use Rattle.rows.specs.Table.{emptyRow}
+use Rattle.rows.specs.Table.{rowIn}
+use Rattle.rows.specs.Store.{Store}
 use Rattle.rows.specs.declared.Row.{Row}
 use Rattle.rules.specs.Rules.{reportOf}
 use Rattle.ledger.specs.Search.{isAt}
-use Rattle.session.specs.Start.{guarded}
 use Rattle.session.specs.Session.{isInitialized, withFlight}
+use Rattle.session.specs.Lent.{storeFits}
+use Rattle.session.specs.Start.{guarded}
 use Rattle.session.specs.declared.InFlight.the-variants as flight
 use Rattle.session.specs.declared.Session.{Session}
 use Rattle.polls.specs.declared.PollAnswer.the-variants as poll
@@ -25,17 +26,18 @@ abbrev pub pollRefused : Session → Refusal → Polled
 pollRefused s r = record { answer = poll.Refused r; session = s }
 
 -- a row that isn't Pending is reported in any controller state; 28; else in flight, with its token
-unfoldable pub pollRow : Session → Row → RequestId → Polled
-pollRow s r id =
+unfoldable pub pollRow : Row → RequestId → Session → Polled
+pollRow r id s =
     record { answer = poll.Report (reportOf r); session = s } if not (isPending (r .state)) else
     pollRefused s (refusalOf 28) if not (isInitialized (s .state)) else
     record { answer = poll.Asked (r .token); session = withFlight s (flight.Poll id) }
 
 -- 40
-unfoldable pub pollBy : Found → Session → RequestId → List Row → Polled
-pollBy found.Nothing s id rows = pollRefused s (refusalOf 40)
-pollBy (found.At i) s id rows = pollRow s (getD rows i emptyRow) id
+unfoldable pub pollBy : Found → RequestId → Session → List Row → Polled
+pollBy found.Nothing id s rows = pollRefused s (refusalOf 40)
+pollBy (found.At i) id s rows = pollRow (rowIn rows i) id s
 
 -- 1, 3
-unfoldable pub pollOf : Session → Bool → RequestId → List Row → Polled
-pollOf s fits id rows = guarded s fits (pollRefused s) (pollBy (foundIn (isAt id) rows) s id rows)
+unfoldable pub pollOf : RequestId → Session → Store → Polled
+pollOf id s store =
+    guarded s (storeFits (s .size) store) (pollRefused s) (pollBy (foundIn (isAt id) (store .rows)) id s (store .rows))

@@ -12,7 +12,7 @@ use session::Session;
 use session::start;
 ghost use mathlib.Core.Path.{_≡_};
 ghost use Rattle.models.specs.Refusals.{refusalOf};
-ghost use Rattle.session.specs.Lent.{rowsIn, rowsFitIn};
+ghost use Rattle.session.specs.Lent.{storeIn};
 ghost use Rattle.polls.specs.Poll.{pollRefused, pollRow, pollOf};
 
 fn refused(session: Session, refusal: Refusal) -> Polled
@@ -32,7 +32,7 @@ fn refused_by(session: Session, number: u16) -> Polled
 
 // A row that is not Pending is reported in any controller state; 28: not Initialized; else its token is to be asked for.
 fn poll_row(session: Session, row: Row, id: RequestId) -> Polled
-    ensures { λ r. ⌜ r ≡ pollRow session row id ⌝ }
+    ensures { λ r. ⌜ r ≡ pollRow row id session ⌝ }
 {
     let state = row.state;
     let controller = session.state;
@@ -53,7 +53,7 @@ fn poll_row(session: Session, row: Row, id: RequestId) -> Polled
 
 // 1, 3, 40, then by the row.
 pub fn poll_request(session: Session, rows: &[u64], id: RequestId) -> Polled
-    ensures { λ r. ⌜ r ≡ pollOf session (rowsFitIn session rows) id (rowsIn rows) ⌝ }
+    ensures { λ r. ⌜ r ≡ pollOf id session (storeIn rows) ⌝ }
 {
     let verdict = start::rows_ready(session, rows.len());
     match verdict {

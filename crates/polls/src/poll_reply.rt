@@ -20,7 +20,9 @@ use session::InFlight;
 use session::OptionStall;
 use session::RecoverableStall;
 use session::Session;
+use session::Size;
 use session::sizes;
+use session::sizes::Place;
 use standards::completion::is_stall;
 use words::OptionU32;
 use words::OptionU64;
@@ -28,11 +30,11 @@ use words::slices;
 ghost use mathlib.Core.Path.{_≡_};
 ghost use Prim.Native.Nat.{_+_, _<_, _≤_};
 ghost use lib.ListN.{length};
-ghost use Rattle.rows.specs.Table.{readRows};
+ghost use Rattle.chain.specs.After.{after};
+ghost use Rattle.rows.specs.Table.{readRows, rowIn};
 ghost use Rattle.rules.specs.Rules.{changeRow};
-ghost use mathlib.Core.Bool.{_&&_};
-ghost use Rattle.session.specs.Lent.{storeIn, storeOut, rowsFitIn, areaFitsIn};
-ghost use Rattle.polls.specs.Finish.{isRecovery, codeIsStall, isScopedStall, stallOf, failedAs, invalidAs, judgedTest, judged, finishTo, storedIn, settled, finishAt, finishFound, finishOf};
+ghost use Rattle.session.specs.Lent.{rowsIn, memoryIn, memoryOut};
+ghost use Rattle.polls.specs.PollReply.{isRecovery, codeIsStall, isScopedStall, stallOf, failedAs, invalidAs, judgedTest, judged, storedIn, settled, pollReplyAt, pollReplyFound, pollReplyOf};
 
 // What a completion does: the change of the row, the session after it, and whether the data is stored.
 pub struct Judgement {
@@ -168,14 +170,14 @@ fn judge(session: Session, row: Row, completion: BackendCompletion, given: u64) 
 }
 
 // The data of a valid completion overwrites the row's first bytes, cut at the row's end.
-fn store_data(area: &mut [u8], at: usize, room: usize, bytes: &[u8], stored: bool)
-    requires { ⌜ at + room ≤ length (now area) ⌝ }
-    ensures { λ _. ⌜ now (area .exit) ≡ storedIn at room (now (bytes .entry)) stored (now (area .entry)) ⌝ }
+fn store_data(area: &mut [u8], size: Size, place: Place, bytes: &[u8], stored: bool)
+    requires { ⌜ place .start + size .«row_bytes» ≤ length (now area) ⌝ }
+    ensures { λ _. ⌜ now (area .exit) ≡ storedIn size place (now (bytes .entry)) stored (now (area .entry)) ⌝ }
 {
     if !stored {
         return;
     }
-    slices::copy_cut(area, at, room, bytes);
+    slices::copy_cut(area, place.start, size.row_bytes as usize, bytes);
 }
 
 // The one place where a poll's reply changes rows and area. `idle` is the session without the poll.
@@ -185,23 +187,22 @@ fn settle(
     row: Row,
     rows: &mut [u64],
     area: &mut [u8],
-    i: usize,
-    at: usize,
-    room: usize,
+    place: Place,
     bytes: &[u8],
 ) -> Reported
-    requires { ⌜ (i < length (readRows (now rows))) × (at + room ≤ length (now area)) ⌝ }
-    ensures { λ r. ⌜ finishTo r (storeOut rows) (now (area .exit))
-        ≡ settled (changeRow row (j .change)) j idle i at room (now (bytes .entry)) (storeIn rows) (now (area .entry)) ⌝ }
+    requires { ⌜ (place .row < length (readRows (now rows))) × (place .start + idle .size .«row_bytes» ≤ length (now area)) ⌝ }
+    ensures { λ r. ⌜ after r (memoryOut rows area)
+        ≡ settled (changeRow row (j .change)) j place (now (bytes .entry)) idle (memoryIn rows area) ⌝ }
 {
     let change = j.change;
     let session = j.session;
+    let size = idle.size;
     let step = rules::change_row(row, change);
     match step {
         Step::Refused(refusal) => answers::refused(idle, refusal),
         Step::To(next, report) => {
-            rows::write_row(rows, i, next);
-            store_data(area, at, room, bytes, j.stored);
+            rows::write_row(rows, place.row, next);
+            store_data(area, size, place, bytes, j.stored);
             Reported {
                 answer: ReportAnswer::Report(report),
                 session,
@@ -210,22 +211,20 @@ fn settle(
     }
 }
 
-// Row i has the polled id.
-fn finish_at(
+// The place's row has the polled id.
+fn reply_at(
     idle: Session,
     rows: &mut [u64],
     area: &mut [u8],
-    i: usize,
-    at: usize,
-    room: usize,
+    place: Place,
     reply: PollReply,
     bytes: &[u8],
 ) -> Reported
-    requires { ⌜ (i < length (readRows (now rows))) × (at + room ≤ length (now area)) ⌝ }
-    ensures { λ r. ⌜ finishTo r (storeOut rows) (now (area .exit))
-        ≡ finishAt reply idle i at room (now (bytes .entry)) (storeIn rows) (now (area .entry)) ⌝ }
+    requires { ⌜ (place .row < length (readRows (now rows))) × (place .start + idle .size .«row_bytes» ≤ length (now area)) ⌝ }
+    ensures { λ r. ⌜ after r (memoryOut rows area)
+        ≡ pollReplyAt reply (rowIn (rowsIn rows) (place .row)) place (now (bytes .entry)) idle (memoryIn rows area) ⌝ }
 {
-    let row = rows::read_row(rows, i);
+    let row = rows::read_row(rows, place.row);
     match reply {
         PollReply::Nothing => Reported {
             answer: ReportAnswer::Report(rules::report_of(row)),
@@ -237,13 +236,13 @@ fn finish_at(
         }
         PollReply::Completion(completion) => {
             let j = judge(idle, row, completion, bytes.len() as u64);
-            settle(j, idle, row, rows, area, i, at, room, bytes)
+            settle(j, idle, row, rows, area, place, bytes)
         }
     }
 }
 
 // 3; 2: no row has the id.
-fn finish_found(
+fn reply_found(
     session: Session,
     rows: &mut [u64],
     area: &mut [u8],
@@ -251,22 +250,19 @@ fn finish_found(
     reply: PollReply,
     bytes: &[u8],
 ) -> Reported
-    ensures { λ r. ⌜ finishTo r (storeOut rows) (now (area .exit))
-        ≡ finishFound session (rowsFitIn session rows && areaFitsIn session area) id reply (now (bytes .entry)) (storeIn rows) (now (area .entry)) ⌝ }
+    ensures { λ r. ⌜ after r (memoryOut rows area) ≡ pollReplyFound id reply (now (bytes .entry)) session (memoryIn rows area) ⌝ }
 {
-    let rows_fit = sizes::rows_fit(session.row_count, session.row_bytes, rows.len());
-    let area_fits = sizes::area_fits(session.row_count, session.row_bytes, area.len());
-    if !(rows_fit & area_fits) {
+    let size = session.size;
+    if !sizes::memory_fits(size, rows.len(), area.len()) {
         return answers::refused_by(session, 3);
     }
     let found = search::find(rows, id);
     let Found::At(i) = found else {
         return answers::refused_by(session, 2);
     };
-    let room = session.row_bytes as usize;
-    let at = i * room;
+    let start = i * size.row_bytes as usize;
     let idle = session::with_flight(session, InFlight::Nothing);
-    finish_at(idle, rows, area, i, at, room, reply, bytes)
+    reply_at(idle, rows, area, Place { row: i, start }, reply, bytes)
 }
 
 // 2: no poll is in flight; 3; 2: no row has its id. Else the operation ends.
@@ -277,14 +273,13 @@ pub fn poll_reply(
     reply: PollReply,
     bytes: &[u8],
 ) -> Reported
-    ensures { λ r. ⌜ finishTo r (storeOut rows) (now (area .exit))
-        ≡ finishOf session (rowsFitIn session rows && areaFitsIn session area) reply (now (bytes .entry)) (storeIn rows) (now (area .entry)) ⌝ }
+    ensures { λ r. ⌜ after r (memoryOut rows area) ≡ pollReplyOf reply (now (bytes .entry)) session (memoryIn rows area) ⌝ }
 {
     let flight = session.in_flight;
     match flight {
         InFlight::Nothing => answers::refused_by(session, 2),
         InFlight::Submission(_) => answers::refused_by(session, 2),
-        InFlight::Poll(id) => finish_found(session, rows, area, id, reply, bytes),
-        InFlight::Recovery(_, _, _, _) => answers::refused_by(session, 2),
+        InFlight::Poll(id) => reply_found(session, rows, area, id, reply, bytes),
+        InFlight::Recovery(_) => answers::refused_by(session, 2),
     }
 }

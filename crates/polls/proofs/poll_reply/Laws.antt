@@ -1,14 +1,15 @@
 -- One law for each way out of a poll's reply: its premises are the facts in hand there. Assumes nothing.
-use Prim.Native.Nat.{ℕ, _*_}
+use Prim.Native.Nat.{ℕ, _+_, _*_, _≤_}
 use mathlib.Core.Bool.{Bool, true, false, not, _&&_}
 use mathlib.Core.List.{List}
 use mathlib.Core.Path.{_≡_, refl, sym, ap, _∙_}
 use borrow.Author.Tests.{not-true, not-false}
-use lib.ListN.{length, getD}
+use lib.ListN.{length}
+use Rattle.chain.specs.After.{After, after}
 use Rattle.chain.specs.Lists.{foundIn}
 use Rattle.chain.specs.declared.Found.{Found}
 use Rattle.chain.specs.declared.Found.the-variants as found
-use Rattle.chain.proofs.Chain.{takes, passes}
+use Rattle.chain.proofs.Chain.{takes, passes, not-through}
 use Rattle.words.specs.Records.{spliceCut}
 use Rattle.words.specs.declared.OptionU32.{OptionU32}
 use Rattle.words.specs.declared.OptionU32.the-variants as u32
@@ -24,7 +25,7 @@ use Rattle.models.specs.declared.RequestId.{RequestId}
 use Rattle.models.specs.declared.RequestMetadata.{RequestMetadata}
 use Rattle.models.specs.declared.RequestReport.{RequestReport}
 use Rattle.standards.specs.Completion.{isStall}
-use Rattle.rows.specs.Table.{emptyRow}
+use Rattle.rows.specs.Table.{readRows, rowIn}
 use Rattle.rows.specs.Store.{Store, putIn}
 use Rattle.rows.specs.declared.Row.{Row}
 use Rattle.rules.specs.Rules.{changeRow, reportOf}
@@ -37,21 +38,25 @@ use Rattle.checks.specs.Completion.{testCompletion}
 use Rattle.checks.specs.declared.completion.CompletionTest.{CompletionTest}
 use Rattle.checks.specs.declared.completion.CompletionTest.the-variants as test
 use Rattle.session.specs.Session.{marked, withFlight, withStall}
+use Rattle.session.specs.Sizes.{memorySizes, placeOf}
+use Rattle.session.specs.Lent.{Memory, memory, memoryFits}
 use Rattle.session.specs.declared.InFlight.{InFlight}
 use Rattle.session.specs.declared.InFlight.the-variants as flight
 use Rattle.session.specs.declared.OptionStall.{OptionStall}
 use Rattle.session.specs.declared.OptionStall.the-variants as stall
-use Rattle.session.specs.declared.RecoveryKind.{RecoveryKind}
-use Rattle.models.specs.declared.DeviceId.{DeviceId}
+use Rattle.session.specs.declared.Recovery.{Recovery}
 use Rattle.session.specs.declared.Session.{Session}
+use Rattle.session.specs.declared.Size.{Size}
+use Rattle.session.specs.declared.sizes.Place.{Place}
 use Rattle.reports.specs.Answers.{effect, reportRefused}
-use Rattle.polls.specs.Finish.{isRecovery, codeIsStall, isScopedStall, stallOf, failedAs, invalidAs, judgedTest, judgedBy, judged, FinishTo, finishTo, storedIn, settled, finishAt, finishBy, finishFound, finishIn, finishOf}
+use Rattle.polls.specs.PollReply.{isRecovery, codeIsStall, isScopedStall, stallOf, failedAs, invalidAs, judgedTest, judgedBy, judged, storedIn, settled, pollReplyAt, pollReplyBy, pollReplyFound, pollReplyIn, pollReplyOf}
 use Rattle.polls.specs.declared.PollReply.{PollReply}
 use Rattle.polls.specs.declared.PollReply.the-variants as reply
 use Rattle.reports.specs.declared.Reported.{Reported}
 use Rattle.reports.specs.declared.ReportAnswer.the-variants as report
 use Rattle.polls.specs.declared.poll_reply.Judgement.{Judgement}
 use Rattle.reports.proofs.change.Laws.{reportedAs}
+use Rattle.reports.proofs.Bytes.{found-place}
 
 abbrev pub judgement : Change → Session → Bool → Judgement
 judgement c s stored = record { change = c; session = s; stored = stored }
@@ -123,84 +128,85 @@ module _ (s : Session) (c : BackendCompletion) where
     judged-test t f et ej = ej ∙ ap (λ (x : CompletionTest). judgedTest x s c) et ∙ sym (ap (λ (o : OptionError). judgedBy o s row c given) f)
 
 -- the data
-module _ (at room : ℕ) (bytes : List ℕ) (stored : Bool) (area : List ℕ) where
-  pub data-left : not stored ≡ true → area ≡ storedIn at room bytes stored area
+module _ (z : Size) (p : Place) (bytes : List ℕ) (stored : Bool) (area : List ℕ) where
+  pub data-left : not stored ≡ true → area ≡ storedIn z p bytes stored area
   unfolding storedIn
   data-left t = passes (List ℕ) _ _ _ _ (not-true stored t) refl
 
-  pub data-stored : (after : List ℕ) → not stored ≡ false → after ≡ spliceCut at room bytes area → after ≡ storedIn at room bytes stored area
+  pub data-stored : (left : List ℕ) → not stored ≡ false → left ≡ spliceCut (p .start) (z .«row_bytes») bytes area → left ≡ storedIn z p bytes stored area
   unfolding storedIn
-  data-stored after t ea = takes (List ℕ) _ _ _ _ (not-false stored t) ea
+  data-stored left t ea = takes (List ℕ) _ _ _ _ (not-false stored t) ea
 
 -- the row takes the change
-module _ (j : Judgement) (idle : Session) (i at room : ℕ) (bytes : List ℕ) (store : Store) (area : List ℕ) (row : Row) (m : Step) (em : m ≡ changeRow row (j .change)) where
-  pub settled-no : (r : Refusal) (x : Reported) → m ≡ step.Refused r → x ≡ reportRefused idle r
-      → finishTo x store area ≡ settled (changeRow row (j .change)) j idle i at room bytes store area
+module _ (j : Judgement) (p : Place) (bytes : List ℕ) (idle : Session) (m : Memory) (row : Row) (d : Step) (ed : d ≡ changeRow row (j .change)) where
+  pub settled-no : (r : Refusal) (x : Reported) → d ≡ step.Refused r → x ≡ reportRefused idle r
+      → after x m ≡ settled (changeRow row (j .change)) j p bytes idle m
   unfolding settled
-  settled-no r x e ex = rw (ex, ← em, e)
+  settled-no r x e ex = rw (ex, ← ed, e)
 
-  pub settled-to : (next : Row) (x : RequestReport) (after : Store) (bytesAfter : List ℕ) → m ≡ step.To next x → after ≡ putIn store i next
-      → bytesAfter ≡ storedIn at room bytes (j .stored) area
-      → finishTo (reportedAs (report.Report x) (j .session)) after bytesAfter ≡ settled (changeRow row (j .change)) j idle i at room bytes store area
+  pub settled-to : (next : Row) (x : RequestReport) (store : Store) (area : List ℕ) → d ≡ step.To next x → store ≡ putIn (m .store) (p .row) next
+      → area ≡ storedIn (idle .size) p bytes (j .stored) (m .area)
+      → after (reportedAs (report.Report x) (j .session)) (memory store area) ≡ settled (changeRow row (j .change)) j p bytes idle m
   unfolding settled
-  settled-to next x after bytesAfter e es ea = rw (es, ea, ← em, e)
+  settled-to next x store area e es ea = rw (es, ea, ← ed, e)
 
 -- by the reply
-module _ (p : PollReply) (idle : Session) (i at room : ℕ) (bytes : List ℕ) (store : Store) (area : List ℕ) (row : Row) (er : row ≡ getD (store .rows) i emptyRow) where
-  pub finish-nothing : (x : RequestReport) → p ≡ reply.Nothing → x ≡ reportOf row
-      → finishTo (reportedAs (report.Report x) idle) store area ≡ finishAt p idle i at room bytes store area
-  unfolding finishAt
-  finish-nothing x e ex = rw (e, ex, er)
+module _ (r : PollReply) (row : Row) (p : Place) (bytes : List ℕ) (idle : Session) (m : Memory) (own : Row) (eo : own ≡ row) where
+  pub at-nothing : (x : RequestReport) → r ≡ reply.Nothing → x ≡ reportOf own → after (reportedAs (report.Report x) idle) m ≡ pollReplyAt r row p bytes idle m
+  unfolding pollReplyAt
+  at-nothing x e ex = rw (e, ex, eo)
 
-  pub finish-error : (e : OperationError) (after : Session) (r : Refusal) (x : Reported) → p ≡ reply.Error e → after ≡ effect e idle → r ≡ fromBackend 45 e
-      → x ≡ reportRefused after r → finishTo x store area ≡ finishAt p idle i at room bytes store area
-  unfolding finishAt
-  finish-error e after r x f ea ee ex = rw (ex, f, ea, ee)
+  pub at-error : (e : OperationError) (next : Session) (f : Refusal) (x : Reported) → r ≡ reply.Error e → next ≡ effect e idle → f ≡ fromBackend 45 e
+      → x ≡ reportRefused next f → after x m ≡ pollReplyAt r row p bytes idle m
+  unfolding pollReplyAt
+  at-error e next f x t en ef ex = rw (ex, t, en, ef)
 
-  pub finish-done : (c : BackendCompletion) (j : Judgement) (y : FinishTo) → p ≡ reply.Completion c → j ≡ judged idle row c (length bytes)
-      → y ≡ settled (changeRow row (j .change)) j idle i at room bytes store area → y ≡ finishAt p idle i at room bytes store area
-  unfolding finishAt
-  finish-done c j y f ej ey = ey ∙ rw (f, ej, er)
+  pub at-completion : (c : BackendCompletion) (j : Judgement) (y : After Reported Memory) → r ≡ reply.Completion c → j ≡ judged idle own c (length bytes)
+      → y ≡ settled (changeRow own (j .change)) j p bytes idle m → y ≡ pollReplyAt r row p bytes idle m
+  unfolding pollReplyAt
+  at-completion c j y t ej ey = ey ∙ rw (t, ej, eo)
 
 -- by the sizes and the search
-module _ (s : Session) (p q : Bool) (id : RequestId) (r : PollReply) (bytes : List ℕ) (store : Store) (area : List ℕ) (a b : Bool) (ea : a ≡ p) (eb : b ≡ q) where
-  pub finish-unfit : (x : Reported) → not (a && b) ≡ true → x ≡ reportRefused s (refusalOf 3) → finishTo x store area ≡ finishFound s (p && q) id r bytes store area
-  unfolding finishFound
-  finish-unfit x t ex = takes FinishTo _ _ _ _ (rw (ea, eb) at t) (rw ex)
+module _ (id : RequestId) (r : PollReply) (bytes : List ℕ) (s : Session) (m : Memory) (f : Bool) (ef : f ≡ memoryFits (s .size) m) where
+  pub found-unfit : (x : Reported) → not f ≡ true → x ≡ reportRefused s (refusalOf 3) → after x m ≡ pollReplyFound id r bytes s m
+  unfolding pollReplyFound
+  found-unfit x t ex = takes (After Reported Memory) _ _ _ _ (not-through f _ true ef t) (rw ex)
 
-  module _ (t : not (a && b) ≡ false) (g : Found) (eg : g ≡ foundIn (isAt id) (store .rows)) where
-    pub finish-none : (x : Reported) → g ≡ found.Nothing → x ≡ reportRefused s (refusalOf 2)
-        → finishTo x store area ≡ finishFound s (p && q) id r bytes store area
-    unfolding finishFound finishBy
-    finish-none x e ex = passes FinishTo _ _ _ _ (rw (ea, eb) at t) (rw (sym eg ∙ e, ex))
+  module _ (t : not f ≡ false) (g : Found) (eg : g ≡ foundIn (isAt id) (m .store .rows)) where
+    pub found-none : (x : Reported) → g ≡ found.Nothing → x ≡ reportRefused s (refusalOf 2) → after x m ≡ pollReplyFound id r bytes s m
+    unfolding pollReplyFound pollReplyBy
+    found-none x e ex = passes (After Reported Memory) _ _ _ _ (not-through f _ false ef t) (rw (sym eg ∙ e, ex))
 
-    pub finish-found : (i : ℕ) (idle : Session) (y : FinishTo) → g ≡ found.At i → idle ≡ withFlight s flight.Nothing
-        → y ≡ finishAt r idle i (i * s .«row_bytes») (s .«row_bytes») bytes store area → y ≡ finishFound s (p && q) id r bytes store area
-    unfolding finishFound finishBy
-    finish-found i idle y e ei ey = passes FinishTo _ _ _ _ (rw (ea, eb) at t) (ey ∙ rw (sym eg ∙ e, ei))
+    pub found-at : (i : ℕ) (idle : Session) (y : After Reported Memory) → g ≡ found.At i → idle ≡ withFlight s flight.Nothing
+        → y ≡ pollReplyAt r (rowIn (m .store .rows) i) (placeOf (s .size) i) bytes idle m → y ≡ pollReplyFound id r bytes s m
+    unfolding pollReplyFound pollReplyBy
+    found-at i idle y e ei ey = passes (After Reported Memory) _ _ _ _ (not-through f _ false ef t) (ey ∙ rw (sym eg ∙ e, ei))
+
+-- the session without the poll has the same sizes
+pub idle-place : (s idle : Session) (w : List ℕ) (size : ℕ) (f : Bool) → f ≡ memorySizes (s .size) (length w) size → not f ≡ false
+    → (p : Row → Bool) (g : Found) (i : ℕ) → g ≡ foundIn p (readRows w) → g ≡ found.At i → idle ≡ withFlight s flight.Nothing
+    → i * s .size .«row_bytes» + idle .size .«row_bytes» ≤ size
+idle-place s idle w size f ef t p g i eg e ei = rw ei (found-place (s .size) w size f ef t p g i eg e)
 
 -- by what is in flight
-module _ (s : Session) (fits : Bool) (r : PollReply) (bytes : List ℕ) (store : Store) (area : List ℕ) where
+module _ (r : PollReply) (bytes : List ℕ) (s : Session) (m : Memory) where
   module _ (x : Reported) (ex : x ≡ reportRefused s (refusalOf 2)) where
-    refused-in : finishIn (s .«in_flight») s fits r bytes store area ≡ finishTo (reportRefused s (refusalOf 2)) store area
-        → finishTo x store area ≡ finishOf s fits r bytes store area
-    unfolding finishOf
+    refused-in : pollReplyIn (s .«in_flight») r bytes s m ≡ after (reportRefused s (refusalOf 2)) m → after x m ≡ pollReplyOf r bytes s m
+    unfolding pollReplyOf
     refused-in e = rw ex (sym e)
 
-    pub reply-idle : s .«in_flight» ≡ flight.Nothing → finishTo x store area ≡ finishOf s fits r bytes store area
-    unfolding finishOf finishIn
-    reply-idle e = refused-in (ap (λ (f : InFlight). finishIn f s fits r bytes store area) e)
+    pub reply-idle : s .«in_flight» ≡ flight.Nothing → after x m ≡ pollReplyOf r bytes s m
+    unfolding pollReplyOf pollReplyIn
+    reply-idle e = refused-in (ap (λ (f : InFlight). pollReplyIn f r bytes s m) e)
 
-    pub reply-submission : (id : RequestId) → s .«in_flight» ≡ flight.Submission id → finishTo x store area ≡ finishOf s fits r bytes store area
-    unfolding finishOf finishIn
-    reply-submission id e = refused-in (ap (λ (f : InFlight). finishIn f s fits r bytes store area) e)
+    pub reply-submission : (id : RequestId) → s .«in_flight» ≡ flight.Submission id → after x m ≡ pollReplyOf r bytes s m
+    unfolding pollReplyOf pollReplyIn
+    reply-submission id e = refused-in (ap (λ (f : InFlight). pollReplyIn f r bytes s m) e)
 
-    pub reply-recovery : (id : RequestId) (d : DeviceId) (n : ℕ) (k : RecoveryKind) → s .«in_flight» ≡ flight.Recovery id d n k
-        → finishTo x store area ≡ finishOf s fits r bytes store area
-    unfolding finishOf finishIn
-    reply-recovery id d n k e = refused-in (ap (λ (f : InFlight). finishIn f s fits r bytes store area) e)
+    pub reply-recovery : (v : Recovery) → s .«in_flight» ≡ flight.Recovery v → after x m ≡ pollReplyOf r bytes s m
+    unfolding pollReplyOf pollReplyIn
+    reply-recovery v e = refused-in (ap (λ (f : InFlight). pollReplyIn f r bytes s m) e)
 
-  pub reply-on : (id : RequestId) (y : FinishTo) → s .«in_flight» ≡ flight.Poll id → y ≡ finishFound s fits id r bytes store area
-      → y ≡ finishOf s fits r bytes store area
-  unfolding finishOf finishIn
+  pub reply-on : (id : RequestId) (y : After Reported Memory) → s .«in_flight» ≡ flight.Poll id → y ≡ pollReplyFound id r bytes s m → y ≡ pollReplyOf r bytes s m
+  unfolding pollReplyOf pollReplyIn
   reply-on id y e ey = ey ∙ rw e

@@ -1,9 +1,10 @@
 -- The backend's reply to a poll (document 01, "Request row"). Assumes nothing.
-use Prim.Native.Nat.{ℕ, _*_}
+use Prim.Native.Nat.{ℕ}
 use mathlib.Core.Bool.{Bool, true, false, not, _&&_}
 use mathlib.Core.List.{List}
-use lib.ListN.{length, getD}
+use lib.ListN.{length}
 use Rattle.chain.specs.Chain.{_if_else_}
+use Rattle.chain.specs.After.{After, after}
 use Rattle.chain.specs.Lists.{foundIn}
 use Rattle.chain.specs.declared.Found.{Found}
 use Rattle.chain.specs.declared.Found.the-variants as found
@@ -22,8 +23,8 @@ use Rattle.models.specs.declared.OptionError.the-variants as error
 use Rattle.models.specs.declared.RequestId.{RequestId}
 use Rattle.models.specs.declared.RequestMetadata.{RequestMetadata}
 use Rattle.standards.specs.Completion.{isStall}
-use Rattle.rows.specs.Table.{emptyRow}
-use Rattle.rows.specs.Store.{Store, putIn}
+use Rattle.rows.specs.Table.{rowIn}
+use Rattle.rows.specs.Store.{putIn}
 use Rattle.rows.specs.declared.Row.{Row}
 use Rattle.rules.specs.Rules.{changeRow, reportOf}
 use Rattle.ledger.specs.Search.{isAt}
@@ -34,11 +35,15 @@ use Rattle.checks.specs.Completion.{testCompletion}
 use Rattle.checks.specs.declared.completion.CompletionTest.{CompletionTest}
 use Rattle.checks.specs.declared.completion.CompletionTest.the-variants as test
 use Rattle.session.specs.Session.{marked, withFlight, withStall}
+use Rattle.session.specs.Sizes.{placeOf}
+use Rattle.session.specs.Lent.{Memory, memory, memoryFits}
 use Rattle.session.specs.declared.InFlight.{InFlight}
 use Rattle.session.specs.declared.InFlight.the-variants as flight
 use Rattle.session.specs.declared.OptionStall.{OptionStall}
 use Rattle.session.specs.declared.OptionStall.the-variants as stall
 use Rattle.session.specs.declared.Session.{Session}
+use Rattle.session.specs.declared.Size.{Size}
+use Rattle.session.specs.declared.sizes.Place.{Place}
 use Rattle.reports.specs.Answers.{effect, reportRefused}
 use Rattle.polls.specs.declared.PollReply.{PollReply}
 use Rattle.polls.specs.declared.PollReply.the-variants as reply
@@ -100,53 +105,42 @@ judgedBy error.None s row c given = judgedTest (testCompletion c given (row .met
 unfoldable pub judged : Session → Row → BackendCompletion → ℕ → Judgement
 judged s row c given = judgedBy (c .error) s row c given
 
--- the answer with its session, and the store and the area after it
-pub record FinishTo : Type 0 where
-  pub result : Reported
-  pub store : Store
-  pub area : List ℕ
-
-abbrev pub finishTo : Reported → Store → List ℕ → FinishTo
-finishTo r store area = record { result = r; store = store; area = area }
-
 -- a valid completion's data overwrites the first of the row's bytes only, cut at the row's end
-unfoldable pub storedIn : ℕ → ℕ → List ℕ → Bool → List ℕ → List ℕ
-storedIn at room bytes stored area = spliceCut at room bytes area if stored else area
+unfoldable pub storedIn : Size → Place → List ℕ → Bool → List ℕ → List ℕ
+storedIn z p bytes stored area = spliceCut (p .start) (z .«row_bytes») bytes area if stored else area
 
 -- the row takes the change; one that is not Pending, which no call leads to, is 41 and nothing else happens
-unfoldable pub settled : Step → Judgement → Session → ℕ → ℕ → ℕ → List ℕ → Store → List ℕ → FinishTo
-settled (step.Refused r) j idle i at room bytes store area = finishTo (reportRefused idle r) store area
-settled (step.To next x) j idle i at room bytes store area =
-    finishTo (record { answer = report.Report x; session = j .session }) (putIn store i next) (storedIn at room bytes (j .stored) area)
+unfoldable pub settled : Step → Judgement → Place → List ℕ → Session → Memory → After Reported Memory
+settled (step.Refused r) j p bytes idle m = after (reportRefused idle r) m
+settled (step.To next x) j p bytes idle m =
+    after (record { answer = report.Report x; session = j .session })
+    (memory (putIn (m .store) (p .row) next) (storedIn (idle .size) p bytes (j .stored) (m .area)))
 
 -- by the reply; `idle` is the session without the poll. 45: a backend's error leaves the row Pending
-unfoldable pub finishAt : PollReply → Session → ℕ → ℕ → ℕ → List ℕ → Store → List ℕ → FinishTo
-finishAt reply.Nothing idle i at room bytes store area =
-    finishTo (record { answer = report.Report (reportOf (getD (store .rows) i emptyRow)); session = idle }) store area
-finishAt (reply.Error e) idle i at room bytes store area = finishTo (reportRefused (effect e idle) (fromBackend 45 e)) store area
-finishAt (reply.Completion c) idle i at room bytes store area =
-    settled
-    (changeRow (getD (store .rows) i emptyRow) (judged idle (getD (store .rows) i emptyRow) c (length bytes) .change))
-    (judged idle (getD (store .rows) i emptyRow) c (length bytes))
-    idle i at room bytes store area
+unfoldable pub pollReplyAt : PollReply → Row → Place → List ℕ → Session → Memory → After Reported Memory
+pollReplyAt reply.Nothing row p bytes idle m = after (record { answer = report.Report (reportOf row); session = idle }) m
+pollReplyAt (reply.Error e) row p bytes idle m = after (reportRefused (effect e idle) (fromBackend 45 e)) m
+pollReplyAt (reply.Completion c) row p bytes idle m =
+    let j = judged idle row c (length bytes) in settled (changeRow row (j .change)) j p bytes idle m
 
 -- 2: no row has the id
-unfoldable pub finishBy : Found → Session → PollReply → List ℕ → Store → List ℕ → FinishTo
-finishBy found.Nothing s x bytes store area = finishTo (reportRefused s (refusalOf 2)) store area
-finishBy (found.At i) s x bytes store area = finishAt x (withFlight s flight.Nothing) i (i * s .«row_bytes») (s .«row_bytes») bytes store area
+unfoldable pub pollReplyBy : Found → PollReply → List ℕ → Session → Memory → After Reported Memory
+pollReplyBy found.Nothing x bytes s m = after (reportRefused s (refusalOf 2)) m
+pollReplyBy (found.At i) x bytes s m =
+    pollReplyAt x (rowIn (m .store .rows) i) (placeOf (s .size) i) bytes (withFlight s flight.Nothing) m
 
 -- 3
-unfoldable pub finishFound : Session → Bool → RequestId → PollReply → List ℕ → Store → List ℕ → FinishTo
-finishFound s fits id x bytes store area =
-    finishTo (reportRefused s (refusalOf 3)) store area if not fits else
-    finishBy (foundIn (isAt id) (store .rows)) s x bytes store area
+unfoldable pub pollReplyFound : RequestId → PollReply → List ℕ → Session → Memory → After Reported Memory
+pollReplyFound id x bytes s m =
+    after (reportRefused s (refusalOf 3)) m if not (memoryFits (s .size) m) else
+    pollReplyBy (foundIn (isAt id) (m .store .rows)) x bytes s m
 
 -- 2: its kind is not in flight
-unfoldable pub finishIn : InFlight → Session → Bool → PollReply → List ℕ → Store → List ℕ → FinishTo
-finishIn flight.Nothing s fits x bytes store area = finishTo (reportRefused s (refusalOf 2)) store area
-finishIn (flight.Submission id) s fits x bytes store area = finishTo (reportRefused s (refusalOf 2)) store area
-finishIn (flight.Recovery target device endpoint kind) s fits x bytes store area = finishTo (reportRefused s (refusalOf 2)) store area
-finishIn (flight.Poll id) s fits x bytes store area = finishFound s fits id x bytes store area
+unfoldable pub pollReplyIn : InFlight → PollReply → List ℕ → Session → Memory → After Reported Memory
+pollReplyIn flight.Nothing x bytes s m = after (reportRefused s (refusalOf 2)) m
+pollReplyIn (flight.Submission id) x bytes s m = after (reportRefused s (refusalOf 2)) m
+pollReplyIn (flight.Recovery r) x bytes s m = after (reportRefused s (refusalOf 2)) m
+pollReplyIn (flight.Poll id) x bytes s m = pollReplyFound id x bytes s m
 
-unfoldable pub finishOf : Session → Bool → PollReply → List ℕ → Store → List ℕ → FinishTo
-finishOf s fits x bytes store area = finishIn (s .«in_flight») s fits x bytes store area
+unfoldable pub pollReplyOf : PollReply → List ℕ → Session → Memory → After Reported Memory
+pollReplyOf x bytes s m = pollReplyIn (s .«in_flight») x bytes s m

@@ -1,23 +1,23 @@
-use Rattle.polls.proofs.poll_reply.Laws.{finish-nothing, finish-error, finish-done}
+use Rattle.polls.proofs.poll_reply.Laws.{at-nothing, at-error, at-completion}
 use Rattle.rows.specs.Store.{storeOf}
 use borrow.Author.Needs.{needs}
-use Rattle.polls.proofs.poll_reply.finish_at.Statement.{statement}
-use Rattle.polls.proofs.poll_reply.finish_at.Tie as tie
+use Rattle.polls.proofs.poll_reply.reply_at.Statement.{statement}
+use Rattle.polls.proofs.poll_reply.reply_at.Tie as tie
 
 returns : tie.Need-returns
 unfolding storeOf
-returns c = search finish-nothing
+returns c = search at-nothing
 
 returns-2 : tie.Need-returns-2
 unfolding storeOf
-returns-2 c = search finish-error
+returns-2 c = search at-error
 
 returns-3 : tie.Need-returns-3
 unfolding storeOf
-returns-3 c = search finish-done
+returns-3 c = search at-completion
 
-pub finish-at-spec : {M : Type 1} → statement M
-finish-at-spec =
+pub reply-at-spec : {M : Type 1} → statement M
+reply-at-spec =
     tie.close
     (tie.spec
     (λ c κs. search needs)
