@@ -1,3 +1,4 @@
 pub mod Begin
 pub mod Submit
-pub mod Reply
+pub mod Plan
+pub mod SubmitReply

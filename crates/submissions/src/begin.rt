@@ -3,7 +3,6 @@
 use chain::Found;
 use ledger::search;
 use ledger::tally;
-use models::PortReading;
 use models::Refusal;
 use models::RequestId;
 use models::RequestMetadata;
@@ -11,19 +10,18 @@ use models::Verdict;
 use models::kinds;
 use rules::Spent;
 use session::Session;
-use session::sizes;
-use session::start;
+use session::sizes::Place;
+use targets::Readings;
 use targets::target;
 use words::slices;
 ghost use mathlib.Core.Path.{_≡_};
 ghost use Prim.Native.Nat.{_+_, _<_, _≤_};
 ghost use lib.ListN.{length};
+ghost use Rattle.chain.specs.After.{after};
 ghost use Rattle.rows.specs.Table.{readRows};
 ghost use Rattle.bus.specs.Layout.{busWords};
-ghost use Rattle.session.specs.Start.{readyOf};
-ghost use Rattle.session.specs.Lent.{rowsIn, storeIn, storeOut, busIn, busOut};
-ghost use Rattle.submissions.specs.Submit.{storeFits};
-ghost use Rattle.submissions.specs.Begin.{roomIn, newId, startRefused, startTo, writeOf, beginOf, targetTo, targetOf};
+ghost use Rattle.session.specs.Lent.{rowsIn, memoryIn, memoryOut, lentIn, lentOut};
+ghost use Rattle.submissions.specs.Begin.{roomIn, newId, startRefused, writeOf, draft, beginOf, targetOf};
 
 // A submission that was handed over, with its id and row, or the refusal.
 pub enum Start {
@@ -34,16 +32,6 @@ pub enum Start {
 pub struct Started {
     pub answer: Start,
     pub session: Session,
-}
-
-// 1; 3: rows, area or bus are of another size than the session records.
-pub(crate) fn ready(session: Session, words: usize, bytes: usize, bus_words: usize) -> Verdict
-    ensures { λ r. ⌜ r ≡ readyOf session (storeFits session words bytes «bus_words») ⌝ }
-{
-    let rows_fit = sizes::rows_fit(session.row_count, session.row_bytes, words);
-    let area_fits = sizes::area_fits(session.row_count, session.row_bytes, bytes);
-    let bus_fits = sizes::bus_fits(bus_words);
-    start::ready(session, rows_fit & area_fits & bus_fits)
 }
 
 pub(crate) fn start_refused(session: Session, refusal: Refusal) -> Started
@@ -76,17 +64,17 @@ fn new_id(session: Session) -> RequestId
 }
 
 // IN gets zeros of the length, OUT the data.
-fn write_buffer(area: &mut [u8], at: usize, metadata: RequestMetadata, bytes: &[u8])
-    requires { ⌜ (at + metadata .«requested_length» ≤ length (now area)) × (at + length (now bytes) ≤ length (now area)) ⌝ }
-    ensures { λ _. ⌜ now (area .exit) ≡ writeOf at metadata (now (bytes .entry)) (now (area .entry)) ⌝ }
+fn write_buffer(area: &mut [u8], start: usize, metadata: RequestMetadata, bytes: &[u8])
+    requires { ⌜ (start + metadata .«requested_length» ≤ length (now area)) × (start + length (now bytes) ≤ length (now area)) ⌝ }
+    ensures { λ _. ⌜ now (area .exit) ≡ writeOf start metadata (now (bytes .entry)) (now (area .entry)) ⌝ }
 {
     let direction = metadata.direction;
     let n = metadata.requested_length;
     if kinds::is_in(direction) {
-        slices::clear_bytes(area, at, n as usize);
+        slices::clear_bytes(area, start, n as usize);
         return;
     }
-    slices::copy_bytes(area, at, bytes, bytes.len());
+    slices::copy_bytes(area, start, bytes, bytes.len());
 }
 
 // 39, or the sequence number is spent, and row and buffer are written.
@@ -94,14 +82,13 @@ fn begin(
     session: Session,
     rows: &mut [u64],
     area: &mut [u8],
-    i: usize,
-    at: usize,
+    place: Place,
     metadata: RequestMetadata,
     bytes: &[u8],
 ) -> Started
-    requires { ⌜ (i < length (readRows (now rows))) × (at + metadata .«requested_length» ≤ length (now area)) × (at + length (now bytes) ≤ length (now area)) ⌝ }
-    ensures { λ r. ⌜ startTo r (storeOut rows) (now (area .exit))
-        ≡ beginOf session i at metadata (now (bytes .entry)) (storeIn rows) (now (area .entry)) ⌝ }
+    requires { ⌜ (place .row < length (readRows (now rows)))
+        × (place .start + metadata .«requested_length» ≤ length (now area)) × (place .start + length (now bytes) ≤ length (now area)) ⌝ }
+    ensures { λ r. ⌜ after r (memoryOut rows area) ≡ beginOf (draft place metadata (now (bytes .entry))) session (memoryIn rows area) ⌝ }
 {
     let spent = rules::spend_sequence(session.next_sequence);
     match spent {
@@ -109,10 +96,10 @@ fn begin(
         Spent::Next(next) => {
             let id = new_id(session);
             let row = rules::pending_row(id, metadata);
-            rows::write_row(rows, i, row);
-            write_buffer(area, at, metadata, bytes);
+            rows::write_row(rows, place.row, row);
+            write_buffer(area, place.start, metadata, bytes);
             Started {
-                answer: Start::At(id, i as u64),
+                answer: Start::At(id, place.row as u64),
                 session: session::spend(session, next, id),
             }
         }
@@ -125,23 +112,22 @@ pub(crate) fn begin_target(
     bus: &mut [u64],
     rows: &mut [u64],
     area: &mut [u8],
-    i: usize,
-    at: usize,
+    place: Place,
     metadata: RequestMetadata,
     bytes: &[u8],
-    first: PortReading,
-    second: PortReading,
+    readings: Readings,
 ) -> Started
-    requires { ⌜ (length (now bus) ≡ busWords) × (i < length (readRows (now rows))) × (at + metadata .«requested_length» ≤ length (now area)) × (at + length (now bytes) ≤ length (now area)) ⌝ }
-    ensures { λ r. ⌜ targetTo r (busOut bus) (storeOut rows) (now (area .exit))
-        ≡ targetOf session i at metadata (now (bytes .entry)) first second (busIn bus) (storeIn rows) (now (area .entry)) ⌝ }
+    requires { ⌜ (length (now bus) ≡ busWords) × (place .row < length (readRows (now rows)))
+        × (place .start + metadata .«requested_length» ≤ length (now area)) × (place .start + length (now bytes) ≤ length (now area)) ⌝ }
+    ensures { λ r. ⌜ after r (lentOut bus rows area)
+        ≡ targetOf (draft place metadata (now (bytes .entry))) readings session (lentIn bus rows area) ⌝ }
 {
     let state = session.state;
     let ports = session.ports;
     let initialized = session::is_initialized(state);
-    let verdict = target::check_target(bus, initialized, ports, metadata, first, second);
+    let verdict = target::check_target(bus, initialized, ports, metadata, readings);
     match verdict {
         Verdict::Refused(refusal) => start_refused(session, refusal),
-        Verdict::Pass => begin(session, rows, area, i, at, metadata, bytes),
+        Verdict::Pass => begin(session, rows, area, place, metadata, bytes),
     }
 }

@@ -14,16 +14,19 @@ use models::PortReading;
 use models::Refusal;
 use models::Verdict;
 use session::Session;
+use session::sizes::Place;
+use session::start;
+use targets::Readings;
 ghost use mathlib.Core.Path.{_≡_};
 ghost use mathlib.Core.Bool.{true};
-ghost use Prim.Native.Nat.{_*_, _+_, _<_, _≤_};
+ghost use Prim.Native.Nat.{_+_, _<_, _≤_};
 ghost use lib.ListN.{length};
+ghost use Rattle.chain.specs.After.{after};
 ghost use Rattle.rows.specs.Table.{readRows};
 ghost use Rattle.bus.specs.Layout.{busWords};
-ghost use Rattle.checks.specs.Plan.{planned};
-ghost use Rattle.session.specs.Lent.{rowsIn, storeIn, storeOut, busIn, busOut};
-ghost use Rattle.submissions.specs.Begin.{roomIn};
-ghost use Rattle.submissions.specs.Submit.{storeFits, storeFitsIn, planRefused, planStarted, planTo, plannedBy, planRoomBy, submitPlanOf};
+ghost use Rattle.session.specs.Lent.{lentIn, lentOut};
+ghost use Rattle.session.specs.Sizes.{lentSizes};
+ghost use Rattle.submissions.specs.Plan.{planRefused, planStarted, plannedOf, planRoomOf, submitPlanOf};
 
 fn plan_refused(session: Session, refusal: Refusal) -> PlanSubmitted
     ensures { λ r. ⌜ r ≡ planRefused session refusal ⌝ }
@@ -48,38 +51,40 @@ fn plan_started(started: Started, p: ValidatedControlPlan) -> PlanSubmitted
     }
 }
 
-// 18 to 25 with 6 and 7, then 26 to 35 and 39.
+// 18 to 25 with 6 and 7, then 26 to 35 and 39; the place is of a free row.
 fn plan_prepared(
     session: Session,
     bus: &mut [u64],
     rows: &mut [u64],
     area: &mut [u8],
-    i: usize,
-    at: usize,
+    place: Place,
     q: ControlPlan,
     bytes: &[u8],
     first: PortReading,
 ) -> PlanSubmitted
-    requires { ⌜ (length (now bus) ≡ busWords) × (i < length (readRows (now rows))) × (at ≡ i * session .«row_bytes») × (at + session .«row_bytes» ≤ length (now area)) ⌝ }
-    ensures { λ r. ⌜ planTo r (busOut bus) (storeOut rows) (now (area .exit))
-        ≡ plannedBy (planned q (length (now (bytes .entry))) (session .«row_bytes»)) session i (now (bytes .entry)) first (busIn bus) (storeIn rows) (now (area .entry)) ⌝ }
+    requires { ⌜ (length (now bus) ≡ busWords) × (place .row < length (readRows (now rows)))
+        × (place .start + session .size .«row_bytes» ≤ length (now area)) ⌝ }
+    ensures { λ r. ⌜ after r (lentOut bus rows area) ≡ plannedOf place q (now (bytes .entry)) first session (lentIn bus rows area) ⌝ }
 {
-    let answer = plan::validate_plan(q, bytes.len() as u64, session.row_bytes);
+    let size = session.size;
+    let answer = plan::validate_plan(q, bytes.len() as u64, size.row_bytes);
     match answer {
         Planned::Refused(refusal) => plan_refused(session, refusal),
         Planned::Ready(p) => {
             let metadata = p.metadata;
+            let readings = Readings {
+                first,
+                second: first,
+            };
             let started = begin::begin_target(
                 session,
                 bus,
                 rows,
                 area,
-                i,
-                at,
+                place,
                 metadata,
                 bytes,
-                first,
-                first,
+                readings,
             );
             plan_started(started, p)
         }
@@ -96,16 +101,19 @@ fn plan_room(
     bytes: &[u8],
     first: PortReading,
 ) -> PlanSubmitted
-    requires { ⌜ storeFits session (length (now rows)) (length (now area)) (length (now bus)) ≡ true ⌝ }
-    ensures { λ r. ⌜ planTo r (busOut bus) (storeOut rows) (now (area .exit))
-        ≡ planRoomBy (roomIn (rowsIn rows)) session q (now (bytes .entry)) first (busIn bus) (storeIn rows) (now (area .entry)) ⌝ }
+    requires { ⌜ lentSizes (session .size) (length (now rows)) (length (now area)) (length (now bus)) ≡ true ⌝ }
+    ensures { λ r. ⌜ after r (lentOut bus rows area) ≡ planRoomOf q (now (bytes .entry)) first session (lentIn bus rows area) ⌝ }
 {
     let found = begin::find_room(rows);
-    let Found::At(i) = found else {
+    let Found::At(row) = found else {
         return plan_refused(session, models::refuse(5));
     };
-    let at = i * session.row_bytes as usize;
-    plan_prepared(session, bus, rows, area, i, at, q, bytes, first)
+    let size = session.size;
+    let place = Place {
+        row,
+        start: row * size.row_bytes as usize,
+    };
+    plan_prepared(session, bus, rows, area, place, q, bytes, first)
 }
 
 // A control plan: 1, 3, 5, 18 to 25 with 6 and 7, 26 to 35, 39.
@@ -118,10 +126,9 @@ pub fn submit_control_plan(
     bytes: &[u8],
     first: PortReading,
 ) -> PlanSubmitted
-    ensures { λ r. ⌜ planTo r (busOut bus) (storeOut rows) (now (area .exit))
-        ≡ submitPlanOf session (storeFitsIn session rows area bus) q (now (bytes .entry)) first (busIn bus) (storeIn rows) (now (area .entry)) ⌝ }
+    ensures { λ r. ⌜ after r (lentOut bus rows area) ≡ submitPlanOf q (now (bytes .entry)) first session (lentIn bus rows area) ⌝ }
 {
-    let verdict = begin::ready(session, rows.len(), area.len(), bus.len());
+    let verdict = start::lent_ready(session, rows.len(), area.len(), bus.len());
     match verdict {
         Verdict::Refused(refusal) => plan_refused(session, refusal),
         Verdict::Pass => plan_room(session, bus, rows, area, q, bytes, first),

@@ -9,23 +9,24 @@ use chain::Found;
 use checks::packets;
 use checks::prepare;
 use checks::prepare::Prepared;
-use models::PortReading;
 use models::Refusal;
 use models::RequestMetadata;
 use models::RequestSpec;
 use models::Verdict;
 use session::Session;
+use session::sizes::Place;
+use session::start;
+use targets::Readings;
 ghost use mathlib.Core.Path.{_≡_};
 ghost use mathlib.Core.Bool.{true};
-ghost use Prim.Native.Nat.{_*_, _+_, _<_, _≤_};
+ghost use Prim.Native.Nat.{_+_, _<_, _≤_};
 ghost use lib.ListN.{length};
+ghost use Rattle.chain.specs.After.{after};
 ghost use Rattle.rows.specs.Table.{readRows};
 ghost use Rattle.bus.specs.Layout.{busWords};
-ghost use Rattle.checks.specs.Packets.{packetsChecked};
-ghost use Rattle.checks.specs.Prepare.{prepared};
-ghost use Rattle.session.specs.Lent.{rowsIn, storeIn, storeOut, busIn, busOut};
-ghost use Rattle.submissions.specs.Begin.{roomIn};
-ghost use Rattle.submissions.specs.Submit.{storeFits, storeFitsIn, submitRefused, submittedBy, submitTo, preparedBy, roomBy, packetsBy, submitOf};
+ghost use Rattle.session.specs.Lent.{lentIn, lentOut};
+ghost use Rattle.session.specs.Sizes.{lentSizes};
+ghost use Rattle.submissions.specs.Submit.{request, submitRefused, submittedBy, preparedOf, roomOf, packetsOf, submitOf};
 
 fn submit_refused(session: Session, refusal: Refusal) -> Submitted
     ensures { λ r. ⌜ r ≡ submitRefused session refusal ⌝ }
@@ -55,25 +56,25 @@ fn submitted(started: Started, metadata: RequestMetadata, given: bool) -> Submit
     }
 }
 
-// 6 to 17, then 26 to 39; row i is free, and its bytes start at `at`.
+// 6 to 17, then 26 to 39; the place is of a free row.
 fn submit_prepared(
     session: Session,
     bus: &mut [u64],
     rows: &mut [u64],
     area: &mut [u8],
-    i: usize,
-    at: usize,
+    place: Place,
     q: RequestSpec,
     bytes: &[u8],
     given: bool,
-    first: PortReading,
-    second: PortReading,
+    readings: Readings,
 ) -> Submitted
-    requires { ⌜ (length (now bus) ≡ busWords) × (i < length (readRows (now rows))) × (at ≡ i * session .«row_bytes») × (at + session .«row_bytes» ≤ length (now area)) ⌝ }
-    ensures { λ r. ⌜ submitTo r (busOut bus) (storeOut rows) (now (area .exit))
-        ≡ preparedBy (prepared q (length (now (bytes .entry))) (session .«row_bytes»)) session i (now (bytes .entry)) given first second (busIn bus) (storeIn rows) (now (area .entry)) ⌝ }
+    requires { ⌜ (length (now bus) ≡ busWords) × (place .row < length (readRows (now rows)))
+        × (place .start + session .size .«row_bytes» ≤ length (now area)) ⌝ }
+    ensures { λ r. ⌜ after r (lentOut bus rows area)
+        ≡ preparedOf place (request q (now (bytes .entry)) given readings) session (lentIn bus rows area) ⌝ }
 {
-    let answer = prepare::prepare(q, bytes.len() as u64, session.row_bytes);
+    let size = session.size;
+    let answer = prepare::prepare(q, bytes.len() as u64, size.row_bytes);
     match answer {
         Prepared::Refused(refusal) => submit_refused(session, refusal),
         Prepared::Ready(metadata) => {
@@ -82,12 +83,10 @@ fn submit_prepared(
                 bus,
                 rows,
                 area,
-                i,
-                at,
+                place,
                 metadata,
                 bytes,
-                first,
-                second,
+                readings,
             );
             submitted(started, metadata, given)
         }
@@ -103,31 +102,21 @@ fn submit_room(
     q: RequestSpec,
     bytes: &[u8],
     given: bool,
-    first: PortReading,
-    second: PortReading,
+    readings: Readings,
 ) -> Submitted
-    requires { ⌜ storeFits session (length (now rows)) (length (now area)) (length (now bus)) ≡ true ⌝ }
-    ensures { λ r. ⌜ submitTo r (busOut bus) (storeOut rows) (now (area .exit))
-        ≡ roomBy (roomIn (rowsIn rows)) session q (now (bytes .entry)) given first second (busIn bus) (storeIn rows) (now (area .entry)) ⌝ }
+    requires { ⌜ lentSizes (session .size) (length (now rows)) (length (now area)) (length (now bus)) ≡ true ⌝ }
+    ensures { λ r. ⌜ after r (lentOut bus rows area) ≡ roomOf (request q (now (bytes .entry)) given readings) session (lentIn bus rows area) ⌝ }
 {
     let found = begin::find_room(rows);
-    let Found::At(i) = found else {
+    let Found::At(row) = found else {
         return submit_refused(session, models::refuse(5));
     };
-    let at = i * session.row_bytes as usize;
-    submit_prepared(
-        session,
-        bus,
-        rows,
-        area,
-        i,
-        at,
-        q,
-        bytes,
-        given,
-        first,
-        second,
-    )
+    let size = session.size;
+    let place = Place {
+        row,
+        start: row * size.row_bytes as usize,
+    };
+    submit_prepared(session, bus, rows, area, place, q, bytes, given, readings)
 }
 
 // 4, then the rest.
@@ -140,18 +129,17 @@ fn submit_checked(
     bytes: &[u8],
     given: bool,
     packets: &[u64],
-    first: PortReading,
-    second: PortReading,
+    readings: Readings,
 ) -> Submitted
-    requires { ⌜ storeFits session (length (now rows)) (length (now area)) (length (now bus)) ≡ true ⌝ }
-    ensures { λ r. ⌜ submitTo r (busOut bus) (storeOut rows) (now (area .exit))
-        ≡ packetsBy (packetsChecked given (now (packets .entry)) (q .«transfer_type») (q .length)) session q (now (bytes .entry)) given first second (busIn bus) (storeIn rows) (now (area .entry)) ⌝ }
+    requires { ⌜ lentSizes (session .size) (length (now rows)) (length (now area)) (length (now bus)) ≡ true ⌝ }
+    ensures { λ r. ⌜ after r (lentOut bus rows area)
+        ≡ packetsOf (now (packets .entry)) (request q (now (bytes .entry)) given readings) session (lentIn bus rows area) ⌝ }
 {
     let transfer_type = q.transfer_type;
     let verdict = packets::check_packets(given, packets, transfer_type, q.length);
     match verdict {
         Verdict::Refused(refusal) => submit_refused(session, refusal),
-        Verdict::Pass => submit_room(session, bus, rows, area, q, bytes, given, first, second),
+        Verdict::Pass => submit_room(session, bus, rows, area, q, bytes, given, readings),
     }
 }
 
@@ -165,13 +153,12 @@ pub fn submit_request_packets(
     bytes: &[u8],
     given: bool,
     packets: &[u64],
-    first: PortReading,
-    second: PortReading,
+    readings: Readings,
 ) -> Submitted
-    ensures { λ r. ⌜ submitTo r (busOut bus) (storeOut rows) (now (area .exit))
-        ≡ submitOf session (storeFitsIn session rows area bus) q (now (bytes .entry)) given (now (packets .entry)) first second (busIn bus) (storeIn rows) (now (area .entry)) ⌝ }
+    ensures { λ r. ⌜ after r (lentOut bus rows area)
+        ≡ submitOf (now (packets .entry)) (request q (now (bytes .entry)) given readings) session (lentIn bus rows area) ⌝ }
 {
-    let verdict = begin::ready(session, rows.len(), area.len(), bus.len());
+    let verdict = start::lent_ready(session, rows.len(), area.len(), bus.len());
     match verdict {
         Verdict::Refused(refusal) => submit_refused(session, refusal),
         Verdict::Pass => submit_checked(
@@ -183,8 +170,7 @@ pub fn submit_request_packets(
             bytes,
             given,
             packets,
-            first,
-            second,
+            readings,
         ),
     }
 }

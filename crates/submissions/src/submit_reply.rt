@@ -13,9 +13,9 @@ use session::InFlight;
 use session::Session;
 use session::sizes;
 ghost use mathlib.Core.Path.{_≡_};
-ghost use Rattle.reports.specs.Answers.{reportedTo};
-ghost use Rattle.session.specs.Lent.{storeIn, storeOut, rowsFitIn};
-ghost use Rattle.submissions.specs.Reply.{acceptedBy, discardedBy, submitReplyBy, submitReplyOf};
+ghost use Rattle.chain.specs.After.{after};
+ghost use Rattle.session.specs.Lent.{storeIn, storeOut};
+ghost use Rattle.submissions.specs.SubmitReply.{acceptedBy, discardedBy, submitReplyBy, submitReplyOf};
 
 // The backend took the request: the operation ends with the row's report.
 fn accepted(applied: Applied, session: Session) -> Reported
@@ -43,7 +43,7 @@ fn discarded(applied: Applied, error: OperationError, session: Session) -> Repor
 }
 
 fn reply_to(session: Session, rows: &mut [u64], id: RequestId, reply: SubmitReply) -> Reported
-    ensures { λ r. ⌜ reportedTo r (storeOut rows) ≡ submitReplyBy reply id session (storeIn rows) ⌝ }
+    ensures { λ r. ⌜ after r (storeOut rows) ≡ submitReplyBy reply id session (storeIn rows) ⌝ }
 {
     match reply {
         SubmitReply::Token(token) => {
@@ -59,19 +59,19 @@ fn reply_to(session: Session, rows: &mut [u64], id: RequestId, reply: SubmitRepl
 
 // 2: no submission is in flight; 3; 2: no row has its id. Else the operation ends.
 pub fn submit_reply(session: Session, rows: &mut [u64], reply: SubmitReply) -> Reported
-    ensures { λ r. ⌜ reportedTo r (storeOut rows)
-        ≡ submitReplyOf session (rowsFitIn session rows) reply (storeIn rows) ⌝ }
+    ensures { λ r. ⌜ after r (storeOut rows) ≡ submitReplyOf reply session (storeIn rows) ⌝ }
 {
     let flight = session.in_flight;
+    let size = session.size;
     match flight {
         InFlight::Nothing => refused_by(session, 2),
         InFlight::Submission(id) => {
-            if !sizes::rows_fit(session.row_count, session.row_bytes, rows.len()) {
+            if !sizes::rows_fit(size, rows.len()) {
                 return refused_by(session, 3);
             }
             reply_to(session, rows, id, reply)
         }
         InFlight::Poll(_) => refused_by(session, 2),
-        InFlight::Recovery(_, _, _, _) => refused_by(session, 2),
+        InFlight::Recovery(_) => refused_by(session, 2),
     }
 }

@@ -1,5 +1,6 @@
 -- The backend's reply to a submission (document 01, "Added by design" and "Request row"). Assumes nothing.
-use mathlib.Core.Bool.{Bool, not}
+use mathlib.Core.Bool.{not}
+use Rattle.chain.specs.After.{After, after}
 use Rattle.chain.specs.Chain.{_if_else_}
 use Rattle.models.specs.Refusals.{refusalOf, fromBackend}
 use Rattle.models.specs.declared.OperationError.{OperationError}
@@ -9,11 +10,12 @@ use Rattle.ledger.specs.Apply.{applyOf}
 use Rattle.ledger.specs.declared.Applied.{Applied}
 use Rattle.ledger.specs.declared.Applied.the-variants as applied
 use Rattle.rules.specs.declared.Change.the-variants as change
+use Rattle.session.specs.Lent.{storeFits}
 use Rattle.session.specs.Session.{withFlight}
 use Rattle.session.specs.declared.InFlight.{InFlight}
 use Rattle.session.specs.declared.InFlight.the-variants as flight
 use Rattle.session.specs.declared.Session.{Session}
-use Rattle.reports.specs.Answers.{effect, ReportedTo, reportedTo, reportRefused}
+use Rattle.reports.specs.Answers.{effect, reportRefused}
 use Rattle.submissions.specs.declared.SubmitReply.{SubmitReply}
 use Rattle.submissions.specs.declared.SubmitReply.the-variants as reply
 use Rattle.reports.specs.declared.Reported.{Reported}
@@ -29,20 +31,20 @@ unfoldable pub discardedBy : Applied → OperationError → Session → Reported
 discardedBy (applied.Refused r) e s = reportRefused s (refusalOf 2)
 discardedBy (applied.Done row) e s = reportRefused (withFlight (effect e s) flight.Nothing) (fromBackend 45 e)
 
-unfoldable pub submitReplyBy : SubmitReply → RequestId → Session → Store → ReportedTo
+unfoldable pub submitReplyBy : SubmitReply → RequestId → Session → Store → After Reported Store
 submitReplyBy (reply.Token token) id s store =
-    reportedTo (acceptedBy (applyOf id (change.Accept token) store .answer) s) (applyOf id (change.Accept token) store .store)
+    let o = applyOf id (change.Accept token) store in after (acceptedBy (o .result) s) (o .lent)
 submitReplyBy (reply.Error e) id s store =
-    reportedTo (discardedBy (applyOf id change.Discard store .answer) e s) (applyOf id change.Discard store .store)
+    let o = applyOf id change.Discard store in after (discardedBy (o .result) e s) (o .lent)
 
 -- 2 by its kind, then 3, then 2 where no row has the id
-unfoldable pub submitReplyIn : InFlight → Bool → SubmitReply → Session → Store → ReportedTo
-submitReplyIn flight.Nothing fits x s store = reportedTo (reportRefused s (refusalOf 2)) store
-submitReplyIn (flight.Poll id) fits x s store = reportedTo (reportRefused s (refusalOf 2)) store
-submitReplyIn (flight.Recovery target device endpoint kind) fits x s store = reportedTo (reportRefused s (refusalOf 2)) store
-submitReplyIn (flight.Submission id) fits x s store =
-    reportedTo (reportRefused s (refusalOf 3)) store if not fits else
+unfoldable pub submitReplyIn : InFlight → SubmitReply → Session → Store → After Reported Store
+submitReplyIn flight.Nothing x s store = after (reportRefused s (refusalOf 2)) store
+submitReplyIn (flight.Poll id) x s store = after (reportRefused s (refusalOf 2)) store
+submitReplyIn (flight.Recovery y) x s store = after (reportRefused s (refusalOf 2)) store
+submitReplyIn (flight.Submission id) x s store =
+    after (reportRefused s (refusalOf 3)) store if not (storeFits (s .size) store) else
     submitReplyBy x id s store
 
-unfoldable pub submitReplyOf : Session → Bool → SubmitReply → Store → ReportedTo
-submitReplyOf s fits x store = submitReplyIn (s .«in_flight») fits x s store
+unfoldable pub submitReplyOf : SubmitReply → Session → Store → After Reported Store
+submitReplyOf x s store = submitReplyIn (s .«in_flight») x s store
