@@ -1,8 +1,10 @@
 -- The entries of a reply, applied one after the other (document 01, "Abort report"; 47, 48 and 41 of its table). Assumes nothing.
-use Prim.Native.Nat.{ℕ, _*_}
+use Prim.Native.Nat.{ℕ}
 use mathlib.Core.List.{List, [], _∷_}
 use lib.ListN.{length, getD, take, drop}
-use Rattle.words.specs.Records.{spliceCut}
+use denote.Ref.{now}
+use Rattle.chain.specs.After.{After, after}
+use Rattle.words.specs.Records.{tab, spliceCut}
 use Rattle.words.specs.declared.OptionU32.{OptionU32}
 use Rattle.models.specs.Refusals.{refusalOf, invalidCompletion}
 use Rattle.models.specs.declared.BackendCompletion.{BackendCompletion}
@@ -17,73 +19,90 @@ use Rattle.rules.specs.declared.Step.the-variants as step
 use Rattle.checks.specs.Completion.{testCompletion}
 use Rattle.checks.specs.declared.completion.CompletionTest.{CompletionTest}
 use Rattle.checks.specs.declared.completion.CompletionTest.the-variants as test
-use Rattle.scope.specs.Returned.{Returned}
+use Rattle.session.specs.Lent.{Memory, memory, Slice}
+use Rattle.session.specs.Sizes.{placeOf}
+use Rattle.session.specs.declared.Size.{Size}
+use Rattle.scope.specs.Returned.{broughtAt}
+use Rattle.scope.specs.declared.returned.Brought.{Brought}
 
--- whether the entries went through, and the store and the area after those that did
-pub record WalkTo : Type 0 where
-  pub verdict : Verdict
-  pub store : Store
-  pub area : List ℕ
+-- what a reply brings of rows: the places of those that are completed, the words of their completions, the places of those that are
+-- aborted, and the data
+pub record RowLists : Type 0 where
+  pub completed : List ℕ
+  pub completions : List ℕ
+  pub aborted : List ℕ
+  pub bytes : List ℕ
 
-abbrev pub walkTo : Verdict → Store → List ℕ → WalkTo
-walkTo v store area = record { verdict = v; store = store; area = area }
+abbrev pub rowLists : List ℕ → List ℕ → List ℕ → List ℕ → RowLists
+rowLists completed completions aborted bytes = record { completed = completed; completions = completions; aborted = aborted; bytes = bytes }
 
--- a valid completion's data overwrites the first of the row's bytes only, cut at the row's end
-unfoldable pub storedAt : ℕ → ℕ → List ℕ → List ℕ → List ℕ
-storedAt at room bytes area = spliceCut at room bytes area
+abbrev pub rowListsIn : Slice → Slice → Slice → Slice → RowLists
+rowListsIn completed completions aborted bytes =
+    rowLists (now (completed .entry)) (now (completions .entry)) (now (aborted .entry)) (now (bytes .entry))
 
--- 41: a Failed row; its data is not stored
-unfoldable pub rowCompletedBy : Step → ℕ → ℕ → ℕ → List ℕ → Store → List ℕ → WalkTo
-rowCompletedBy (step.Refused r) i at room bytes store area = walkTo (verdict.Refused r) store area
-rowCompletedBy (step.To next report) i at room bytes store area = walkTo verdict.Pass (putIn store i next) (storedAt at room bytes area)
+-- ---- a completion of row i
+
+-- 41: a Failed row. Else its data overwrites the first of the row's bytes only, cut at the row's end
+unfoldable pub rowCompletedBy : Step → Size → ℕ → List ℕ → Memory → After Verdict Memory
+rowCompletedBy (step.Refused r) z i bytes m = after (verdict.Refused r) m
+rowCompletedBy (step.To next report) z i bytes m =
+    after verdict.Pass (memory (putIn (m .store) i next) (spliceCut (placeOf z i .start) (z .«row_bytes») bytes (m .area)))
 
 -- 47, 48 with the completion's code, 41
-unfoldable pub testedBy : CompletionTest → OptionU32 → ℕ → ℕ → ℕ → List ℕ → Store → List ℕ → WalkTo
-testedBy test.MissingLength code i at room bytes store area = walkTo (verdict.Refused (refusalOf 47)) store area
-testedBy test.Invalid code i at room bytes store area = walkTo (verdict.Refused (invalidCompletion code)) store area
-testedBy (test.Valid actual n) code i at room bytes store area =
-    rowCompletedBy (changeRow (getD (store .rows) i emptyRow) (change.Complete actual n)) i at room bytes store area
+unfoldable pub testedBy : CompletionTest → OptionU32 → Size → ℕ → List ℕ → Memory → After Verdict Memory
+testedBy test.MissingLength code z i bytes m = after (verdict.Refused (refusalOf 47)) m
+testedBy test.Invalid code z i bytes m = after (verdict.Refused (invalidCompletion code)) m
+testedBy (test.Valid actual n) code z i bytes m =
+    rowCompletedBy (changeRow (getD (m .store .rows) i emptyRow) (change.Complete actual n)) z i bytes m
 
--- a completion of row i, whose bytes start at `at`
-unfoldable pub completeOne : ℕ → ℕ → ℕ → BackendCompletion → List ℕ → Store → List ℕ → WalkTo
-completeOne i at room c bytes store area =
-    testedBy (testCompletion c (length bytes) (getD (store .rows) i emptyRow .metadata .«requested_length»)) (c .«completion_code») i at room bytes store area
+unfoldable pub completeOne : Size → ℕ → BackendCompletion → List ℕ → Memory → After Verdict Memory
+completeOne z i c bytes m =
+    testedBy (testCompletion c (length bytes) (getD (m .store .rows) i emptyRow .metadata .«requested_length»)) (c .«completion_code») z i bytes m
 
--- what follows an entry: nothing, where it is refused
-abbrev pub onwardBy : Verdict → WalkTo → (Store → List ℕ → WalkTo) → WalkTo
-onwardBy (verdict.Refused r) w next = w
-onwardBy verdict.Pass w next = next (w .store) (w .area)
+-- ---- an abort of row i; one that is not held, which no call leads to, is the ledger's 43
 
--- of a walk whose tokens are the places of their rows
-abbrev pub itself : ℕ → ℕ
-itself i = i
+unfoldable pub abortedBy : Step → ℕ → Store → After Verdict Store
+abortedBy (step.Refused r) i store = after (verdict.Refused r) store
+abortedBy (step.To next report) i store = after verdict.Pass (putIn store i next)
 
--- completions in order, each with the next bytes of the data area; `place` says which row a token means
-abbrev pub completeAll : (ℕ → ℕ) → ℕ → List Returned → List ℕ → Store → List ℕ → WalkTo
-completeAll place room [] bytes store area = walkTo verdict.Pass store area
-completeAll place room (e ∷ es) bytes store area =
-    let one = completeOne (place (e .token)) (place (e .token) * room) room (e .brought .completion) (take (e .brought .given) bytes) store area in
-    onwardBy (one .verdict) one (λ (s : Store) (a : List ℕ). completeAll place room es (drop (e .brought .given) bytes) s a)
-
--- then the aborts; a row that is not held, which no call leads to, is the ledger's 43
-pub record AbortTo : Type 0 where
-  pub verdict : Verdict
-  pub store : Store
-
-abbrev pub abortTo : Verdict → Store → AbortTo
-abortTo v store = record { verdict = v; store = store }
-
-unfoldable pub abortedBy : Step → ℕ → Store → AbortTo
-abortedBy (step.Refused r) i store = abortTo (verdict.Refused r) store
-abortedBy (step.To next report) i store = abortTo verdict.Pass (putIn store i next)
-
-unfoldable pub abortOne : ℕ → Store → AbortTo
+unfoldable pub abortOne : ℕ → Store → After Verdict Store
 abortOne i store = abortedBy (changeRow (getD (store .rows) i emptyRow) change.ConfirmAbort) i store
 
-abbrev pub furtherBy : Verdict → AbortTo → (Store → AbortTo) → AbortTo
-furtherBy (verdict.Refused r) w next = w
-furtherBy verdict.Pass w next = next (w .store)
+-- ---- all of them
 
-abbrev pub abortAll : (ℕ → ℕ) → List ℕ → Store → AbortTo
-abortAll place [] store = abortTo verdict.Pass store
-abortAll place (t ∷ ts) store = furtherBy (abortOne (place t) store .verdict) (abortOne (place t) store) (λ (s : Store). abortAll place ts s)
+-- what follows an entry: nothing, where it is refused
+abbrev pub onwardBy : {L : Type 0} → Verdict → After Verdict L → (L → After Verdict L) → After Verdict L
+onwardBy (verdict.Refused r) o next = o
+onwardBy verdict.Pass o next = next (o .lent)
+
+-- an entry: the place of its row, and what came for it
+pub record Entry : Type 0 where
+  pub row : ℕ
+  pub brought : Brought
+
+abbrev pub entryAt : List ℕ → List ℕ → ℕ → Entry
+entryAt places words k = record { row = getD places k 0; brought = broughtAt words k }
+
+unfoldable pub readEntries : List ℕ → List ℕ → List Entry
+readEntries places words = tab (entryAt places words) (length places)
+
+-- completions in order, each with the next bytes of the data area
+abbrev pub completeAll : Size → List Entry → List ℕ → Memory → After Verdict Memory
+completeAll z [] bytes m = after verdict.Pass m
+completeAll z (e ∷ es) bytes m =
+    let one = completeOne z (e .row) (e .brought .completion) (take (e .brought .given) bytes) m in
+    onwardBy (one .result) one (λ (left : Memory). completeAll z es (drop (e .brought .given) bytes) left)
+
+abbrev pub abortAll : List ℕ → Store → After Verdict Store
+abortAll [] store = after verdict.Pass store
+abortAll (i ∷ is) store = onwardBy (abortOne i store .result) (abortOne i store) (λ (left : Store). abortAll is left)
+
+-- the aborts leave the area as it is
+abbrev pub abortsIn : List ℕ → Memory → After Verdict Memory
+abortsIn places m = after (abortAll places (m .store) .result) (memory (abortAll places (m .store) .lent) (m .area))
+
+-- completions in order, then aborts
+unfoldable pub applyAll : Size → RowLists → Memory → After Verdict Memory
+applyAll z l m =
+    let done = completeAll z (readEntries (l .completed) (l .completions)) (l .bytes) m in
+    onwardBy (done .result) done (abortsIn (l .aborted))

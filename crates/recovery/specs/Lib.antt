@@ -1,5 +1,5 @@
-pub mod Entries
 pub mod Places
+pub mod Entries
 pub mod Reports
-pub mod Begin
-pub mod Reply
+pub mod Recover
+pub mod RecoveryReply

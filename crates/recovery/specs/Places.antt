@@ -1,21 +1,19 @@
--- Where the affected rows and their bytes lie. Assumes nothing.
-use Prim.Native.Nat.{ℕ, _*_, _<_, _≤_}
+-- Where the rows of entries lie, and their bytes. Assumes nothing.
+use Prim.Native.Nat.{ℕ, _<_, _≤_}
+use mathlib.Core.Bool.{true}
 use mathlib.Core.List.{List}
 use mathlib.Core.Path.{_≡_}
 use lib.ListN.{length, getD}
 use Rattle.rows.specs.Table.{readRows}
+use Rattle.session.specs.Sizes.{memorySizes}
+use Rattle.session.specs.declared.Size.{Size}
 
 -- the store has rows, and each place is one of them
-pub record Below (w : List ℕ) (affected : List ℕ) : Type 0 where
+pub record Below (w : List ℕ) (places : List ℕ) : Type 0 where
   pub some : 1 ≤ length (readRows w)
-  pub inside : (k : ℕ) → k < length affected → getD affected k 0 < length (readRows w)
+  pub inside : (k : ℕ) → k < length places → getD places k 0 < length (readRows w)
 
--- the store has rows, and the area `room` bytes for each
-pub record Sized (w area : List ℕ) (room : ℕ) : Type 0 where
-  pub some : 1 ≤ length (readRows w)
-  pub bytes : length area ≡ length (readRows w) * room
-
--- and the area has `room` bytes for each row
-pub record Places (w area : List ℕ) (room : ℕ) (affected : List ℕ) : Type 0 where
-  pub below : Below w affected
-  pub bytes : length area ≡ length (readRows w) * room
+-- and rows and area have their sizes
+pub record Places (z : Size) (w area places : List ℕ) : Type 0 where
+  pub fit : memorySizes z (length w) (length area) ≡ true
+  pub below : Below w places

@@ -11,12 +11,12 @@ use Rattle.recovery.specs.declared.Ids.{Ids}
 abbrev pub noId : RequestId
 noId = record { session = 0; generation = 0; sequence = 0 }
 
--- the ids of the rows that tokens mean
-abbrev pub idsOf : List Row → (ℕ → ℕ) → List ℕ → List RequestId
-idsOf rows place tokens = map (λ (t : ℕ). idIn rows (place t)) tokens
+-- the ids of the rows at these places
+abbrev pub idsOf : List Row → List ℕ → List RequestId
+idsOf rows places = map (idIn rows) places
 
-abbrev pub idLists : List Row → (ℕ → ℕ) → List ℕ → List ℕ → Ids
-idLists rows place tokens aborted = record { completed = listed 128 noId (idsOf rows place tokens); aborted = listed 128 noId (idsOf rows place aborted) }
+abbrev pub idLists : List Row → List ℕ → List ℕ → Ids
+idLists rows completed aborted = record { completed = listed 128 noId (idsOf rows completed); aborted = listed 128 noId (idsOf rows aborted) }
 
 abbrev pub noIds : Ids
 noIds = record { completed = replicate 128 noId; aborted = replicate 128 noId }

@@ -1,4 +1,4 @@
-// The entries of a reply, applied one after the other. A request stands here for the place of its row in the store.
+// The entries of a reply, applied one after the other to the rows at their places.
 use checks::completion;
 use checks::completion::CompletionTest;
 use models::BackendCompletion;
@@ -8,18 +8,20 @@ use rules::Step;
 use scope::returned;
 use scope::returned::Brought;
 use scope::tokens;
+use session::Size;
 use words::slices;
 ghost use mathlib.Core.Path.{_≡_};
 ghost use mathlib.Core.Bool.{true};
 ghost use Prim.Native.Nat.{_+_, _*_, _<_, _≤_};
 ghost use mathlib.Core.List.{map};
 ghost use lib.ListN.{length, take};
+ghost use Rattle.chain.specs.After.{after};
 ghost use Rattle.chain.specs.Lists.{listed};
 ghost use Rattle.rows.specs.Table.{readRows};
 ghost use Rattle.scope.specs.Scope.{meant};
-ghost use Rattle.scope.specs.Returned.{readReturned, listsAgree};
-ghost use Rattle.session.specs.Lent.{storeIn, storeOut};
-ghost use Rattle.recovery.specs.Entries.{walkTo, rowCompletedBy, completeOne, itself, completeAll, abortTo, abortOne, abortAll};
+ghost use Rattle.scope.specs.Returned.{listsAgree};
+ghost use Rattle.session.specs.Lent.{storeIn, storeOut, memoryIn, memoryOut};
+ghost use Rattle.recovery.specs.Entries.{rowCompletedBy, completeOne, abortOne, readEntries, completeAll, abortAll};
 ghost use Rattle.recovery.specs.Places.{Below, Places};
 
 // The one place where a completion changes rows and area. 41: the row is Failed.
@@ -27,17 +29,18 @@ fn complete_row(
     step: Step,
     rows: &mut [u64],
     area: &mut [u8],
-    room: usize,
+    size: Size,
     i: usize,
     bytes: &[u8],
 ) -> Verdict
-    requires { ⌜ (i < length (readRows (now rows))) × (i * room + room ≤ length (now area)) ⌝ }
-    ensures { λ r. ⌜ walkTo r (storeOut rows) (now (area .exit))
-        ≡ rowCompletedBy step i (i * room) room (now (bytes .entry)) (storeIn rows) (now (area .entry)) ⌝ }
+    requires { ⌜ (i < length (readRows (now rows))) × (i * size .«row_bytes» + size .«row_bytes» ≤ length (now area)) ⌝ }
+    ensures { λ r. ⌜ after r (memoryOut rows area)
+        ≡ rowCompletedBy step size i (now (bytes .entry)) (memoryIn rows area) ⌝ }
 {
     match step {
         Step::Refused(refusal) => Verdict::Refused(refusal),
         Step::To(next, _) => {
+            let room = size.row_bytes as usize;
             rows::write_row(rows, i, next);
             slices::copy_cut(area, i * room, room, bytes);
             Verdict::Pass
@@ -49,14 +52,14 @@ fn complete_row(
 fn complete_one(
     rows: &mut [u64],
     area: &mut [u8],
-    room: usize,
+    size: Size,
     i: usize,
     completion: BackendCompletion,
     bytes: &[u8],
 ) -> Verdict
-    requires { ⌜ (i < length (readRows (now rows))) × (i * room + room ≤ length (now area)) ⌝ }
-    ensures { λ r. ⌜ walkTo r (storeOut rows) (now (area .exit))
-        ≡ completeOne i (i * room) room completion (now (bytes .entry)) (storeIn rows) (now (area .entry)) ⌝ }
+    requires { ⌜ (i < length (readRows (now rows))) × (i * size .«row_bytes» + size .«row_bytes» ≤ length (now area)) ⌝ }
+    ensures { λ r. ⌜ after r (memoryOut rows area)
+        ≡ completeOne size i completion (now (bytes .entry)) (memoryIn rows area) ⌝ }
 {
     let row = rows::read_row(rows, i);
     let metadata = row.metadata;
@@ -71,7 +74,7 @@ fn complete_one(
         CompletionTest::Invalid => Verdict::Refused(models::refuse_completion(code)),
         CompletionTest::Valid(actual, n) => {
             let step = rules::change_row(row, Change::Complete(actual, n));
-            complete_row(step, rows, area, room, i, bytes)
+            complete_row(step, rows, area, size, i, bytes)
         }
     }
 }
@@ -105,32 +108,32 @@ pub(crate) fn places_of(affected: &[usize], own: &[u64], tokens: &[u64]) -> [usi
 fn complete_next(
     rows: &mut [u64],
     area: &mut [u8],
-    room: usize,
+    size: Size,
     i: usize,
     brought: Brought,
     left: &[u8],
 ) -> Verdict
-    requires { ⌜ (i < length (readRows (now rows))) × (i * room + room ≤ length (now area)) × (brought .given ≤ length (now left)) ⌝ }
-    ensures { λ r. ⌜ walkTo r (storeOut rows) (now (area .exit))
-        ≡ completeOne i (i * room) room (brought .completion) (take (brought .given) (now (left .entry))) (storeIn rows) (now (area .entry)) ⌝ }
+    requires { ⌜ (i < length (readRows (now rows))) × (i * size .«row_bytes» + size .«row_bytes» ≤ length (now area)) × (brought .given ≤ length (now left)) ⌝ }
+    ensures { λ r. ⌜ after r (memoryOut rows area)
+        ≡ completeOne size i (brought .completion) (take (brought .given) (now (left .entry))) (memoryIn rows area) ⌝ }
 {
     let completion = brought.completion;
     let end = brought.given as usize;
-    complete_one(rows, area, room, i, completion, &left[..end])
+    complete_one(rows, area, size, i, completion, &left[..end])
 }
 
 // The completions of the rows at the places, in order, each with the next bytes of the data area.
 pub(crate) fn complete_all(
     rows: &mut [u64],
     area: &mut [u8],
-    room: usize,
+    size: Size,
     places: &[usize],
     completions: &[u64],
     bytes: &[u8],
 ) -> Verdict
-    requires { ⌜ Places (now rows) (now area) room (now places) × (listsAgree (now places) (now completions) (length (now bytes)) ≡ true) ⌝ }
-    ensures { λ r. ⌜ walkTo r (storeOut rows) (now (area .exit))
-        ≡ completeAll itself room (readReturned (now (places .entry)) (now (completions .entry))) (now (bytes .entry)) (storeIn rows) (now (area .entry)) ⌝ }
+    requires { ⌜ Places size (now rows) (now area) (now places) × (listsAgree (length (now places)) (now completions) (length (now bytes)) ≡ true) ⌝ }
+    ensures { λ r. ⌜ after r (memoryOut rows area)
+        ≡ completeAll size (readEntries (now (places .entry)) (now (completions .entry))) (now (bytes .entry)) (memoryIn rows area) ⌝ }
 {
     let n = places.len();
     let mut at = 0;
@@ -138,7 +141,7 @@ pub(crate) fn complete_all(
     while k < n {
         let brought = returned::brought_at(completions, k);
         let end = at + brought.given as usize;
-        let verdict = complete_next(rows, area, room, places[k], brought, &bytes[at..]);
+        let verdict = complete_next(rows, area, size, places[k], brought, &bytes[at..]);
         let Verdict::Pass = verdict else {
             return verdict;
         };
@@ -150,7 +153,7 @@ pub(crate) fn complete_all(
 
 fn abort_one(rows: &mut [u64], i: usize) -> Verdict
     requires { ⌜ i < length (readRows (now rows)) ⌝ }
-    ensures { λ r. ⌜ abortTo r (storeOut rows) ≡ abortOne i (storeIn rows) ⌝ }
+    ensures { λ r. ⌜ after r (storeOut rows) ≡ abortOne i (storeIn rows) ⌝ }
 {
     let row = rows::read_row(rows, i);
     let step = rules::change_row(row, Change::ConfirmAbort);
@@ -166,7 +169,7 @@ fn abort_one(rows: &mut [u64], i: usize) -> Verdict
 // The aborts of the rows at the places, in order.
 pub(crate) fn abort_all(rows: &mut [u64], places: &[usize]) -> Verdict
     requires { ⌜ Below (now rows) (now places) ⌝ }
-    ensures { λ r. ⌜ abortTo r (storeOut rows) ≡ abortAll itself (now (places .entry)) (storeIn rows) ⌝ }
+    ensures { λ r. ⌜ after r (storeOut rows) ≡ abortAll (now (places .entry)) (storeIn rows) ⌝ }
 {
     let n = places.len();
     let mut j = 0;

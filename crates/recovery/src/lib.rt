@@ -4,20 +4,12 @@ use models::OperationError;
 use models::OptionError;
 use models::Refusal;
 use models::RequestId;
-use session::RecoveryKind;
+use session::Recovery;
 use session::Session;
 
-pub mod begin;
 mod entries;
-pub mod reply;
-
-// A recovery: the request that it is for, the device and the endpoint that it affects, and what the backend is to do.
-pub struct Recovery {
-    pub target: RequestId,
-    pub device: DeviceId,
-    pub endpoint: u8,
-    pub kind: RecoveryKind,
-}
+pub mod recover;
+pub mod recovery_reply;
 
 pub enum BeginAnswer {
     Refused(Refusal),

@@ -62,9 +62,9 @@ returnedAt tokens w k = record { token = getD tokens k 0; brought = broughtAt w 
 unfoldable pub readReturned : List ℕ → List ℕ → List Returned
 readReturned tokens w = tab (returnedAt tokens w) (length tokens)
 
-abbrev pub givenOf : Returned → ℕ
-givenOf r = r .brought .given
+abbrev pub givenOf : Brought → ℕ
+givenOf b = b .given
 
--- 49: a completion for each token, and their data lengths sum to the data area
-unfoldable pub listsAgree : List ℕ → List ℕ → ℕ → Bool
-listsAgree tokens w size = eqb (length w) (length tokens * completionWords) && eqb (sumBy givenOf (readReturned tokens w)) size
+-- 49: a completion for each of n tokens, and their data lengths sum to the data area
+unfoldable pub listsAgree : ℕ → List ℕ → ℕ → Bool
+listsAgree n w size = eqb (length w) (n * completionWords) && eqb (sumBy givenOf (tab (broughtAt w) n)) size

@@ -10,8 +10,7 @@ ghost use lib.ListN.{length};
 ghost use lib.Dec.{eqb};
 ghost use Rattle.chain.specs.Lists.{sumBy};
 ghost use Rattle.words.specs.Records.{tab};
-ghost use Rattle.scope.specs.Returned.{completionWords, readError, readOptionError, readCompletion, readBrought, broughtAt, listsAgree};
-ghost use Rattle.scope.specs.declared.returned.Brought.{Brought};
+ghost use Rattle.scope.specs.Returned.{completionWords, readError, readOptionError, readCompletion, readBrought, broughtAt, givenOf, listsAgree};
 
 // A completion, and how many bytes of the data area are its own.
 pub struct Brought {
@@ -77,7 +76,7 @@ pub fn brought_at(words: &[u64], k: usize) -> Brought
 // The data lengths of the first n completions sum to the size. A sum that passes it ends the walk, so it can't wrap.
 fn sums_to(words: &[u64], n: usize, size: u64) -> bool
     requires { ⌜ n * completionWords ≡ length (now words) ⌝ }
-    ensures { λ r. ⌜ r ≡ eqb (sumBy (λ (b : Brought). b .given) (tab (broughtAt (now (words .entry))) n)) size ⌝ }
+    ensures { λ r. ⌜ r ≡ eqb (sumBy givenOf (tab (broughtAt (now (words .entry))) n)) size ⌝ }
 {
     let mut sum: u64 = 0;
     let mut k = 0;
@@ -94,7 +93,7 @@ fn sums_to(words: &[u64], n: usize, size: u64) -> bool
 
 // 49: a completion for each token, and their data lengths sum to the data area.
 pub fn lists_agree(tokens: &[u64], words: &[u64], size: usize) -> bool
-    ensures { λ r. ⌜ r ≡ listsAgree (now (tokens .entry)) (now (words .entry)) size ⌝ }
+    ensures { λ r. ⌜ r ≡ listsAgree (length (now (tokens .entry))) (now (words .entry)) size ⌝ }
 {
     let n = tokens.len();
     let m = words.len();

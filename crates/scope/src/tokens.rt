@@ -4,7 +4,8 @@ ghost use Prim.Native.Nat.{_+_, _≤_};
 ghost use lib.Dec.{leb};
 ghost use mathlib.Core.List.{_++_};
 ghost use lib.ListN.{length};
-ghost use Rattle.scope.specs.Scope.{slotOf, isAmong, allIn, inScope, markedTo, markOf};
+ghost use Rattle.chain.specs.After.{after};
+ghost use Rattle.scope.specs.Scope.{slotOf, isAmong, allIn, inScope, markOf};
 
 // The place of the first that has the token; as many as there are where none has it.
 pub fn slot_of(own: &[u64], token: u64) -> usize
@@ -30,7 +31,7 @@ fn contains(list: &[u64], token: u64) -> bool
 // Marks the first of each token of the list; false at one that none has or that is marked.
 fn mark_all(own: &[u64], list: &[u64], marks: &mut [bool]) -> bool
     requires { ⌜ length (now own) ≤ length (now marks) ⌝ }
-    ensures { λ r. ⌜ markedTo r (now (marks .exit)) ≡ markOf (now (own .entry)) (now (list .entry)) (now (marks .entry)) ⌝ }
+    ensures { λ r. ⌜ after r (now (marks .exit)) ≡ markOf (now (own .entry)) (now (list .entry)) (now (marks .entry)) ⌝ }
 {
     let n = list.len();
     let mut k = 0;

@@ -12,8 +12,8 @@ use borrow.Author.Tests.{eq-eqb, ne-eqb, eqb-true}
 use Rattle.chain.specs.Lists.{sumBy}
 use Rattle.chain.proofs.Lists.{sum-suc, sum-take}
 use Rattle.words.specs.Records.{tab, part}
-use Rattle.words.proofs.Records.{part-getD, length-tab, getD-tab, sum-tab}
-use Rattle.scope.specs.Returned.{completionWords, readBrought, broughtAt, returnedAt, readReturned, givenOf, listsAgree}
+use Rattle.words.proofs.Records.{part-getD, length-tab, getD-tab}
+use Rattle.scope.specs.Returned.{completionWords, readBrought, broughtAt, givenOf, listsAgree}
 use Rattle.scope.specs.declared.returned.Brought.{Brought}
 
 -- what a tag r, read as v, says: x where it is k, y where not
@@ -41,35 +41,28 @@ module _ (w : List ℕ) where
 abbrev givens : List ℕ → ℕ → List Brought
 givens w n = tab (broughtAt w) n
 
-abbrev own : Brought → ℕ
-own b = b .given
-
 abbrev pub Summed : List ℕ → ℕ → ℕ → ℕ → ℕ → Type 0
-Summed w n size sum k = (k ≤ n) × (sum ≤ size) × (sum ≡ sumBy own (take k (givens w n)))
+Summed w n size sum k = (k ≤ n) × (sum ≤ size) × (sum ≡ sumBy givenOf (take k (givens w n)))
 
-module _ (w : List ℕ) (n size sum k : ℕ) (e : sum ≡ sumBy own (take k (givens w n))) where
+module _ (w : List ℕ) (n size sum k : ℕ) (e : sum ≡ sumBy givenOf (take k (givens w n))) where
   module _ (lt : k < n) where
-    one-more : sumBy own (take (suc k) (givens w n)) ≡ sum + getD w (k * completionWords + 10) 0
+    one-more : sumBy givenOf (take (suc k) (givens w n)) ≡ sum + getD w (k * completionWords + 10) 0
     one-more =
-        sum-suc own (givens w n) k (broughtAt w k) (omega (arith, length-tab (broughtAt w) n))
+        sum-suc givenOf (givens w n) k (broughtAt w k) (omega (arith, length-tab (broughtAt w) n))
         ∙ rw (← e, getD-tab (broughtAt w) n k (broughtAt w k) lt, given-is w k)
 
-    pub sum-on : sum + getD w (k * completionWords + 10) 0 ≡ sumBy own (take (k + 1) (givens w n))
+    pub sum-on : sum + getD w (k * completionWords + 10) 0 ≡ sumBy givenOf (take (k + 1) (givens w n))
     sum-on = rw add-one (sym one-more)
 
-    pub sum-over : sum ≤ size → size - sum < getD w (k * completionWords + 10) 0 → false ≡ eqb (sumBy own (givens w n)) size
-    sum-over h o = sym (ne-eqb (sumBy own (givens w n)) size (λ z. omega (arith, one-more, sum-take own (givens w n) (suc k))))
+    pub sum-over : sum ≤ size → size - sum < getD w (k * completionWords + 10) 0 → false ≡ eqb (sumBy givenOf (givens w n)) size
+    sum-over h o = sym (ne-eqb (sumBy givenOf (givens w n)) size (λ z. omega (arith, one-more, sum-take givenOf (givens w n) (suc k))))
 
-  pub sum-end : n ≤ k → eqb sum size ≡ eqb (sumBy own (givens w n)) size
-  sum-end o = ap (λ (x : ℕ). eqb x size) (e ∙ ap (sumBy own) (take-all k (givens w n) (omega (arith, length-tab (broughtAt w) n))))
+  pub sum-end : n ≤ k → eqb sum size ≡ eqb (sumBy givenOf (givens w n)) size
+  sum-end o = ap (λ (x : ℕ). eqb x size) (e ∙ ap (sumBy givenOf) (take-all k (givens w n) (omega (arith, length-tab (broughtAt w) n))))
 
 -- ---- both lists
-pub given-sum : (tokens w : List ℕ) → sumBy givenOf (readReturned tokens w) ≡ sumBy own (givens w (length tokens))
-unfolding readReturned
-given-sum tokens w = sum-tab givenOf (returnedAt tokens w) own (broughtAt w) (λ k. refl) (length tokens)
-
 module _ (tokens w : List ℕ) (size : ℕ) where
-  pub agree-not : (not (eqb (length w / completionWords) (length tokens)) || not (eqb (length w % completionWords) 0)) ≡ true → false ≡ listsAgree tokens w size
+  pub agree-not : (not (eqb (length w / completionWords) (length tokens)) || not (eqb (length w % completionWords) 0)) ≡ true → false ≡ listsAgree (length tokens) w size
   unfolding listsAgree
   agree-not t = rw (other (λ z. go z))
     where
@@ -94,6 +87,6 @@ module _ (tokens w : List ℕ) (size : ℕ) where
     pub agree-words : length tokens * completionWords ≡ length w
     agree-words = omega (arith, eqb-true (length w / completionWords) (length tokens) (parts .0), eqb-true (length w % completionWords) 0 (parts .1))
 
-    pub agree-sum : (b : Bool) → b ≡ eqb (sumBy own (givens w (length tokens))) size → b ≡ listsAgree tokens w size
+    pub agree-sum : (b : Bool) → b ≡ eqb (sumBy givenOf (givens w (length tokens))) size → b ≡ listsAgree (length tokens) w size
     unfolding listsAgree
-    agree-sum b e = e ∙ rw (eq-eqb (length w) (length tokens * completionWords) (sym agree-words), given-sum tokens w)
+    agree-sum b e = e ∙ rw (eq-eqb (length w) (length tokens * completionWords) (sym agree-words))

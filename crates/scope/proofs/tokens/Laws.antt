@@ -9,11 +9,12 @@ use lib.Dec.{eqb, ltb, leb}
 use lib.ListN.{length, getD, drop, set, replicate, length-set, drop-of-length-le, getD-replicate, length-replicate, length-append}
 use lib.Seq.{drop-cons, getD-set-same, getD-set-other}
 use borrow.Author.Tests.{eq-eqb, ne-eqb, eqb-true, eqb-false, lt-ltb, le-ltb, ltb-true, ltb-false, leb-true, leb-false, le-leb, lt-leb, not-true, not-false}
+use Rattle.chain.specs.After.{After, after}
 use Rattle.chain.specs.Chain.{_if_else_}
 use Rattle.chain.specs.Lists.{only, count, find}
 use Rattle.chain.proofs.Chain.{caseB, takes, passes, both, and3}
 use Rattle.chain.proofs.Lists.{sum-eq, sum-pair, count-pos, count-most, find-on, find-here, find-hit}
-use Rattle.scope.specs.Scope.{slotOf, isAmong, eachOnce, allIn, inScope, MarkedTo, markedTo, markOf}
+use Rattle.scope.specs.Scope.{slotOf, isAmong, eachOnce, allIn, inScope, markOf}
 
 -- ---- the search for a token
 module _ (l : List ℕ) (t n k : ℕ) (e : n ≡ length l) (h : k ≤ find (eqb t) l) (lt : k < n) where
@@ -24,32 +25,35 @@ module _ (l : List ℕ) (t n k : ℕ) (e : n ≡ length l) (h : k ≤ find (eqb 
   slot-on q = find-on (eqb t) 0 l k (omega arith) h (ne-eqb t (getD l k 0) q)
 
 -- ---- the marks
+abbrev Marked : Type 0
+Marked = After Bool (List Bool)
+
 abbrev pub Marking : List ℕ → List ℕ → List Bool → ℕ → List Bool → ℕ → Type 0
 Marking own l m₀ n m k = (n ≡ length l) × (k ≤ n) × (length m ≡ length m₀) × (markOf own (drop k l) m ≡ markOf own l m₀)
 
 module _ (own l : List ℕ) (m₀ : List Bool) (n : ℕ) (m : List Bool) (k j : ℕ) (e : n ≡ length l) (lt : k < n)
     (h : markOf own (drop k l) m ≡ markOf own l m₀) (ej : j ≡ slotOf own (getD l k 0)) where
-  abbrev rest : List Bool → MarkedTo
+  abbrev rest : List Bool → Marked
   rest x = markOf own (drop (suc k) l) x
 
   next : markOf own (getD l k 0 ∷ drop (suc k) l) m ≡ markOf own l m₀
   next = rw (drop-cons l k 0 (omega arith)) at h
 
-  pub mark-far : length own ≤ j → markedTo false m ≡ markOf own l m₀
-  mark-far o = takes MarkedTo _ (not (isAmong (getD l k 0) own)) _ _ (ap not (le-ltb (slotOf own (getD l k 0)) (length own) (omega arith))) refl ∙ next
+  pub mark-far : length own ≤ j → after false m ≡ markOf own l m₀
+  mark-far o = takes Marked _ (not (isAmong (getD l k 0) own)) _ _ (ap not (le-ltb (slotOf own (getD l k 0)) (length own) (omega arith))) refl ∙ next
 
   module _ (i : j < length own) where
     found : not (isAmong (getD l k 0) own) ≡ false
     found = ap not (lt-ltb (slotOf own (getD l k 0)) (length own) (omega arith))
 
-    pub mark-twice : getD m j false ≡ true → markedTo false m ≡ markOf own l m₀
-    mark-twice t = passes MarkedTo _ (not (isAmong (getD l k 0) own)) _ _ found (takes MarkedTo _ _ _ _ (rw ej at t) refl) ∙ next
+    pub mark-twice : getD m j false ≡ true → after false m ≡ markOf own l m₀
+    mark-twice t = passes Marked _ (not (isAmong (getD l k 0) own)) _ _ found (takes Marked _ _ _ _ (rw ej at t) refl) ∙ next
 
     pub mark-on : getD m j false ≡ false → markOf own (drop (k + 1) l) (set m j true) ≡ markOf own l m₀
-    mark-on t = rw (add-one, ej) (passes MarkedTo _ (not (isAmong (getD l k 0) own)) _ _ found (passes MarkedTo _ _ _ _ (rw ej at t) refl) ∙ next)
+    mark-on t = rw (add-one, ej) (passes Marked _ (not (isAmong (getD l k 0) own)) _ _ found (passes Marked _ _ _ _ (rw ej at t) refl) ∙ next)
 
 pub mark-end : (own l : List ℕ) (m₀ : List Bool) (n : ℕ) (m : List Bool) (k : ℕ) → n ≡ length l → n ≤ k → markOf own (drop k l) m ≡ markOf own l m₀
-    → markedTo true m ≡ markOf own l m₀
+    → after true m ≡ markOf own l m₀
 mark-end own l m₀ n m k e o h = let q : length l ≤ k = omega arith in let z : drop k l ≡ [] = drop-of-length-le l q in rw z at h
 
 -- ---- membership
@@ -83,7 +87,7 @@ marks-on own seen m t h i k u j =
     rw (q, e, z) (getD-set-same m (slotOf own t) true false (omega (arith, ltb-true (slotOf own t) (length own) i))))
     (λ e. rw (q, e) (getD-set-other m (slotOf own t) (slotOf own u) true false (slot-apart own t u i j e) ∙ k u j))
 
-pub mark-each : (own l seen : List ℕ) (m : List Bool) → length own ≤ length m → Marks own seen m → markOf own l m .ok ≡ eachOnce own seen l
+pub mark-each : (own l seen : List ℕ) (m : List Bool) → length own ≤ length m → Marks own seen m → markOf own l m .result ≡ eachOnce own seen l
 unfolding _if_else_
 mark-each own [] seen m h k = refl
 mark-each own (t ∷ ts) seen m h k = caseB (isAmong t own)
@@ -92,16 +96,16 @@ mark-each own (t ∷ ts) seen m h k = caseB (isAmong t own)
     (λ y. rw y (mark-each own ts (t ∷ seen) (set m (slotOf own t) true) (omega (arith, length-set m (slotOf own t) true)) (marks-on own seen m t h e k)))))
     (λ e. rw e)
 
-mark-append : (own a b : List ℕ) (m m₁ : List Bool) → markOf own a m ≡ markedTo true m₁ → markOf own (a ++ b) m ≡ markOf own b m₁
+mark-append : (own a b : List ℕ) (m m₁ : List Bool) → markOf own a m ≡ after true m₁ → markOf own (a ++ b) m ≡ markOf own b m₁
 unfolding _if_else_
-mark-append own [] b m m₁ = λ e. ap (markOf own b) (ap (λ (x : MarkedTo). x .marks) e)
+mark-append own [] b m m₁ = λ e. ap (markOf own b) (ap (λ (x : Marked). x .lent) e)
 mark-append own (t ∷ a) b m m₁ = caseB (isAmong t own)
     (λ i. rw i (caseB (getD m (slotOf own t) false)
-    (λ y. rw y λ e. let z : _≡_ {A = Bool} false true = ap (λ (x : MarkedTo). x .ok) e in absurd (false≢true z))
+    (λ y. rw y λ e. let z : _≡_ {A = Bool} false true = ap (λ (x : Marked). x .result) e in absurd (false≢true z))
     (λ y. rw y λ e. mark-append own a b (set m (slotOf own t) true) m₁ e)))
-    (λ i. rw i λ e. let z : _≡_ {A = Bool} false true = ap (λ (x : MarkedTo). x .ok) e in absurd (false≢true z))
+    (λ i. rw i λ e. let z : _≡_ {A = Bool} false true = ap (λ (x : Marked). x .result) e in absurd (false≢true z))
 
-mark-stop : (own a b : List ℕ) (m : List Bool) → markOf own a m .ok ≡ false → markOf own (a ++ b) m .ok ≡ false
+mark-stop : (own a b : List ℕ) (m : List Bool) → markOf own a m .result ≡ false → markOf own (a ++ b) m .result ≡ false
 unfolding _if_else_
 mark-stop own [] b m = λ e. absurd (true≢false e)
 mark-stop own (t ∷ a) b m = caseB (isAmong t own)
@@ -169,20 +173,20 @@ scope-few whole own a b c e t h = omega (arith, few-each own (a ++ b) (both (eac
 abbrev none : List Bool
 none = replicate 128 false
 
-module _ (whole : Bool) (own a b : List ℕ) (h : length own ≤ 128) (r₁ : Bool) (m₁ : List Bool) (e₁ : markedTo r₁ m₁ ≡ markOf own a none) where
-  each-is : markOf own (a ++ b) none .ok ≡ eachOnce own [] (a ++ b)
+module _ (whole : Bool) (own a b : List ℕ) (h : length own ≤ 128) (r₁ : Bool) (m₁ : List Bool) (e₁ : after r₁ m₁ ≡ markOf own a none) where
+  each-is : markOf own (a ++ b) none .result ≡ eachOnce own [] (a ++ b)
   each-is = mark-each own (a ++ b) [] none (omega (arith, length-replicate {A = Bool} 128 false))
       (λ t i. getD-replicate 128 (slotOf own t) false false (omega (arith, ltb-true (slotOf own t) (length own) i)))
 
   pub scope-first : not r₁ ≡ true → false ≡ inScope whole own (a ++ b)
   unfolding inScope
   scope-first t =
-      let y : eachOnce own [] (a ++ b) ≡ false = sym each-is ∙ mark-stop own a b none (ap (λ (x : MarkedTo). x .ok) (sym e₁) ∙ not-true r₁ t) in
+      let y : eachOnce own [] (a ++ b) ≡ false = sym each-is ∙ mark-stop own a b none (ap (λ (x : Marked). x .result) (sym e₁) ∙ not-true r₁ t) in
       rw y
 
-  module _ (t : not r₁ ≡ false) (r₂ : Bool) (m₂ : List Bool) (e₂ : markedTo r₂ m₂ ≡ markOf own b m₁) where
+  module _ (t : not r₁ ≡ false) (r₂ : Bool) (m₂ : List Bool) (e₂ : after r₂ m₂ ≡ markOf own b m₁) where
     each-second : eachOnce own [] (a ++ b) ≡ r₂
-    each-second = sym each-is ∙ ap (λ (x : MarkedTo). x .ok) (mark-append own a b none m₁ (sym e₁ ∙ ap (λ (x : Bool). markedTo x m₁) (not-false r₁ t)) ∙ sym e₂)
+    each-second = sym each-is ∙ ap (λ (x : Marked). x .result) (mark-append own a b none m₁ (sym e₁ ∙ ap (λ (x : Bool). after x m₁) (not-false r₁ t)) ∙ sym e₂)
 
     pub scope-second : not r₂ ≡ true → false ≡ inScope whole own (a ++ b)
     unfolding inScope

@@ -3,14 +3,12 @@ use crate::AbortReport;
 use crate::Ids;
 use crate::Outcome;
 use crate::Recovered;
-use crate::Recovery;
 use crate::RecoveryAnswer;
 use crate::RecoveryReply;
 use crate::entries;
 use checks::completion;
 use ledger::search;
 use models::ControllerState;
-use models::DeviceId;
 use models::Refusal;
 use models::RequestId;
 use models::Verdict;
@@ -21,26 +19,36 @@ use scope::tokens;
 use session::InFlight;
 use session::OptionStall;
 use session::RecoverableStall;
+use session::Recovery;
 use session::RecoveryKind;
 use session::Session;
+use session::Size;
 use session::sizes;
 use words::OptionU64;
 use words::slices;
 ghost use mathlib.Core.Path.{_≡_};
-ghost use mathlib.Core.Bool.{true, _&&_};
+ghost use mathlib.Core.Bool.{true};
 ghost use Prim.Native.Nat.{_+_, _≤_};
 ghost use lib.ListN.{length};
-ghost use lib.Dec.{eqb};
+ghost use Rattle.chain.specs.After.{after};
 ghost use Rattle.chain.specs.Lists.{listed};
 ghost use Rattle.models.specs.Refusals.{refusalOf};
-ghost use Rattle.models.specs.Requests.{sameDevice};
-ghost use Rattle.scope.specs.Returned.{readReturned, listsAgree};
-ghost use Rattle.session.specs.Lent.{rowsIn, storeIn, storeOut, rowsFitIn, areaFitsIn};
-ghost use Rattle.recovery.specs.Entries.{itself, walkTo};
-ghost use Rattle.recovery.specs.Places.{Below, Sized, Places};
+ghost use Rattle.scope.specs.Scope.{meant};
+ghost use Rattle.scope.specs.Returned.{listsAgree};
+ghost use Rattle.session.specs.Lent.{rowsIn, memoryIn, memoryOut};
+ghost use Rattle.session.specs.Sizes.{memorySizes};
+ghost use Rattle.recovery.specs.Entries.{rowListsIn, applyAll};
+ghost use Rattle.recovery.specs.Places.{Below, Places};
 ghost use Rattle.recovery.specs.declared.RecoveryReply.the-variants as RecoveryReply;
 ghost use Rattle.recovery.specs.Reports.{noId, idsOf, idLists};
-ghost use Rattle.recovery.specs.Reply.{recoveredTo, recoveryRefused, isWhole, isRevision, restoredBy, resetBy, sessionAfter, refusedAfter, applyAll, abortReport, concludedBy, settledOf, scopedOf, doneOf, replyBy, replySized, recoveryReplyOf};
+ghost use Rattle.recovery.specs.RecoveryReply.{listsIn, rowsMeant, recoveryRefused, isWhole, isRevision, matching, restoredBy, resetBy, sessionAfter, refusedAfter, abortReport, concludedBy, settledOf, doneOf, replyBy, replySized, recoveryReplyOf};
+
+// A recovery whose reply is in: the session without it, the recovery, and what the backend says.
+struct Ended {
+    idle: Session,
+    recovery: Recovery,
+    outcome: Outcome,
+}
 
 fn no_id() -> RequestId
     ensures { λ r. ⌜ r ≡ noId ⌝ }
@@ -91,27 +99,21 @@ fn is_revision(revision: OptionU64, n: u64) -> bool
     m == n
 }
 
-// The stall is that of the device and the endpoint, no row is in doubt, and the revision is the stall's.
-fn matches(
-    session: Session,
-    stall: RecoverableStall,
-    device: DeviceId,
-    endpoint: u8,
-    certain: bool,
-) -> bool
-    ensures { λ r. ⌜ r
-        ≡ (sameDevice (stall .device) device && eqb (stall .endpoint) endpoint && certain && isRevision (session .«recovery_revision») (stall .revision)) ⌝ }
+// The stall is that of the recovery's device and endpoint, no row is in doubt, and the revision is the stall's.
+fn matches(note: RecoverableStall, recovery: Recovery, certain: bool, session: Session) -> bool
+    ensures { λ r. ⌜ r ≡ matching note recovery certain session ⌝ }
 {
-    let own = stall.device;
+    let own = note.device;
+    let device = recovery.device;
     let revision = session.recovery_revision;
     let same = models::same_device(own, device);
-    let current = is_revision(revision, stall.revision);
-    same & (stall.endpoint == endpoint) & certain & current
+    let current = is_revision(revision, note.revision);
+    same & (note.endpoint == recovery.endpoint) & certain & current
 }
 
 // A reset takes the stall; where it matches, the controller is Initialized again.
-fn restore(session: Session, device: DeviceId, endpoint: u8, certain: bool) -> Session
-    ensures { λ r. ⌜ r ≡ restoredBy (session .«recoverable_stall») session device endpoint certain ⌝ }
+fn restore(recovery: Recovery, certain: bool, session: Session) -> Session
+    ensures { λ r. ⌜ r ≡ restoredBy (session .«recoverable_stall») recovery certain session ⌝ }
 {
     let stall = session.recoverable_stall;
     let revision = session.recovery_revision;
@@ -119,39 +121,41 @@ fn restore(session: Session, device: DeviceId, endpoint: u8, certain: bool) -> S
     let OptionStall::Some(note) = stall else {
         return taken;
     };
-    if matches(session, note, device, endpoint, certain) {
+    if matches(note, recovery, certain, session) {
         return session::with_state(taken, ControllerState::Initialized, revision);
     }
     taken
 }
 
-fn reset(session: Session, recovery: Recovery, rows: &[u64]) -> Session
-    ensures { λ r. ⌜ r ≡ resetBy (recovery .kind) session recovery (rowsIn rows) ⌝ }
+fn reset(recovery: Recovery, rows: &[u64], session: Session) -> Session
+    ensures { λ r. ⌜ r ≡ resetBy (recovery .kind) recovery (rowsIn rows) session ⌝ }
 {
     let kind = recovery.kind;
-    let device = recovery.device;
     match kind {
         RecoveryKind::Abort => session,
         RecoveryKind::Reset(_) => {
             let uncertain = search::any_uncertain(rows);
-            restore(session, device, recovery.endpoint, !uncertain)
+            restore(recovery, !uncertain, session)
         }
     }
 }
 
 // The session after the entries: an error or not ready marks recovery.
-fn session_after(idle: Session, recovery: Recovery, outcome: Outcome, rows: &[u64]) -> Session
-    ensures { λ r. ⌜ r ≡ sessionAfter idle recovery outcome (rowsIn rows) ⌝ }
+fn session_after(ended: Ended, rows: &[u64]) -> Session
+    ensures { λ r. ⌜ r ≡ sessionAfter ended (rowsIn rows) ⌝ }
 {
+    let idle = ended.idle;
+    let recovery = ended.recovery;
+    let outcome = ended.outcome;
     if !is_whole(outcome) {
         return session::mark(idle);
     }
-    reset(idle, recovery, rows)
+    reset(recovery, rows, idle)
 }
 
 // 48 marks; 47 and 41 do not.
-fn refused_after(idle: Session, refusal: Refusal) -> Session
-    ensures { λ r. ⌜ r ≡ refusedAfter idle refusal ⌝ }
+fn refused_after(refusal: Refusal, idle: Session) -> Session
+    ensures { λ r. ⌜ r ≡ refusedAfter refusal idle ⌝ }
 {
     if refusal.number == 48 {
         return session::mark(idle);
@@ -159,9 +163,11 @@ fn refused_after(idle: Session, refusal: Refusal) -> Session
     idle
 }
 
-fn report_of(recovery: Recovery, outcome: Outcome, completed: u64, aborted: u64) -> AbortReport
-    ensures { λ r. ⌜ r ≡ abortReport recovery outcome completed aborted ⌝ }
+fn report_of(ended: Ended, completed: u64, aborted: u64) -> AbortReport
+    ensures { λ r. ⌜ r ≡ abortReport ended completed aborted ⌝ }
 {
+    let recovery = ended.recovery;
+    let outcome = ended.outcome;
     let target = recovery.target;
     let device = recovery.device;
     let error = outcome.error;
@@ -176,15 +182,8 @@ fn report_of(recovery: Recovery, outcome: Outcome, completed: u64, aborted: u64)
     }
 }
 
-// A recovery whose reply is in: the session without it, the recovery, and what the backend says.
-struct Ended {
-    idle: Session,
-    recovery: Recovery,
-    outcome: Outcome,
-}
-
 fn ids_of(rows: &[u64], places: &[usize]) -> [RequestId; 128]
-    ensures { λ r. ⌜ r ≡ listed 128 noId (idsOf (rowsIn rows) itself (now (places .entry))) ⌝ }
+    ensures { λ r. ⌜ r ≡ listed 128 noId (idsOf (rowsIn rows) (now (places .entry))) ⌝ }
 {
     let n = slices::least(places.len(), 128);
     let none = no_id();
@@ -198,7 +197,7 @@ fn ids_of(rows: &[u64], places: &[usize]) -> [RequestId; 128]
 }
 
 fn id_lists(rows: &[u64], completed: &[usize], aborted: &[usize]) -> Ids
-    ensures { λ r. ⌜ r ≡ idLists (rowsIn rows) itself (now (completed .entry)) (now (aborted .entry)) ⌝ }
+    ensures { λ r. ⌜ r ≡ idLists (rowsIn rows) (now (completed .entry)) (now (aborted .entry)) ⌝ }
 {
     let first = ids_of(rows, completed);
     let second = ids_of(rows, aborted);
@@ -212,17 +211,18 @@ fn id_lists(rows: &[u64], completed: &[usize], aborted: &[usize]) -> Ids
 fn apply_all(
     rows: &mut [u64],
     area: &mut [u8],
-    room: usize,
+    size: Size,
     completed: &[usize],
     aborted: &[usize],
     completions: &[u64],
     bytes: &[u8],
 ) -> Verdict
-    requires { ⌜ Places (now rows) (now area) room (now completed) × Below (now rows) (now aborted) × (listsAgree (now completed) (now completions) (length (now bytes)) ≡ true) ⌝ }
-    ensures { λ r. ⌜ walkTo r (storeOut rows) (now (area .exit))
-        ≡ applyAll itself room (readReturned (now (completed .entry)) (now (completions .entry))) (now (aborted .entry)) (now (bytes .entry)) (storeIn rows) (now (area .entry)) ⌝ }
+    requires { ⌜ Places size (now rows) (now area) (now completed) × Below (now rows) (now aborted)
+        × (listsAgree (length (now completed)) (now completions) (length (now bytes)) ≡ true) ⌝ }
+    ensures { λ r. ⌜ after r (memoryOut rows area)
+        ≡ applyAll size (rowListsIn completed completions aborted bytes) (memoryIn rows area) ⌝ }
 {
-    let verdict = entries::complete_all(rows, area, room, completed, completions, bytes);
+    let verdict = entries::complete_all(rows, area, size, completed, completions, bytes);
     let Verdict::Pass = verdict else {
         return verdict;
     };
@@ -237,17 +237,14 @@ fn conclude(
     report: AbortReport,
     ids: Ids,
 ) -> Recovered
-    ensures { λ r. ⌜ r
-        ≡ concludedBy verdict (ended .idle) (ended .recovery) (ended .outcome) report ids (rowsIn rows) ⌝ }
+    ensures { λ r. ⌜ r ≡ concludedBy verdict ended report ids (rowsIn rows) ⌝ }
 {
     let idle = ended.idle;
-    let recovery = ended.recovery;
-    let outcome = ended.outcome;
     match verdict {
-        Verdict::Refused(refusal) => refused(refused_after(idle, refusal), refusal),
+        Verdict::Refused(refusal) => refused(refused_after(refusal, idle), refusal),
         Verdict::Pass => Recovered {
             answer: RecoveryAnswer::Report(report),
-            session: session_after(idle, recovery, outcome, rows),
+            session: session_after(ended, rows),
             ids,
         },
     }
@@ -263,22 +260,16 @@ fn settle(
     completions: &[u64],
     bytes: &[u8],
 ) -> Recovered
-    requires { ⌜ Places (now rows) (now area) (ended .idle .«row_bytes») (now completed) × Below (now rows) (now aborted) × (listsAgree (now completed) (now completions) (length (now bytes)) ≡ true) ⌝ }
-    ensures { λ r. ⌜ recoveredTo r (storeOut rows) (now (area .exit))
-        ≡ settledOf (ended .idle) (ended .recovery) (ended .outcome) itself (now (completed .entry)) (now (completions .entry)) (now (aborted .entry)) (now (bytes .entry)) (storeIn rows) (now (area .entry)) ⌝ }
+    requires { ⌜ Places (ended .idle .size) (now rows) (now area) (now completed) × Below (now rows) (now aborted)
+        × (listsAgree (length (now completed)) (now completions) (length (now bytes)) ≡ true) ⌝ }
+    ensures { λ r. ⌜ after r (memoryOut rows area)
+        ≡ settledOf ended (rowListsIn completed completions aborted bytes) (memoryIn rows area) ⌝ }
 {
     let idle = ended.idle;
-    let recovery = ended.recovery;
-    let outcome = ended.outcome;
+    let size = idle.size;
     let ids = id_lists(rows, completed, aborted);
-    let report = report_of(
-        recovery,
-        outcome,
-        completed.len() as u64,
-        aborted.len() as u64,
-    );
-    let room = idle.row_bytes as usize;
-    let verdict = apply_all(rows, area, room, completed, aborted, completions, bytes);
+    let report = report_of(ended, completed.len() as u64, aborted.len() as u64);
+    let verdict = apply_all(rows, area, size, completed, aborted, completions, bytes);
     conclude(verdict, ended, rows, report, ids)
 }
 
@@ -294,9 +285,11 @@ fn reply_scoped(
     aborted: &[u64],
     bytes: &[u8],
 ) -> Recovered
-    requires { ⌜ Places (now rows) (now area) (ended .idle .«row_bytes») (now affected) × (listsAgree (now tokens) (now completions) (length (now bytes)) ≡ true) × (length (now tokens) + length (now aborted) ≤ 128) ⌝ }
-    ensures { λ r. ⌜ recoveredTo r (storeOut rows) (now (area .exit))
-        ≡ scopedOf (ended .idle) (ended .recovery) (ended .outcome) (now (affected .entry)) (now (own .entry)) (now (tokens .entry)) (now (completions .entry)) (now (aborted .entry)) (now (bytes .entry)) (storeIn rows) (now (area .entry)) ⌝ }
+    requires { ⌜ Places (ended .idle .size) (now rows) (now area) (now affected)
+        × (listsAgree (length (now tokens)) (now completions) (length (now bytes)) ≡ true) × (length (now tokens) + length (now aborted) ≤ 128) ⌝ }
+    ensures { λ r. ⌜ after r (memoryOut rows area)
+        ≡ settledOf ended (rowsMeant (meant (now (affected .entry)) (now (own .entry))) (listsIn tokens completions aborted bytes))
+        (memoryIn rows area) ⌝ }
 {
     let done = entries::places_of(affected, own, tokens);
     let gone = entries::places_of(affected, own, aborted);
@@ -325,9 +318,10 @@ fn reply_affected(
     aborted: &[u64],
     bytes: &[u8],
 ) -> Recovered
-    requires { ⌜ Places (now rows) (now area) (ended .idle .«row_bytes») (now affected) × (listsAgree (now tokens) (now completions) (length (now bytes)) ≡ true) × (length (now own) ≤ 128) ⌝ }
-    ensures { λ r. ⌜ recoveredTo r (storeOut rows) (now (area .exit))
-        ≡ doneOf (ended .idle) (ended .recovery) (ended .outcome) (now (affected .entry)) (now (own .entry)) (now (tokens .entry)) (now (completions .entry)) (now (aborted .entry)) (now (bytes .entry)) (storeIn rows) (now (area .entry)) ⌝ }
+    requires { ⌜ Places (ended .idle .size) (now rows) (now area) (now affected)
+        × (listsAgree (length (now tokens)) (now completions) (length (now bytes)) ≡ true) × (length (now own) ≤ 128) ⌝ }
+    ensures { λ r. ⌜ after r (memoryOut rows area)
+        ≡ doneOf ended (now (affected .entry)) (now (own .entry)) (listsIn tokens completions aborted bytes) (memoryIn rows area) ⌝ }
 {
     let idle = ended.idle;
     let outcome = ended.outcome;
@@ -358,9 +352,11 @@ fn reply_done(
     aborted: &[u64],
     bytes: &[u8],
 ) -> Recovered
-    requires { ⌜ Sized (now rows) (now area) (ended .idle .«row_bytes») × (listsAgree (now tokens) (now completions) (length (now bytes)) ≡ true) ⌝ }
-    ensures { λ r. ⌜ recoveredTo r (storeOut rows) (now (area .exit))
-        ≡ replyBy (RecoveryReply.Done (ended .outcome)) (ended .idle) (ended .recovery) (now (tokens .entry)) (now (completions .entry)) (now (aborted .entry)) (now (bytes .entry)) (storeIn rows) (now (area .entry)) ⌝ }
+    requires { ⌜ (memorySizes (ended .idle .size) (length (now rows)) (length (now area)) ≡ true)
+        × (listsAgree (length (now tokens)) (now completions) (length (now bytes)) ≡ true) ⌝ }
+    ensures { λ r. ⌜ after r (memoryOut rows area)
+        ≡ replyBy (RecoveryReply.Done (ended .outcome)) (ended .recovery) (listsIn tokens completions aborted bytes) (ended .idle)
+        (memoryIn rows area) ⌝ }
 {
     let recovery = ended.recovery;
     let device = recovery.device;
@@ -392,9 +388,10 @@ fn reply_to(
     aborted: &[u64],
     bytes: &[u8],
 ) -> Recovered
-    requires { ⌜ Sized (now rows) (now area) (idle .«row_bytes») × (listsAgree (now tokens) (now completions) (length (now bytes)) ≡ true) ⌝ }
-    ensures { λ r. ⌜ recoveredTo r (storeOut rows) (now (area .exit))
-        ≡ replyBy reply idle recovery (now (tokens .entry)) (now (completions .entry)) (now (aborted .entry)) (now (bytes .entry)) (storeIn rows) (now (area .entry)) ⌝ }
+    requires { ⌜ (memorySizes (idle .size) (length (now rows)) (length (now area)) ≡ true)
+        × (listsAgree (length (now tokens)) (now completions) (length (now bytes)) ≡ true) ⌝ }
+    ensures { λ r. ⌜ after r (memoryOut rows area)
+        ≡ replyBy reply recovery (listsIn tokens completions aborted bytes) idle (memoryIn rows area) ⌝ }
 {
     match reply {
         RecoveryReply::Error(error) => {
@@ -423,12 +420,11 @@ fn reply_sized(
     aborted: &[u64],
     bytes: &[u8],
 ) -> Recovered
-    ensures { λ r. ⌜ recoveredTo r (storeOut rows) (now (area .exit))
-        ≡ replySized session (rowsFitIn session rows && areaFitsIn session area) recovery reply (now (tokens .entry)) (now (completions .entry)) (now (aborted .entry)) (now (bytes .entry)) (storeIn rows) (now (area .entry)) ⌝ }
+    ensures { λ r. ⌜ after r (memoryOut rows area)
+        ≡ replySized reply recovery (listsIn tokens completions aborted bytes) session (memoryIn rows area) ⌝ }
 {
-    let rows_fit = sizes::rows_fit(session.row_count, session.row_bytes, rows.len());
-    let area_fits = sizes::area_fits(session.row_count, session.row_bytes, area.len());
-    if !(rows_fit & area_fits) {
+    let size = session.size;
+    if !sizes::memory_fits(size, rows.len(), area.len()) {
         return refused_by(session, 3);
     }
     if !returned::lists_agree(tokens, completions, bytes.len()) {
@@ -459,32 +455,24 @@ pub fn recovery_reply(
     aborted: &[u64],
     bytes: &[u8],
 ) -> Recovered
-    ensures { λ r. ⌜ recoveredTo r (storeOut rows) (now (area .exit))
-        ≡ recoveryReplyOf session (rowsFitIn session rows && areaFitsIn session area) reply (now (tokens .entry)) (now (completions .entry)) (now (aborted .entry)) (now (bytes .entry)) (storeIn rows) (now (area .entry)) ⌝ }
+    ensures { λ r. ⌜ after r (memoryOut rows area)
+        ≡ recoveryReplyOf reply (listsIn tokens completions aborted bytes) session (memoryIn rows area) ⌝ }
 {
     let flight = session.in_flight;
     match flight {
         InFlight::Nothing => refused_by(session, 2),
         InFlight::Submission(_) => refused_by(session, 2),
         InFlight::Poll(_) => refused_by(session, 2),
-        InFlight::Recovery(target, device, endpoint, kind) => {
-            let recovery = Recovery {
-                target,
-                device,
-                endpoint,
-                kind,
-            };
-            reply_sized(
-                session,
-                rows,
-                area,
-                recovery,
-                reply,
-                tokens,
-                completions,
-                aborted,
-                bytes,
-            )
-        }
+        InFlight::Recovery(recovery) => reply_sized(
+            session,
+            rows,
+            area,
+            recovery,
+            reply,
+            tokens,
+            completions,
+            aborted,
+            bytes,
+        ),
     }
 }

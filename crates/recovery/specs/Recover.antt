@@ -1,5 +1,5 @@
 -- A recovery's start (document 01, the place poll, recovery start, and "Abort report"). Assumes nothing.
-use mathlib.Core.Bool.{Bool, not}
+use mathlib.Core.Bool.{not}
 use mathlib.Core.List.{List}
 use lib.ListN.{length, getD, replicate}
 use Rattle.chain.specs.Chain.{_if_else_}
@@ -11,45 +11,48 @@ use Rattle.models.specs.Requests.{deviceMayAccess}
 use Rattle.models.specs.declared.Refusal.{Refusal}
 use Rattle.models.specs.declared.RequestId.{RequestId}
 use Rattle.rows.specs.Table.{emptyRow}
+use Rattle.rows.specs.Store.{Store}
 use Rattle.rows.specs.declared.Row.{Row}
 use Rattle.ledger.specs.Search.{isAt}
+use Rattle.session.specs.Lent.{storeFits}
 use Rattle.session.specs.Start.{guarded}
 use Rattle.session.specs.Session.{mayRecover, withFlight}
 use Rattle.session.specs.declared.InFlight.the-variants as flight
+use Rattle.session.specs.declared.Recovery.{Recovery}
 use Rattle.session.specs.declared.RecoveryKind.{RecoveryKind}
 use Rattle.session.specs.declared.Session.{Session}
 use Rattle.scope.specs.Affected.{affectedOf, tokensOf}
-use Rattle.recovery.specs.declared.Recovery.{Recovery}
 use Rattle.recovery.specs.declared.BeginAnswer.the-variants as begin
 use Rattle.recovery.specs.declared.Begun.{Begun}
 
 abbrev pub beginRefused : Session → Refusal → Begun
 beginRefused s r = record { answer = begin.Refused r; session = s; tokens = replicate 128 0; count = 0 }
 
-abbrev pub recoveryOf : RequestId → Row → RecoveryKind → Recovery
-recoveryOf id r kind = record { target = id; device = r .metadata .device; endpoint = r .metadata .endpoint; kind = kind }
+abbrev pub recoveryOf : RequestId → RecoveryKind → Row → Recovery
+recoveryOf id kind r = record { target = id; device = r .metadata .device; endpoint = r .metadata .endpoint; kind = kind }
 
 -- the operation is in flight; the affected tokens by ascending id
-unfoldable pub begunAs : Session → Recovery → List Row → Begun
-begunAs s x rows = record {
+unfoldable pub begunAs : Recovery → Session → List Row → Begun
+begunAs x s rows = record {
   answer = begin.Recover x;
-  session = withFlight s (flight.Recovery (x .target) (x .device) (x .endpoint) (x .kind));
+  session = withFlight s (flight.Recovery x);
   tokens = listed 128 0 (tokensOf rows (affectedOf (x .device) (x .endpoint) rows));
   count = length (affectedOf (x .device) (x .endpoint) rows);
 }
 
 -- 43, 44
-unfoldable pub beginRow : Session → Row → RequestId → RecoveryKind → List Row → Begun
-beginRow s r id kind rows =
+unfoldable pub beginRow : RequestId → RecoveryKind → Row → Session → List Row → Begun
+beginRow id kind r s rows =
     beginRefused s (refusalOf 43) if not (deviceMayAccess (r .state)) else
     beginRefused s (refusalOf 44) if not (mayRecover (s .state)) else
-    begunAs s (recoveryOf id r kind) rows
+    begunAs (recoveryOf id kind r) s rows
 
 -- 40
-unfoldable pub recoverBy : Found → Session → RequestId → RecoveryKind → List Row → Begun
-recoverBy found.Nothing s id kind rows = beginRefused s (refusalOf 40)
-recoverBy (found.At i) s id kind rows = beginRow s (getD rows i emptyRow) id kind rows
+unfoldable pub recoverBy : Found → RequestId → RecoveryKind → Session → List Row → Begun
+recoverBy found.Nothing id kind s rows = beginRefused s (refusalOf 40)
+recoverBy (found.At i) id kind s rows = beginRow id kind (getD rows i emptyRow) s rows
 
 -- 1, 3
-unfoldable pub recoverOf : Session → Bool → RequestId → RecoveryKind → List Row → Begun
-recoverOf s fits id kind rows = guarded s fits (beginRefused s) (recoverBy (foundIn (isAt id) rows) s id kind rows)
+unfoldable pub recoverOf : RequestId → RecoveryKind → Session → Store → Begun
+recoverOf id kind s store =
+    guarded s (storeFits (s .size) store) (beginRefused s) (recoverBy (foundIn (isAt id) (store .rows)) id kind s (store .rows))

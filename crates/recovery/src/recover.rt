@@ -1,7 +1,6 @@
 // A recovery's start: abort, or reset of an endpoint.
 use crate::BeginAnswer;
 use crate::Begun;
-use crate::Recovery;
 use chain::Found;
 use ledger::search;
 use models::Refusal;
@@ -10,14 +9,15 @@ use models::Verdict;
 use rows::Row;
 use scope::affected;
 use session::InFlight;
+use session::Recovery;
 use session::RecoveryKind;
 use session::Session;
 use session::start;
 ghost use mathlib.Core.Path.{_≡_};
 ghost use Rattle.models.specs.Refusals.{refusalOf};
 ghost use Rattle.session.specs.declared.RecoveryKind.the-variants as RecoveryKind;
-ghost use Rattle.session.specs.Lent.{rowsIn, rowsFitIn};
-ghost use Rattle.recovery.specs.Begin.{beginRefused, recoveryOf, begunAs, beginRow, recoverOf};
+ghost use Rattle.session.specs.Lent.{rowsIn, storeIn};
+ghost use Rattle.recovery.specs.Recover.{beginRefused, recoveryOf, begunAs, beginRow, recoverOf};
 
 fn refused(session: Session, refusal: Refusal) -> Begun
     ensures { λ r. ⌜ r ≡ beginRefused session refusal ⌝ }
@@ -36,8 +36,8 @@ fn refused_by(session: Session, number: u16) -> Begun
     refused(session, models::refuse(number))
 }
 
-fn recovery_of(id: RequestId, row: Row, kind: RecoveryKind) -> Recovery
-    ensures { λ r. ⌜ r ≡ recoveryOf id row kind ⌝ }
+fn recovery_of(id: RequestId, kind: RecoveryKind, row: Row) -> Recovery
+    ensures { λ r. ⌜ r ≡ recoveryOf id kind row ⌝ }
 {
     let metadata = row.metadata;
     let device = metadata.device;
@@ -51,17 +51,14 @@ fn recovery_of(id: RequestId, row: Row, kind: RecoveryKind) -> Recovery
 
 // The operation is in flight; the affected tokens by ascending id.
 fn begin(session: Session, rows: &[u64], recovery: Recovery) -> Begun
-    ensures { λ r. ⌜ r ≡ begunAs session recovery (rowsIn rows) ⌝ }
+    ensures { λ r. ⌜ r ≡ begunAs recovery session (rowsIn rows) ⌝ }
 {
-    let target = recovery.target;
     let device = recovery.device;
-    let kind = recovery.kind;
-    let flight = InFlight::Recovery(target, device, recovery.endpoint, kind);
     let mut list = [0usize; 128];
     let count = affected::collect(rows, &mut list, device, recovery.endpoint);
     Begun {
         answer: BeginAnswer::Recover(recovery),
-        session: session::with_flight(session, flight),
+        session: session::with_flight(session, InFlight::Recovery(recovery)),
         tokens: affected::tokens_of(rows, &list[..count]),
         count: count as u64,
     }
@@ -69,7 +66,7 @@ fn begin(session: Session, rows: &[u64], recovery: Recovery) -> Begun
 
 // 43: not held; 44: not Initialized or RecoveryRequired.
 fn begin_row(session: Session, rows: &[u64], row: Row, id: RequestId, kind: RecoveryKind) -> Begun
-    ensures { λ r. ⌜ r ≡ beginRow session row id kind (rowsIn rows) ⌝ }
+    ensures { λ r. ⌜ r ≡ beginRow id kind row session (rowsIn rows) ⌝ }
 {
     let state = row.state;
     let controller = session.state;
@@ -79,13 +76,13 @@ fn begin_row(session: Session, rows: &[u64], row: Row, id: RequestId, kind: Reco
     if !session::may_recover(controller) {
         return refused_by(session, 44);
     }
-    let recovery = recovery_of(id, row, kind);
+    let recovery = recovery_of(id, kind, row);
     begin(session, rows, recovery)
 }
 
 // 1, 3, 40, then by the row.
 fn begin_recovery(session: Session, rows: &[u64], id: RequestId, kind: RecoveryKind) -> Begun
-    ensures { λ r. ⌜ r ≡ recoverOf session (rowsFitIn session rows) id kind (rowsIn rows) ⌝ }
+    ensures { λ r. ⌜ r ≡ recoverOf id kind session (storeIn rows) ⌝ }
 {
     let verdict = start::rows_ready(session, rows.len());
     match verdict {
@@ -102,7 +99,7 @@ fn begin_recovery(session: Session, rows: &[u64], id: RequestId, kind: RecoveryK
 }
 
 pub fn abort_request(session: Session, rows: &[u64], target: RequestId) -> Begun
-    ensures { λ r. ⌜ r ≡ recoverOf session (rowsFitIn session rows) target RecoveryKind.Abort (rowsIn rows) ⌝ }
+    ensures { λ r. ⌜ r ≡ recoverOf target RecoveryKind.Abort session (storeIn rows) ⌝ }
 {
     begin_recovery(session, rows, target, RecoveryKind::Abort)
 }
@@ -113,7 +110,7 @@ pub fn reset_endpoint_request(
     target: RequestId,
     preserve: bool,
 ) -> Begun
-    ensures { λ r. ⌜ r ≡ recoverOf session (rowsFitIn session rows) target (RecoveryKind.Reset preserve) (rowsIn rows) ⌝ }
+    ensures { λ r. ⌜ r ≡ recoverOf target (RecoveryKind.Reset preserve) session (storeIn rows) ⌝ }
 {
     begin_recovery(session, rows, target, RecoveryKind::Reset(preserve))
 }

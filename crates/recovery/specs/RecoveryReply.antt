@@ -1,0 +1,161 @@
+-- The backend's reply to a recovery (document 01, "Abort report", and the place replies). Assumes nothing.
+use Prim.Native.Nat.{ℕ}
+use mathlib.Core.Bool.{Bool, false, not, _&&_}
+use mathlib.Core.List.{List, _++_, map}
+use lib.Dec.{eqb}
+use lib.ListN.{length}
+use denote.Ref.{now}
+use Rattle.chain.specs.After.{After, after}
+use Rattle.chain.specs.Chain.{_if_else_}
+use Rattle.chain.specs.Lists.{anyIn}
+use Rattle.words.specs.declared.OptionU64.{OptionU64}
+use Rattle.words.specs.declared.OptionU64.the-variants as u64
+use Rattle.models.specs.Refusals.{refusalOf, fromBackend}
+use Rattle.models.specs.Requests.{sameDevice}
+use Rattle.models.specs.declared.ControllerState.the-variants.{Initialized}
+use Rattle.models.specs.declared.Refusal.{Refusal}
+use Rattle.models.specs.declared.Verdict.{Verdict}
+use Rattle.models.specs.declared.Verdict.the-variants as verdict
+use Rattle.rows.specs.Table.{isUncertain}
+use Rattle.rows.specs.declared.Row.{Row}
+use Rattle.checks.specs.Completion.{hasError}
+use Rattle.session.specs.Lent.{Memory, memoryFits, Slice}
+use Rattle.session.specs.Session.{withController, withFlight, withStall, marked}
+use Rattle.session.specs.declared.InFlight.{InFlight}
+use Rattle.session.specs.declared.InFlight.the-variants as flight
+use Rattle.session.specs.declared.OptionStall.{OptionStall}
+use Rattle.session.specs.declared.OptionStall.the-variants as stall
+use Rattle.session.specs.declared.RecoverableStall.{RecoverableStall}
+use Rattle.session.specs.declared.Recovery.{Recovery}
+use Rattle.session.specs.declared.RecoveryKind.{RecoveryKind}
+use Rattle.session.specs.declared.RecoveryKind.the-variants as kind
+use Rattle.session.specs.declared.Session.{Session}
+use Rattle.scope.specs.Affected.{affectedOf, tokensOf}
+use Rattle.scope.specs.Scope.{meant, inScope}
+use Rattle.scope.specs.Returned.{listsAgree}
+use Rattle.recovery.specs.Entries.{RowLists, rowLists, applyAll}
+use Rattle.recovery.specs.Reports.{idLists, noIds}
+use Rattle.recovery.specs.declared.AbortReport.{AbortReport}
+use Rattle.recovery.specs.declared.Ids.{Ids}
+use Rattle.recovery.specs.declared.Outcome.{Outcome}
+use Rattle.recovery.specs.declared.Recovered.{Recovered}
+use Rattle.recovery.specs.declared.RecoveryAnswer.the-variants as answer
+use Rattle.recovery.specs.declared.RecoveryReply.{RecoveryReply}
+use Rattle.recovery.specs.declared.RecoveryReply.the-variants as reply
+use Rattle.recovery.specs.declared.recovery_reply.Ended.{Ended}
+
+-- what comes with a reply: the tokens that the backend completed, the words of their completions, those that it aborted, and the data
+pub record ReplyLists : Type 0 where
+  pub tokens : List ℕ
+  pub completions : List ℕ
+  pub aborted : List ℕ
+  pub bytes : List ℕ
+
+abbrev pub replyLists : List ℕ → List ℕ → List ℕ → List ℕ → ReplyLists
+replyLists tokens completions aborted bytes = record { tokens = tokens; completions = completions; aborted = aborted; bytes = bytes }
+
+abbrev pub listsIn : Slice → Slice → Slice → Slice → ReplyLists
+listsIn tokens completions aborted bytes =
+    replyLists (now (tokens .entry)) (now (completions .entry)) (now (aborted .entry)) (now (bytes .entry))
+
+-- the same by rows; `place` says which one a token means
+abbrev pub rowsMeant : (ℕ → ℕ) → ReplyLists → RowLists
+rowsMeant place l = rowLists (map place (l .tokens)) (l .completions) (map place (l .aborted)) (l .bytes)
+
+abbrev pub recoveryRefused : Session → Refusal → Recovered
+recoveryRefused s r = record { answer = answer.Refused r; session = s; ids = noIds }
+
+-- a recovery whose reply is in: the session without it, the recovery, and what the backend says
+abbrev pub ended : Session → Recovery → Outcome → Ended
+ended idle x o = record { idle = idle; recovery = x; outcome = o }
+
+-- ready, and without an error
+abbrev pub isWhole : Outcome → Bool
+isWhole o = o .«restart_ready» && not (hasError (o .error))
+
+-- ---- the session after the entries
+
+abbrev pub isRevision : OptionU64 → ℕ → Bool
+isRevision u64.None n = false
+isRevision (u64.Some m) n = eqb m n
+
+-- the note is of the recovery's device and endpoint, no row is Failed and not quiescent, and the session's revision is the note's
+abbrev pub matching : RecoverableStall → Recovery → Bool → Session → Bool
+matching note x certain s =
+    sameDevice (note .device) (x .device) && eqb (note .endpoint) (x .endpoint) && certain && isRevision (s .«recovery_revision») (note .revision)
+
+-- a reset takes the stall note; where it matches, the controller is Initialized again
+unfoldable pub restoredBy : OptionStall → Recovery → Bool → Session → Session
+restoredBy stall.None x certain s = withStall s stall.None
+restoredBy (stall.Some note) x certain s =
+    withController (withStall s stall.None) Initialized (s .«recovery_revision») if matching note x certain s else
+    withStall s stall.None
+
+unfoldable pub resetBy : RecoveryKind → Recovery → List Row → Session → Session
+resetBy kind.Abort x rows s = s
+resetBy (kind.Reset preserve) x rows s = restoredBy (s .«recoverable_stall») x (not (anyIn isUncertain rows)) s
+
+-- an error or not ready marks recovery
+unfoldable pub sessionAfter : Ended → List Row → Session
+sessionAfter e rows = marked (e .idle) if not (isWhole (e .outcome)) else resetBy (e .recovery .kind) (e .recovery) rows (e .idle)
+
+-- 48 marks; 47 and 41 do not
+unfoldable pub refusedAfter : Refusal → Session → Session
+refusedAfter r idle = marked idle if eqb (r .number) 48 else idle
+
+-- ---- the report
+
+-- n requests were completed, m aborted
+abbrev pub abortReport : Ended → ℕ → ℕ → AbortReport
+abortReport e n m = record {
+  target = e .recovery .target;
+  device = e .recovery .device;
+  endpoint = e .recovery .endpoint;
+  completed = n;
+  aborted = m;
+  «restart_ready» = e .outcome .«restart_ready»;
+  error = e .outcome .error;
+}
+
+unfoldable pub concludedBy : Verdict → Ended → AbortReport → Ids → List Row → Recovered
+concludedBy (verdict.Refused r) e report ids rows = recoveryRefused (refusedAfter r (e .idle)) r
+concludedBy verdict.Pass e report ids rows = record { answer = answer.Report report; session = sessionAfter e rows; ids = ids }
+
+-- ---- the stages
+
+-- the entries, then the session and the report; the ids are those of the rows before the entries
+unfoldable pub settledOf : Ended → RowLists → Memory → After Recovered Memory
+settledOf e l m =
+    let done = applyAll (e .idle .size) l m in
+    let report = abortReport e (length (l .completed)) (length (l .aborted)) in
+    after (concludedBy (done .result) e report (idLists (m .store .rows) (l .completed) (l .aborted)) (done .lent .store .rows)) (done .lent)
+
+-- 46: token scope, with a mark; `own` are the tokens of the affected rows
+unfoldable pub doneOf : Ended → List ℕ → List ℕ → ReplyLists → Memory → After Recovered Memory
+doneOf e affected own l m =
+    after (recoveryRefused (marked (e .idle)) (refusalOf 46)) m if not (inScope (isWhole (e .outcome)) own (l .tokens ++ l .aborted)) else
+    settledOf e (rowsMeant (meant affected own) l) m
+
+-- 45, always with a mark
+unfoldable pub replyBy : RecoveryReply → Recovery → ReplyLists → Session → Memory → After Recovered Memory
+replyBy (reply.Error e) x l idle m = after (recoveryRefused (marked idle) (fromBackend 45 e)) m
+replyBy (reply.Done o) x l idle m =
+    let affected = affectedOf (x .device) (x .endpoint) (m .store .rows) in
+    doneOf (ended idle x o) affected (tokensOf (m .store .rows) affected) l m
+
+-- 3, 49: the operation stays in flight
+unfoldable pub replySized : RecoveryReply → Recovery → ReplyLists → Session → Memory → After Recovered Memory
+replySized r x l s m =
+    after (recoveryRefused s (refusalOf 3)) m if not (memoryFits (s .size) m) else
+    after (recoveryRefused s (refusalOf 49)) m if not (listsAgree (length (l .tokens)) (l .completions) (length (l .bytes))) else
+    replyBy r x l (withFlight s flight.Nothing) m
+
+-- 2: no recovery is in flight
+unfoldable pub replyIn : InFlight → RecoveryReply → ReplyLists → Session → Memory → After Recovered Memory
+replyIn flight.Nothing r l s m = after (recoveryRefused s (refusalOf 2)) m
+replyIn (flight.Submission id) r l s m = after (recoveryRefused s (refusalOf 2)) m
+replyIn (flight.Poll id) r l s m = after (recoveryRefused s (refusalOf 2)) m
+replyIn (flight.Recovery x) r l s m = replySized r x l s m
+
+unfoldable pub recoveryReplyOf : RecoveryReply → ReplyLists → Session → Memory → After Recovered Memory
+recoveryReplyOf r l s m = replyIn (s .«in_flight») r l s m
