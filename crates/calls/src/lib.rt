@@ -2,8 +2,8 @@
 use models::Refusal;
 use models::RequestReport;
 use recovery::AbortReport;
-use recovery::Recovery;
 use reports::Part;
+use session::Recovery;
 use session::Session;
 use submissions::PlanSubmission;
 use submissions::Submission;
