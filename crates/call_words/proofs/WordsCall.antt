@@ -34,7 +34,6 @@ use Rattle.models.specs.declared.PortReading.the-variants as reading
 use Rattle.models.specs.declared.BackendCompletion.{BackendCompletion}
 use Rattle.models.specs.declared.ControlPlan.{ControlPlan}
 use Rattle.models.specs.declared.RequestId.{RequestId}
-use Rattle.models.specs.declared.RequestSpec.{RequestSpec}
 use Rattle.models.proofs.Enums.{category-back, transfer-back, direction-back, profile-back, device-state-back}
 use Rattle.rows.specs.Codec.{readSetupWords, setupWords}
 use Rattle.scope.specs.Returned.{completionWords, readError, errorWords, readOptionError, optionErrorWords, readCompletion}
@@ -43,13 +42,16 @@ use Rattle.session.specs.declared.lifecycle.AcquireReply.the-variants as acquir
 use Rattle.session.specs.declared.lifecycle.Opening.{Opening}
 use Rattle.reports.specs.declared.OptionId.the-variants as option
 use Rattle.polls.specs.declared.PollReply.the-variants as poll
+use Rattle.submissions.specs.Submit.{Request}
 use Rattle.submissions.specs.declared.SubmitReply.the-variants as submit
+use Rattle.recovery.specs.RecoveryReply.{ReplyLists}
 use Rattle.recovery.specs.declared.RecoveryReply.{RecoveryReply}
 use Rattle.recovery.specs.declared.RecoveryReply.the-variants as recovery
 use Rattle.calls.specs.Calls.{Call, Open, Placing, Place, Device, Port, Endpoints, Reconcile, Moving, Move, Acquire, Initialize, Close, Beginning, Begin, Submit, SubmitPlan, Poll, Recover, Replying, Reply, ToSubmit, ToPoll, ToRecovery, Changing, Change, Cancel, Timeout, Reclaim, Reading, Read, Status, Reports, CountReports, CompletedBytes, HeldCount, HeldBytes}
-use Rattle.call_words.specs.Parts.{isZero, isFlag, isByte, isHalf, areZero, deviceIdWords, packetWords, isError, isOptionError, isOptionSetup, optionSetupWords, isReading, readReading, readingWords, isCompletion, backendCompletionWords, readStage, stageWords, readStatus, statusWord}
+use Rattle.session_words.specs.State.{deviceIdWords}
+use Rattle.call_words.specs.Parts.{isZero, isFlag, isByte, isHalf, areZero, packetWords, isError, isOptionError, isOptionSetup, optionSetupWords, isReading, readReading, readingWords, isCompletion, backendCompletionWords, readStage, stageWords, readStatus, statusWord}
 use Rattle.call_words.specs.Form.{has, isOpenCall, isSetDevice, isSetPort, isSetEndpoints, isSetReconcile, isAcquire, isInitialize, isClose, isSubmit, isPlan, isSubmitReply, isPollReply, isReports, isReset, isRecovered, isRecoveryReply, isPlacing, isMoving, isSubmission, isReplying, isReporting, isRecoveryCall, isCall}
-use Rattle.call_words.specs.Arguments.{readOpening, readSnapshot, readPortRow, readAcquireReply, readSpec, readPlan, readSubmitReply, readPollReply, readOptionId, readRecoveryReply, readCompleted, readCompletions, readAborted}
+use Rattle.call_words.specs.Arguments.{readOpening, readSnapshot, readPortRow, readAcquireReply, readSpec, readReadings, readPlan, readSubmitReply, readPollReply, readOptionId, readRecoveryReply, readCompleted, readCompletions, readAborted}
 use Rattle.call_words.specs.Decode.{readPlacing, readMoving, readSubmission, readReplying, readChanging, readReporting, readRecovering, readCall}
 use Rattle.call_words.specs.Encode.{specWords, recoveryReplyWords, callWords, callBytes}
 use Rattle.call_words.specs.Typed.{signedError, signedReading, signedRecovery, typedMoving, typedBeginning, typedReplying, isTyped}
@@ -193,23 +195,25 @@ move-back (Close fresh e) s t =
     let p = close-told (callWords (Move (Close fresh e))) t in
     rw (number-says fresh, option-error-says e (p .2) s)
 
-submit-back : (q : RequestSpec) (bytes : List ℕ) (given : Bool) (packets : List ℕ) (first second : PortReading) → signedReading first ≡ true → signedReading second ≡ true
-    → Back (Begin (Submit q bytes given packets first second))
-unfolding isCall isSubmission isSubmit readCall readSubmission readSpec callWords _if_else_
-submit-back q bytes given packets first second sf ss =
-    rw (reading-shape first, reading-shape second) λ t.
+submit-back : (packets : List ℕ) (q : Request) → signedReading (q .readings .first) ≡ true → signedReading (q .readings .second) ≡ true
+    → Back (Begin (Submit packets q))
+unfolding isCall isSubmission isSubmit readCall readSubmission readSpec readReadings callWords _if_else_
+submit-back packets q sf ss =
+    let a = q .readings .first in
+    let b = q .readings .second in
+    rw (reading-shape a, reading-shape b) λ t.
     let w : List ℕ =
-    8 ∷ specWords q ++ tab (λ (k : ℕ). getD (readingWords first) k 0) 6 ++ tab (λ (k : ℕ). getD (readingWords second) k 0) 6 ++ flagWord given ∷ packets in
+    8 ∷ specWords (q .spec) ++ tab (λ (k : ℕ). getD (readingWords a) k 0) 6 ++ tab (λ (k : ℕ). getD (readingWords b) k 0) 6 ++ flagWord (q .given) ∷ packets in
     let p = submit-told w t in
     rw (
-      byte-word (q .device .slot) (p .0),
-      byte-word (q .endpoint) (p .1),
-      transfer-back (q .«transfer_type»),
-      direction-back (q .direction),
-      option-setup-says (q .setup) (p .4),
-      reading-says first (p .5) sf,
-      reading-says second (p .6) ss,
-      flag-back given,
+      byte-word (q .spec .device .slot) (p .0),
+      byte-word (q .spec .endpoint) (p .1),
+      transfer-back (q .spec .«transfer_type»),
+      direction-back (q .spec .direction),
+      option-setup-says (q .spec .setup) (p .4),
+      reading-says a (p .5) sf,
+      reading-says b (p .6) ss,
+      flag-back (q .given),
     )
 
 plan-back : (p : ControlPlan) (bytes : List ℕ) (r : PortReading) → signedReading r ≡ true → Back (Begin (SubmitPlan p bytes r))
@@ -236,24 +240,27 @@ plan-back x bytes r s =
 
 begin-back : (b : Beginning) → typedBeginning b ≡ true → Back (Begin b)
 unfolding isCall isReplying isRecoveryCall isReset readCall readReplying readRecovering callWords _if_else_
-begin-back (Submit q bytes given packets first second) s t =
-    let p = both (signedReading first) (signedReading second) s in
-    submit-back q bytes given packets first second (p .0) (p .1) t
+begin-back (Submit packets q) s t =
+    let p = both (signedReading (q .readings .first)) (signedReading (q .readings .second)) s in
+    submit-back packets q (p .0) (p .1) t
 begin-back (SubmitPlan p bytes r) s t = plan-back p bytes r s t
 begin-back (Poll id) s t = refl
 begin-back (Recover id kind.Abort) s t = refl
 begin-back (Recover id (kind.Reset preserve)) s t = rw (flag-back preserve)
 
-recovery-back : (r : RecoveryReply) (a b c bytes : List ℕ) → signedRecovery r ≡ true → length b % completionWords ≡ 0 → Back (Reply (ToRecovery r a b c bytes))
+recovery-back : (r : RecoveryReply) (l : ReplyLists) → signedRecovery r ≡ true → length (l .completions) % completionWords ≡ 0 → Back (Reply (ToRecovery r l))
 unfolding isCall isRecoveryCall isRecoveryReply readCall readRecovering readRecoveryReply readCompleted readCompletions readAborted callWords _if_else_
-recovery-back r a b c bytes s whole =
+recovery-back r l s whole =
+    let a = l .tokens in
+    let b = l .completions in
+    let c = l .aborted in
     let m = length b / completionWords in
     let em : m * completionWords ≡ length b = omega arith in
     rw (recovery-shape r) λ t.
     let w : List ℕ = 24 ∷ tab (λ (k : ℕ). getD (recoveryReplyWords r) k 0) 7 ++ length a ∷ m ∷ a ++ b ++ c in
     let p = recovery-reply-told w t in
     rw (completed-is w a b c refl m em, completions-are w a b c refl m em, aborted-is w a b c refl m em)
-    (ap (λ (x : RecoveryReply). Reply (ToRecovery x a b c bytes)) (recovered-says r (p .1) s))
+    (ap (λ (x : RecoveryReply). Reply (ToRecovery x l)) (recovered-says r (p .1) s))
 
 reply-back : (r : Replying) → typedReplying r ≡ true → Back (Reply r)
 unfolding isCall isReplying isSubmitReply isPollReply readCall readReplying readSubmitReply readPollReply callWords _if_else_
@@ -272,9 +279,9 @@ reply-back (ToPoll (poll.Completion x) bytes) s t =
     let w = callWords (Reply (ToPoll (poll.Completion x) bytes)) in
     let p = and3 (has w 12) (eqb (getD w 1 0) 2) (isCompletion (drop 2 w)) t in
     rw (completion-says x s (p .2))
-reply-back (ToRecovery r a b c bytes) s t =
-    let p = both (signedRecovery r) (eqb (length b % completionWords) 0) s in
-    recovery-back r a b c bytes (p .0) (eqb-true (length b % completionWords) 0 (p .1)) t
+reply-back (ToRecovery r l) s t =
+    let p = both (signedRecovery r) (eqb (length (l .completions) % completionWords) 0) s in
+    recovery-back r l (p .0) (eqb-true (length (l .completions) % completionWords) 0 (p .1)) t
 
 change-back : (id : RequestId) (c : Changing) → Back (Change id c)
 unfolding isCall readCall readChanging callWords _if_else_

@@ -39,7 +39,7 @@ typedMoving (Initialize e) = signedError e
 typedMoving (Close fresh e) = signedError e
 
 abbrev pub typedBeginning : Beginning → Bool
-typedBeginning (Submit q bytes given packets first second) = signedReading first && signedReading second
+typedBeginning (Submit packets q) = signedReading (q .readings .first) && signedReading (q .readings .second)
 typedBeginning (SubmitPlan p bytes reading) = signedReading reading
 typedBeginning (Poll id) = true
 typedBeginning (Recover id kind) = true
@@ -50,7 +50,7 @@ typedReplying (ToSubmit (submit.Error e)) = isSigned (e .«os_code»)
 typedReplying (ToPoll poll.Nothing bytes) = true
 typedReplying (ToPoll (poll.Error e) bytes) = isSigned (e .«os_code»)
 typedReplying (ToPoll (poll.Completion x) bytes) = signedError (x .error)
-typedReplying (ToRecovery r completed completions aborted bytes) = signedRecovery r && eqb (length completions % completionWords) 0
+typedReplying (ToRecovery r l) = signedRecovery r && eqb (length (l .completions) % completionWords) 0
 
 abbrev pub isTyped : Call → Bool
 isTyped (Open o) = true
