@@ -39,7 +39,7 @@ use Rattle.session.specs.Session.{isInitialized}
 use Rattle.session.specs.Session as session
 use Rattle.session.specs.declared.Session.{Session}
 use Rattle.session.specs.declared.sizes.Place.{Place}
-use Rattle.submissions.specs.Begin.{roomIn, newId, startRefused, writeOf, Draft, draft, beginOf, withBus, targetBy, targetOf}
+use Rattle.submissions.specs.Begin.{roomIn, newId, startRefused, writeOf, Draft, draft, beginOf, targetBy, targetOf}
 use Rattle.submissions.specs.declared.begin.Start.the-variants as start
 use Rattle.submissions.specs.declared.begin.Started.{Started}
 
@@ -69,7 +69,7 @@ module _ (rows : List Row) (n : ℕ) (e : n ≡ heldCount 16 rows) where
       let z : n ≡ saturate 16 (count isHeld rows) = e in
       passes Found _ _ _ _ (lt-leb 128 (count isHeld rows) (below-128 (count isHeld rows) (omega arith))) ef
 
-pub found-free : (rows : List Row) (i : ℕ) → roomIn rows ≡ found.At i → foundIn isFree rows ≡ found.At i
+found-free : (rows : List Row) (i : ℕ) → roomIn rows ≡ found.At i → foundIn isFree rows ≡ found.At i
 unfolding roomIn _if_else_
 found-free rows i =
     caseB (leb 128 (count isHeld rows)) (λ t. rw t λ e. let z : _≡_ {A = ℕ} 0 1 = cc in absurd (omega arith)) (λ t. rw t λ e. e)
@@ -92,7 +92,7 @@ module _ (start : ℕ) (m : RequestMetadata) (bytes area written : List ℕ) (b 
 module _ (p : Place) (q : RequestMetadata) (bytes : List ℕ) (s : Session) (m : Memory) (v : Spent) (ev : v ≡ spendSequence (s .«next_sequence»)) where
   pub begin-stop : (r : Refusal) (x : Started) → v ≡ spent.Refused r → x ≡ startRefused s r → after x m ≡ beginOf (draft p q bytes) s m
   unfolding beginOf
-  begin-stop r x e ex = ap (λ (z : Started). after z m) ex ∙ rw (← ev, e, beginOf)
+  begin-stop r x e ex = rw (ex, ← ev, e, beginOf)
 
   pub begin-on : (next : ℕ) (id : RequestId) (row : Row) (store : Store) (area : List ℕ) (n : Session) → v ≡ spent.Next next → id ≡ newId s
       → row ≡ pendingRow id q → store ≡ putIn (m .store) (p .row) row → area ≡ writeOf (p .start) q bytes (m .area) → n ≡ session.spent s next id
@@ -102,14 +102,10 @@ module _ (p : Place) (q : RequestMetadata) (bytes : List ℕ) (s : Session) (m :
 
 -- device and endpoint, then the rest
 module _ (d : Draft) (x : Readings) (s : Session) (b seen : Bus) (m : Memory) (t : Bool) (v : Verdict) (et : t ≡ isInitialized (s .state)) (ev : after v seen ≡ checkTarget t (s .ports) (d .metadata) x b) where
-  aimed : (w : Verdict) → v ≡ w → targetBy w d s (lent seen m) ≡ targetOf d x s (lent b m)
-  unfolding targetOf
-  aimed w e = rw (← et, ← ev, e)
-
   pub target-stop : (r : Refusal) (y : Started) → v ≡ verdict.Refused r → y ≡ startRefused s r → after y (lent seen m) ≡ targetOf d x s (lent b m)
-  unfolding targetBy
-  target-stop r y e ey = ap (λ (z : Started). after z (lent seen m)) ey ∙ aimed (verdict.Refused r) e
+  unfolding targetOf targetBy
+  target-stop r y e ey = rw (ey, ← et, ← ev, e)
 
   pub target-on : (y : Started) (left : Memory) → v ≡ verdict.Pass → after y left ≡ beginOf d s m → after y (lent seen left) ≡ targetOf d x s (lent b m)
-  unfolding targetBy
-  target-on y left e h = ap (withBus seen) h ∙ aimed verdict.Pass e
+  unfolding targetOf targetBy
+  target-on y left e h = rw (← et, ← ev, e, ← h)

@@ -1,7 +1,7 @@
 -- One law for each way out of a control plan's submission: its premises are the facts in hand there. Assumes nothing.
 use Prim.Native.Nat.{ℕ}
 use mathlib.Core.List.{List}
-use mathlib.Core.Path.{_≡_, ap, _∙_}
+use mathlib.Core.Path.{_≡_, _∙_}
 use lib.ListN.{length}
 use Rattle.chain.specs.After.{After, after}
 use Rattle.chain.specs.declared.Found.{Found}
@@ -24,7 +24,7 @@ use Rattle.session.specs.declared.Session.{Session}
 use Rattle.session.specs.declared.sizes.Place.{Place}
 use Rattle.session.proofs.start.Laws.{guard-stop, guard-on}
 use Rattle.submissions.specs.Begin.{roomIn, draft, targetOf}
-use Rattle.submissions.specs.Plan.{planRefused, planStarted, plannedTo, plannedOf, planRoomOf, submitPlanOf}
+use Rattle.submissions.specs.Plan.{planRefused, planStarted, plannedOf, planRoomOf, submitPlanOf}
 use Rattle.submissions.specs.declared.PlanSubmitted.{PlanSubmitted}
 use Rattle.submissions.specs.declared.PlanAnswer.the-variants as planAnswer
 use Rattle.submissions.specs.declared.begin.Start.{Start}
@@ -47,20 +47,19 @@ module _ (q : ControlPlan) (bytes : List ℕ) (first : PortReading) (s : Session
   module _ (p : Place) (x : PlanSubmitted) (a : Planned) (ea : a ≡ planned q (length bytes) (s .size .«row_bytes»)) where
     pub planned-stop : (r : Refusal) → a ≡ plan.Refused r → x ≡ planRefused s r → after x l ≡ plannedOf p q bytes first s l
     unfolding plannedOf
-    planned-stop r e ex = ap (λ (z : PlanSubmitted). after z l) ex ∙ rw (← ea, e, plannedOf)
+    planned-stop r e ex = rw (ex, ← ea, e, plannedOf)
 
     pub planned-on : (v : ValidatedControlPlan) (y : Started) (left : Lent) → a ≡ plan.Ready v
         → after y left ≡ targetOf (draft p (v .metadata) bytes) (record { first = first; second = first }) s l → x ≡ planStarted (y .answer) (y .session) v
         → after x left ≡ plannedOf p q bytes first s l
     unfolding plannedOf
-    planned-on v y left e h ex =
-        ap (λ (z : PlanSubmitted). after z left) ex ∙ (ap (λ (o : After Started Lent). plannedTo o v) h ∙ rw (← ea, e, plannedOf))
+    planned-on v y left e h ex = rw (ex, ← ea, e, plannedOf, ← h)
 
   -- 5
   module _ (f : Found) (ef : f ≡ roomIn (l .memory .store .rows)) where
     pub plan-none : (x : PlanSubmitted) (r : Refusal) → f ≡ found.Nothing → r ≡ refusalOf 5 → x ≡ planRefused s r → after x l ≡ planRoomOf q bytes first s l
     unfolding planRoomOf
-    plan-none x r e er ex = ap (λ (z : PlanSubmitted). after z l) ex ∙ rw (← ef, e, er, planRoomOf)
+    plan-none x r e er ex = rw (ex, ← ef, e, er, planRoomOf)
 
     pub plan-at : (i : ℕ) (o : After PlanSubmitted Lent) → f ≡ found.At i → o ≡ plannedOf (placeOf (s .size) i) q bytes first s l → o ≡ planRoomOf q bytes first s l
     unfolding planRoomOf

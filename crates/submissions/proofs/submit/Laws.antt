@@ -2,7 +2,7 @@
 use Prim.Native.Nat.{ℕ}
 use mathlib.Core.Bool.{Bool}
 use mathlib.Core.List.{List}
-use mathlib.Core.Path.{_≡_, ap, _∙_}
+use mathlib.Core.Path.{_≡_, _∙_}
 use lib.ListN.{length}
 use Rattle.chain.specs.After.{After, after}
 use Rattle.chain.specs.declared.Found.{Found}
@@ -24,7 +24,7 @@ use Rattle.session.specs.declared.Session.{Session}
 use Rattle.session.specs.declared.sizes.Place.{Place}
 use Rattle.session.proofs.start.Laws.{guard-stop, guard-on}
 use Rattle.submissions.specs.Begin.{roomIn, draft, targetOf}
-use Rattle.submissions.specs.Submit.{Request, submitRefused, submittedBy, submittedTo, preparedOf, roomOf, packetsOf, submitOf}
+use Rattle.submissions.specs.Submit.{Request, submitRefused, submittedBy, preparedOf, roomOf, packetsOf, submitOf}
 use Rattle.submissions.specs.declared.Submitted.{Submitted}
 use Rattle.submissions.specs.declared.SubmitAnswer.the-variants as submit
 use Rattle.submissions.specs.declared.begin.Start.{Start}
@@ -47,19 +47,18 @@ module _ (q : Request) (s : Session) (l : Lent) where
   module _ (p : Place) (x : Submitted) (a : Prepared) (ea : a ≡ prepared (q .spec) (length (q .bytes)) (s .size .«row_bytes»)) where
     pub prepared-stop : (r : Refusal) → a ≡ prepare.Refused r → x ≡ submitRefused s r → after x l ≡ preparedOf p q s l
     unfolding preparedOf
-    prepared-stop r e ex = ap (λ (z : Submitted). after z l) ex ∙ rw (← ea, e, preparedOf)
+    prepared-stop r e ex = rw (ex, ← ea, e, preparedOf)
 
     pub prepared-on : (m : RequestMetadata) (y : Started) (left : Lent) → a ≡ prepare.Ready m → after y left ≡ targetOf (draft p m (q .bytes)) (q .readings) s l
         → x ≡ submittedBy (y .answer) (y .session) m (q .given) → after x left ≡ preparedOf p q s l
     unfolding preparedOf
-    prepared-on m y left e h ex =
-        ap (λ (z : Submitted). after z left) ex ∙ (ap (λ (o : After Started Lent). submittedTo o m (q .given)) h ∙ rw (← ea, e, preparedOf))
+    prepared-on m y left e h ex = rw (ex, ← ea, e, preparedOf, ← h)
 
   -- 5
   module _ (f : Found) (ef : f ≡ roomIn (l .memory .store .rows)) where
     pub room-none : (x : Submitted) (r : Refusal) → f ≡ found.Nothing → r ≡ refusalOf 5 → x ≡ submitRefused s r → after x l ≡ roomOf q s l
     unfolding roomOf
-    room-none x r e er ex = ap (λ (z : Submitted). after z l) ex ∙ rw (← ef, e, er, roomOf)
+    room-none x r e er ex = rw (ex, ← ef, e, er, roomOf)
 
     pub room-at : (i : ℕ) (o : After Submitted Lent) → f ≡ found.At i → o ≡ preparedOf (placeOf (s .size) i) q s l → o ≡ roomOf q s l
     unfolding roomOf
@@ -70,7 +69,7 @@ module _ (q : Request) (s : Session) (l : Lent) where
     module _ (ev : v ≡ packetsChecked (q .given) packets (q .spec .«transfer_type») (q .spec .length)) where
       pub packets-stop : (x : Submitted) (r : Refusal) → v ≡ verdict.Refused r → x ≡ submitRefused s r → after x l ≡ packetsOf packets q s l
       unfolding packetsOf
-      packets-stop x r e ex = ap (λ (z : Submitted). after z l) ex ∙ rw (← ev, e, packetsOf)
+      packets-stop x r e ex = rw (ex, ← ev, e, packetsOf)
 
       pub packets-on : (o : After Submitted Lent) → v ≡ verdict.Pass → o ≡ roomOf q s l → o ≡ packetsOf packets q s l
       unfolding packetsOf

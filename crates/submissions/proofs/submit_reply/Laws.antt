@@ -1,7 +1,7 @@
 -- One law for each way out of the reply to a submission: its premises are the facts in hand there. Assumes nothing.
 use Prim.Native.Nat.{ℕ}
 use mathlib.Core.Bool.{Bool, true, false, not}
-use mathlib.Core.Path.{_≡_, sym, ap, _∙_}
+use mathlib.Core.Path.{_≡_, refl, _∙_}
 use Rattle.chain.specs.After.{After, after}
 use Rattle.chain.proofs.Chain.{takes, passes, not-through}
 use Rattle.models.specs.Refusals.{refusalOf, fromBackend}
@@ -16,7 +16,6 @@ use Rattle.ledger.specs.declared.Applied.the-variants as applied
 use Rattle.rules.specs.declared.Change.the-variants as change
 use Rattle.session.specs.Lent.{storeFits}
 use Rattle.session.specs.Session.{withFlight}
-use Rattle.session.specs.declared.InFlight.{InFlight}
 use Rattle.session.specs.declared.InFlight.the-variants as flight
 use Rattle.session.specs.declared.Recovery.{Recovery}
 use Rattle.session.specs.declared.Session.{Session}
@@ -62,28 +61,24 @@ module _ (y : SubmitReply) (id : RequestId) (s : Session) (store left : Store) (
 
 -- by what is in flight
 module _ (y : SubmitReply) (s : Session) (store : Store) where
-  flown : (f : InFlight) (o : After Reported Store) → s .«in_flight» ≡ f → o ≡ submitReplyIn f y s store → o ≡ submitReplyOf y s store
-  unfolding submitReplyOf
-  flown f o e h = h ∙ ap (λ (g : InFlight). submitReplyIn g y s store) (sym e)
-
   module _ (x : Reported) (ex : x ≡ reportRefused s (refusalOf 2)) where
     pub reply-idle : s .«in_flight» ≡ flight.Nothing → after x store ≡ submitReplyOf y s store
-    unfolding submitReplyIn
-    reply-idle e = flown flight.Nothing _ e (rw ex)
+    unfolding submitReplyOf submitReplyIn
+    reply-idle e = rw (ex, e)
 
     pub reply-poll : (id : RequestId) → s .«in_flight» ≡ flight.Poll id → after x store ≡ submitReplyOf y s store
-    unfolding submitReplyIn
-    reply-poll id e = flown (flight.Poll id) _ e (rw ex)
+    unfolding submitReplyOf submitReplyIn
+    reply-poll id e = rw (ex, e)
 
     pub reply-recovery : (z : Recovery) → s .«in_flight» ≡ flight.Recovery z → after x store ≡ submitReplyOf y s store
-    unfolding submitReplyIn
-    reply-recovery z e = flown (flight.Recovery z) _ e (rw ex)
+    unfolding submitReplyOf submitReplyIn
+    reply-recovery z e = rw (ex, e)
 
   module _ (id : RequestId) (e : s .«in_flight» ≡ flight.Submission id) (f : Bool) (ef : f ≡ storeFits (s .size) store) where
     pub reply-unfit : (x : Reported) → not f ≡ true → x ≡ reportRefused s (refusalOf 3) → after x store ≡ submitReplyOf y s store
-    unfolding submitReplyIn
-    reply-unfit x t ex = flown (flight.Submission id) _ e (takes (After Reported Store) _ _ _ _ (not-through f _ true ef t) (rw ex))
+    unfolding submitReplyOf submitReplyIn
+    reply-unfit x t ex = rw (ex, e) (takes (After Reported Store) _ _ _ _ (not-through f _ true ef t) refl)
 
     pub reply-on : (o : After Reported Store) → not f ≡ false → o ≡ submitReplyBy y id s store → o ≡ submitReplyOf y s store
-    unfolding submitReplyIn
-    reply-on o t h = flown (flight.Submission id) o e (passes (After Reported Store) _ _ _ _ (not-through f _ false ef t) h)
+    unfolding submitReplyOf submitReplyIn
+    reply-on o t h = rw (h, e) (passes (After Reported Store) _ _ _ _ (not-through f _ false ef t) refl)

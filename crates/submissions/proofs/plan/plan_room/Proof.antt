@@ -11,8 +11,8 @@ returns : tie.Need-returns
 unfolding storeOf
 returns c = search plan-none
 
-mul-at : tie.Need-mul-at
-mul-at c = search room-fits
+mul-start : tie.Need-mul-start
+mul-start c = search room-fits
 
 plan-prepared-requires : tie.Need-plan-prepared-requires
 plan-prepared-requires c κs = search (lent-bus, room-in, room-place)
@@ -32,7 +32,7 @@ plan-room-spec =
     (λ c κs. search needs)
     (λ c. search needs)
     returns
-    mul-at
+    mul-start
     plan-prepared-requires
     (λ c. search needs)
     (λ c. search needs)

@@ -11,8 +11,8 @@ returns : tie.Need-returns
 unfolding storeOf
 returns c = search room-none
 
-mul-at : tie.Need-mul-at
-mul-at c = search room-fits
+mul-start : tie.Need-mul-start
+mul-start c = search room-fits
 
 submit-prepared-requires : tie.Need-submit-prepared-requires
 submit-prepared-requires c κs = search (lent-bus, room-in, room-place)
@@ -32,7 +32,7 @@ submit-room-spec =
     (λ c κs. search needs)
     (λ c. search needs)
     returns
-    mul-at
+    mul-start
     submit-prepared-requires
     (λ c. search needs)
     (λ c. search needs)
