@@ -31,14 +31,14 @@ use Rattle.session.specs.declared.RecoveryKind.{RecoveryKind}
 use Rattle.session.specs.declared.Session.{Session}
 use Rattle.scope.specs.Affected.{isAffected, comesBefore, insertRow, joined, affectedUpTo, affectedOf, tokensOf}
 use Rattle.recovery.specs.Recover.{beginRefused, begunAs, beginRow, recoverBy, recoverOf}
-use Rattle.recovery.specs.RecoveryReply.{ReplyLists, recoveryRefused, isWhole, ended, concludedBy, abortReport, settledOf, doneOf, replyBy, replySized, replyIn, recoveryReplyOf}
+use Rattle.recovery.specs.RecoveryReply.{ReplyLists, recoveryRefused, isWhole, concludedBy, abortReport, settledOf, doneOf, replyBy, replySized, replyIn, recoveryReplyOf}
 use Rattle.scope.specs.Scope.{meant, inScope}
 use Rattle.recovery.specs.declared.Begun.{Begun}
 use Rattle.recovery.specs.declared.Ids.{Ids}
-use Rattle.recovery.specs.declared.Outcome.{Outcome}
 use Rattle.recovery.specs.declared.Recovered.{Recovered}
 use Rattle.recovery.specs.declared.RecoveryReply.{RecoveryReply}
 use Rattle.recovery.specs.declared.RecoveryReply.the-variants as reply
+use Rattle.recovery.specs.declared.recovery_reply.Ended.{Ended}
 use Rattle.scope.proofs.tokens.Laws.{scope-few}
 use Rattle.calls.specs.Calls.{Beginning, Submit, SubmitPlan, Poll, Recover, Replying, ToSubmit, ToPoll, ToRecovery, Call, Open, Place, Move, Begin, Reply, Change, Read}
 use Rattle.answer_words.specs.Lists.{listSize, idList, begunLists, recoveredLists, begunIn, repliedIn, listsOf, putLists}
@@ -102,11 +102,11 @@ refused-short : (s : Session) (r : Refusal) → length (recoveredLists (recovery
 unfolding recoveredLists
 refused-short s r = omega arith
 
-concluded-short : (v : Verdict) (s : Session) (x : Recovery) (o : Outcome) (n m : ℕ) (ids : Ids) (rows : List Row) → n + m ≤ 128
-    → length (recoveredLists (concludedBy v (ended s x o) (abortReport (ended s x o) n m) ids rows)) ≤ listSize
+concluded-short : (v : Verdict) (e : Ended) (n m : ℕ) (ids : Ids) (rows : List Row) → n + m ≤ 128
+    → length (recoveredLists (concludedBy v e (abortReport e n m) ids rows)) ≤ listSize
 unfolding recoveredLists concludedBy
-concluded-short (verdict.Refused r) s x o n m ids rows h = omega arith
-concluded-short verdict.Pass s x o n m ids rows h =
+concluded-short (verdict.Refused r) e n m ids rows h = omega arith
+concluded-short verdict.Pass e n m ids rows h =
     omega (
       arith,
       length-append (idList (take n (ids .completed))) (idList (take m (ids .aborted))),
@@ -119,14 +119,15 @@ concluded-short verdict.Pass s x o n m ids rows h =
     )
 
 module _ (l : ReplyLists) (m : Memory) where
-  done-short : (s : Session) (x : Recovery) (o : Outcome) (affected own : List ℕ) → length own ≤ 128 → Short (doneOf (ended s x o) affected own l m)
+  done-short : (e : Ended) (affected own : List ℕ) → length own ≤ 128 → Short (doneOf e affected own l m)
   unfolding doneOf settledOf
-  done-short s x o affected own h =
-      if-by Short _ (not (inScope (isWhole o) own (l .tokens ++ l .aborted))) _ (λ t. refused-short _ _)
+  done-short e affected own h =
+      let whole = isWhole (e .outcome) in
+      if-by Short _ (not (inScope whole own (l .tokens ++ l .aborted))) _ (λ t. refused-short _ _)
       (λ t.
       let place = meant affected own in
-      concluded-short _ s x o (length (map place (l .tokens))) (length (map place (l .aborted))) _ _
-      (omega (arith, scope-few (isWhole o) own (l .tokens) (l .aborted) _ refl t h, length-map (l .tokens) place, length-map (l .aborted) place)))
+      concluded-short _ e (length (map place (l .tokens))) (length (map place (l .aborted))) _ _
+      (omega (arith, scope-few whole own (l .tokens) (l .aborted) _ refl t h, length-map (l .tokens) place, length-map (l .aborted) place)))
 
   by-short : (r : RecoveryReply) (x : Recovery) (s : Session) → Short (replyBy r x l s m)
   unfolding replyBy
@@ -134,7 +135,7 @@ module _ (l : ReplyLists) (m : Memory) where
   by-short (reply.Done o) x s =
       let rows = m .store .rows in
       let a = affectedOf (x .device) (x .endpoint) rows in
-      done-short s x o a (tokensOf rows a) (omega (arith, length-map a (tokenIn rows), affected-most (x .device) (x .endpoint) rows))
+      done-short _ a (tokensOf rows a) (omega (arith, length-map a (tokenIn rows), affected-most (x .device) (x .endpoint) rows))
 
   in-short : (f : InFlight) (r : RecoveryReply) (s : Session) → Short (replyIn f r l s m)
   unfolding replyIn replySized
