@@ -1,13 +1,14 @@
 -- The lists of every call have at most 386 words: a recovery affects at most 128 requests, and a reply in scope names each once. Assumes nothing.
 use Prim.Native.Nat.{ℕ, zero, suc, _+_, _≤_}
-use mathlib.Core.Bool.{Bool, not, _&&_}
-use mathlib.Core.List.{List, [], _∷_, _++_}
+use mathlib.Core.Bool.{not, _&&_}
+use mathlib.Core.List.{List, [], _∷_, _++_, map}
 use mathlib.Core.Path.{_≡_, refl, ap}
 use native.Mathlib.Omega.{arith}
 use native.Mathlib.Nat.{min-le-left}
 use lib.Dec.{ltb}
 use lib.ListN.{length, take, length-take, length-append, length-map}
 use borrow.Author.Tests.{ltb-true}
+use Rattle.chain.specs.After.{After}
 use Rattle.chain.specs.Chain.{_if_else_}
 use Rattle.chain.specs.declared.Found.{Found}
 use Rattle.chain.specs.declared.Found.the-variants as found
@@ -21,25 +22,27 @@ use Rattle.models.specs.declared.Verdict.the-variants as verdict
 use Rattle.rows.specs.Table.{rowIn, idIn, tokenIn}
 use Rattle.rows.specs.Store.{Store}
 use Rattle.rows.specs.declared.Row.{Row}
+use Rattle.session.specs.Lent.{Memory}
 use Rattle.session.specs.Start.{guarded}
 use Rattle.session.specs.declared.InFlight.{InFlight}
 use Rattle.session.specs.declared.InFlight.the-variants as flight
+use Rattle.session.specs.declared.Recovery.{Recovery}
 use Rattle.session.specs.declared.RecoveryKind.{RecoveryKind}
 use Rattle.session.specs.declared.Session.{Session}
 use Rattle.scope.specs.Affected.{isAffected, comesBefore, insertRow, joined, affectedUpTo, affectedOf, tokensOf}
-use Rattle.recovery.specs.Begin.{beginRefused, begunAs, beginRow, recoverBy, recoverOf}
-use Rattle.recovery.specs.Reply.{RecoveredTo, recoveryRefused, isWhole, concludedBy, abortReport, scopedOf, doneOf, replyBy, replySized, replyIn, recoveryReplyOf}
-use Rattle.scope.specs.Scope.{inScope}
+use Rattle.recovery.specs.Recover.{beginRefused, begunAs, beginRow, recoverBy, recoverOf}
+use Rattle.recovery.specs.RecoveryReply.{ReplyLists, recoveryRefused, isWhole, concludedBy, abortReport, settledOf, doneOf, replyBy, replySized, replyIn, recoveryReplyOf}
+use Rattle.scope.specs.Scope.{meant, inScope}
 use Rattle.recovery.specs.declared.Begun.{Begun}
 use Rattle.recovery.specs.declared.Ids.{Ids}
-use Rattle.recovery.specs.declared.Outcome.{Outcome}
-use Rattle.recovery.specs.declared.Recovery.{Recovery}
+use Rattle.recovery.specs.declared.Recovered.{Recovered}
 use Rattle.recovery.specs.declared.RecoveryReply.{RecoveryReply}
 use Rattle.recovery.specs.declared.RecoveryReply.the-variants as reply
+use Rattle.recovery.specs.declared.recovery_reply.Ended.{Ended}
 use Rattle.scope.proofs.tokens.Laws.{scope-few}
 use Rattle.calls.specs.Calls.{Beginning, Submit, SubmitPlan, Poll, Recover, Replying, ToSubmit, ToPoll, ToRecovery, Call, Open, Place, Move, Begin, Reply, Change, Read}
 use Rattle.answer_words.specs.Lists.{listSize, idList, begunLists, recoveredLists, begunIn, repliedIn, listsOf, putLists}
-use Rattle.calls.specs.Step.{World}
+use Rattle.calls.specs.Step.{World, worldStore}
 use Rattle.answer_words.proofs.lists.Laws.{id-words-length, put-all}
 
 -- ---- at most 128 requests are affected
@@ -65,43 +68,45 @@ affected-most d endpoint rows = up-to-most d endpoint rows (length rows)
 abbrev ShortBegun : Begun → Type 0
 ShortBegun o = length (begunLists o) ≤ listSize
 
-module _ (s : Session) (id : RequestId) (k : RecoveryKind) (rows : List Row) where
+module _ (id : RequestId) (k : RecoveryKind) (s : Session) (rows : List Row) where
   refused-begun : (r : Refusal) → ShortBegun (beginRefused s r)
   unfolding begunLists
   refused-begun r = omega arith
 
-  begun-short : (x : Recovery) → ShortBegun (begunAs s x rows)
+  begun-short : (x : Recovery) → ShortBegun (begunAs x s rows)
   unfolding begunLists begunAs
   begun-short x =
       let n = length (affectedOf (x .device) (x .endpoint) rows) in
-      omega (arith, length-take n (begunAs s x rows .tokens), min-le-left n (length (begunAs s x rows .tokens)), affected-most (x .device) (x .endpoint) rows)
+      omega (arith, length-take n (begunAs x s rows .tokens), min-le-left n (length (begunAs x s rows .tokens)), affected-most (x .device) (x .endpoint) rows)
 
-  row-begun : (r : Row) → ShortBegun (beginRow s r id k rows)
+  row-begun : (r : Row) → ShortBegun (beginRow id k r s rows)
   unfolding beginRow
   row-begun r = if-all ShortBegun _ _ _ (refused-begun _) (if-all ShortBegun _ _ _ (refused-begun _) (begun-short _))
 
-  found-begun : (f : Found) → ShortBegun (recoverBy f s id k rows)
+  found-begun : (f : Found) → ShortBegun (recoverBy f id k s rows)
   unfolding recoverBy
   found-begun found.Nothing = refused-begun _
   found-begun (found.At i) = row-begun _
 
-  begin-short : (fits : Bool) → ShortBegun (recoverOf s fits id k rows)
-  unfolding recoverOf guarded
-  begin-short fits = if-all ShortBegun _ _ _ (refused-begun _) (if-all ShortBegun _ _ _ (refused-begun _) (found-begun _))
+begin-short : (id : RequestId) (k : RecoveryKind) (s : Session) (store : Store) → ShortBegun (recoverOf id k s store)
+unfolding recoverOf guarded
+begin-short id k s store =
+    let r = refused-begun id k s (store .rows) in
+    if-all ShortBegun _ _ _ (r _) (if-all ShortBegun _ _ _ (r _) (found-begun id k s (store .rows) _))
 
 -- ---- and of its reply
-abbrev Short : RecoveredTo → Type 0
+abbrev Short : After Recovered Memory → Type 0
 Short o = length (recoveredLists (o .result)) ≤ listSize
 
 refused-short : (s : Session) (r : Refusal) → length (recoveredLists (recoveryRefused s r)) ≤ listSize
 unfolding recoveredLists
 refused-short s r = omega arith
 
-concluded-short : (v : Verdict) (idle : Session) (x : Recovery) (o : Outcome) (n m : ℕ) (ids : Ids) (rows : List Row) → n + m ≤ 128
-    → length (recoveredLists (concludedBy v idle x o (abortReport x o n m) ids rows)) ≤ listSize
+concluded-short : (v : Verdict) (e : Ended) (n m : ℕ) (ids : Ids) (rows : List Row) → n + m ≤ 128
+    → length (recoveredLists (concludedBy v e (abortReport e n m) ids rows)) ≤ listSize
 unfolding recoveredLists concludedBy
-concluded-short (verdict.Refused r) idle x o n m ids rows h = omega arith
-concluded-short verdict.Pass idle x o n m ids rows h =
+concluded-short (verdict.Refused r) e n m ids rows h = omega arith
+concluded-short verdict.Pass e n m ids rows h =
     omega (
       arith,
       length-append (idList (take n (ids .completed))) (idList (take m (ids .aborted))),
@@ -113,44 +118,44 @@ concluded-short verdict.Pass idle x o n m ids rows h =
       min-le-left m (length (ids .aborted)),
     )
 
-module _ (s : Session) (tokens words aborted bytes : List ℕ) (store : Store) (area : List ℕ) where
-  done-short : (x : Recovery) (o : Outcome) (affected own : List ℕ) → length own ≤ 128 → Short (doneOf s x o affected own tokens words aborted bytes store area)
-  unfolding doneOf scopedOf
-  done-short x o affected own h =
-      if-by Short _ (not (inScope (isWhole o) own (tokens ++ aborted))) _ (λ e. refused-short _ _)
-      (λ e. concluded-short _ s x o (length tokens) (length aborted) _ _ (scope-few (isWhole o) own tokens aborted _ refl e h))
+module _ (l : ReplyLists) (m : Memory) where
+  done-short : (e : Ended) (affected own : List ℕ) → length own ≤ 128 → Short (doneOf e affected own l m)
+  unfolding doneOf settledOf
+  done-short e affected own h =
+      let whole = isWhole (e .outcome) in
+      if-by Short _ (not (inScope whole own (l .tokens ++ l .aborted))) _ (λ t. refused-short _ _)
+      (λ t.
+      let place = meant affected own in
+      concluded-short _ e (length (map place (l .tokens))) (length (map place (l .aborted))) _ _
+      (omega (arith, scope-few whole own (l .tokens) (l .aborted) _ refl t h, length-map (l .tokens) place, length-map (l .aborted) place)))
 
-  by-short : (r : RecoveryReply) (x : Recovery) → Short (replyBy r s x tokens words aborted bytes store area)
+  by-short : (r : RecoveryReply) (x : Recovery) (s : Session) → Short (replyBy r x l s m)
   unfolding replyBy
-  by-short (reply.Error e) x = refused-short _ _
-  by-short (reply.Done o) x =
-      let l = affectedOf (x .device) (x .endpoint) (store .rows) in
-      done-short x o l (tokensOf (store .rows) l) (omega (arith, length-map l (tokenIn (store .rows)), affected-most (x .device) (x .endpoint) (store .rows)))
+  by-short (reply.Error e) x s = refused-short _ _
+  by-short (reply.Done o) x s =
+      let rows = m .store .rows in
+      let a = affectedOf (x .device) (x .endpoint) rows in
+      done-short _ a (tokensOf rows a) (omega (arith, length-map a (tokenIn rows), affected-most (x .device) (x .endpoint) rows))
 
-module _ (s : Session) (fits : Bool) (r : RecoveryReply) (tokens words aborted bytes : List ℕ) (store : Store) (area : List ℕ) where
-  in-short : (f : InFlight) → Short (replyIn f s fits r tokens words aborted bytes store area)
+  in-short : (f : InFlight) (r : RecoveryReply) (s : Session) → Short (replyIn f r l s m)
   unfolding replyIn replySized
-  in-short flight.Nothing = refused-short _ _
-  in-short (flight.Submission id) = refused-short _ _
-  in-short (flight.Poll id) = refused-short _ _
-  in-short (flight.Recovery target device endpoint k) =
-      if-all Short _ _ _ (refused-short _ _) (if-all Short _ _ _ (refused-short _ _) (by-short _ tokens words aborted bytes store area r _))
-
-  replied-short : Short (recoveryReplyOf s fits r tokens words aborted bytes store area)
-  unfolding recoveryReplyOf
-  replied-short = in-short (s .«in_flight»)
+  in-short flight.Nothing r s = refused-short _ _
+  in-short (flight.Submission id) r s = refused-short _ _
+  in-short (flight.Poll id) r s = refused-short _ _
+  in-short (flight.Recovery x) r s = if-all Short _ _ _ (refused-short _ _) (if-all Short _ _ _ (refused-short _ _) (by-short r x _))
 
 -- ---- of every call
 begins-short : (b : Beginning) (w : World) → length (begunIn b w) ≤ listSize
-begins-short (Submit q bytes given packets first second) w = omega arith
+begins-short (Submit packets q) w = omega arith
 begins-short (SubmitPlan q bytes first) w = omega arith
 begins-short (Poll id) w = omega arith
-begins-short (Recover id k) w = begin-short (w .session) id k (w .store .rows) _
+begins-short (Recover id k) w = begin-short id k (w .session) (worldStore w)
 
 replies-short : (r : Replying) (w : World) → length (repliedIn r w) ≤ listSize
+unfolding recoveryReplyOf
 replies-short (ToSubmit reply) w = omega arith
 replies-short (ToPoll reply bytes) w = omega arith
-replies-short (ToRecovery reply tokens words aborted bytes) w = replied-short (w .session) _ reply tokens words aborted bytes (w .store) (w .area)
+replies-short (ToRecovery reply lists) w = in-short lists (w .lent .memory) (w .session .«in_flight») reply (w .session)
 
 lists-short : (c : Call) (w : World) → length (listsOf c w) ≤ listSize
 unfolding listsOf

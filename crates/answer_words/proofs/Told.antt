@@ -11,67 +11,44 @@ use borrow.Author.Tests.{le-ltb}
 use Rattle.chain.specs.Chain.{_if_else_}
 use Rattle.chain.proofs.Chain.{passes}
 use Rattle.words.specs.Records.{tab, splice}
-use Rattle.words.specs.Words.{flagWord, readFlag, optionU32Word, readOptionU32}
-use Rattle.words.specs.declared.OptionU32.{OptionU32}
-use Rattle.words.specs.declared.OptionU32.the-variants as u32
-use Rattle.words.proofs.Options.{low, flag-back, option-u32-back}
+use Rattle.words.specs.Words.{flagWord, readFlag}
+use Rattle.words.proofs.Options.{low, flag-back}
 use Rattle.words.proofs.Records.{tab-same, le-or-lt}
-use Rattle.words.proofs.Signed.{option-i32-says}
 use Rattle.models.specs.declared.ControlProfile.{ControlProfile}
 use Rattle.models.specs.declared.DeviceId.{DeviceId}
 use Rattle.models.specs.declared.Direction.{Direction}
 use Rattle.models.specs.declared.OperationError.{OperationError}
 use Rattle.models.specs.declared.OptionError.{OptionError}
 use Rattle.models.specs.declared.OptionError.the-variants as error
-use Rattle.models.specs.declared.OptionSetup.{OptionSetup}
-use Rattle.models.specs.declared.OptionSetup.the-variants as setup
 use Rattle.models.specs.declared.RequestMetadata.{RequestMetadata}
 use Rattle.models.specs.declared.RequestReport.{RequestReport}
 use Rattle.models.specs.declared.RequestState.{RequestState}
 use Rattle.models.specs.declared.RequestState.the-variants as state
 use Rattle.models.specs.declared.Refusal.{Refusal}
-use Rattle.models.proofs.Enums.{category-back, transfer-back, direction-back, profile-back}
+use Rattle.models.proofs.Enums.{transfer-back, direction-back, profile-back}
 use Rattle.standards.specs.Setup.{setupBytes}
-use Rattle.rows.specs.Codec.{readSetupWords, setupWords, readMetadata, readStateWords, stateWords}
-use Rattle.rows.specs.declared.codec.SetupWords.{SetupWords}
+use Rattle.rows.specs.Codec.{readMetadata, readStateWords, stateWords}
 use Rattle.rows.specs.declared.codec.StateWords.{StateWords}
-use Rattle.scope.specs.Returned.{readError, errorWords, readOptionError, optionErrorWords}
+use Rattle.scope.specs.Returned.{optionErrorWords}
+use Rattle.session.specs.declared.Recovery.{Recovery}
 use Rattle.session.specs.declared.RecoveryKind.{RecoveryKind}
 use Rattle.session.specs.declared.RecoveryKind.the-variants as kind
 use Rattle.session_words.specs.State.{readDeviceWords, readKind, recoveryWord}
 use Rattle.submissions.specs.declared.PlanSubmission.{PlanSubmission}
 use Rattle.submissions.specs.declared.Submission.{Submission}
 use Rattle.recovery.specs.declared.AbortReport.{AbortReport}
-use Rattle.recovery.specs.declared.Recovery.{Recovery}
+use Rattle.calls.specs.Fits.{ErrorFits, OptionErrorFits, DeviceFits}
 use Rattle.calls.specs.declared.Answer.{Answer}
 use Rattle.calls.specs.declared.Answer.the-variants as answer
+use Rattle.calls.proofs.Fits.{u32-back, error-back, option-error-back, setup-back}
 use Rattle.answer_words.specs.Encode.{answerSize, refusalWords, metadataTail, begunWords, planWords, reportWords, recoveringWords, recoveredWords, answerWords, written}
-use Rattle.answer_words.specs.Read.{readAnswer, U32Fits, ErrorFits, OptionErrorFits, DeviceFits, SetupFits, MetadataFits, StateFits, AnswerFits}
+use Rattle.answer_words.specs.Read.{readAnswer, MetadataFits, StateFits, AnswerFits}
 
 -- ---- what a value's word says is the value
 kind-back : (k : RecoveryKind) → readKind (recoveryWord k) ≡ k
 kind-back kind.Abort = refl
 kind-back (kind.Reset true) = refl
 kind-back (kind.Reset false) = refl
-
-u32-back : (o : OptionU32) → U32Fits o → readOptionU32 (optionU32Word o) ≡ o
-u32-back u32.None h = refl
-u32-back (u32.Some v) h = option-u32-back v h
-
-error-back : (e : OperationError) → ErrorFits e → readError (errorWords e) 0 ≡ e
-error-back e (m, o, c) =
-    rw (category-back (e .category), low 16 m, option-i32-says (e .«os_code») o, u32-back (e .«completion_code») c)
-
-option-error-back : (o : OptionError) → OptionErrorFits o → readOptionError (optionErrorWords o) 0 ≡ o
-option-error-back error.None h = refl
-option-error-back (error.Some e) h = ap error.Some (error-back e h)
-
-abbrev setupBy : SetupWords → OptionSetup
-setupBy p = readSetupWords (p .present) (p .«request_type») (p .request) (p .value) (p .index) (p .length)
-
-setup-back : (o : OptionSetup) → SetupFits o → setupBy (setupWords o) ≡ o
-setup-back setup.None h = refl
-setup-back (setup.Some p) (t, r, v, i, l) = rw (low 8 t, low 8 r, low 16 v, low 16 i, low 16 l)
 
 device-back : (d : DeviceId) → DeviceFits d → readDeviceWords (d .session) (d .generation) (d .slot) ≡ d
 device-back d h = rw (low 8 h)

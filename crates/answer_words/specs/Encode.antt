@@ -1,6 +1,6 @@
 -- Answers as words: a tag, then the answer's fields, then zeros. Assumes nothing.
 use Prim.Native.Nat.{ℕ}
-use mathlib.Core.List.{List, [], _∷_}
+use mathlib.Core.List.{List, [], _∷_, _++_}
 use lib.ListN.{length, replicate}
 use lib.Dec.{ltb}
 use Rattle.chain.specs.Chain.{_if_else_}
@@ -8,7 +8,6 @@ use Rattle.words.specs.Words.{flagWord}
 use Rattle.words.specs.Records.{splice}
 use Rattle.models.specs.Codes.{transferWord, directionWord, profileWord}
 use Rattle.models.specs.declared.Refusal.{Refusal}
-use Rattle.models.specs.declared.RequestId.{RequestId}
 use Rattle.models.specs.declared.RequestMetadata.{RequestMetadata}
 use Rattle.models.specs.declared.RequestReport.{RequestReport}
 use Rattle.standards.specs.Setup.{packetOf, setupBytes}
@@ -19,8 +18,8 @@ use Rattle.submissions.specs.declared.PlanSubmission.{PlanSubmission}
 use Rattle.submissions.specs.declared.Submission.{Submission}
 use Rattle.scope.specs.Returned.{errorWords, optionErrorWords}
 use Rattle.recovery.specs.declared.AbortReport.{AbortReport}
-use Rattle.recovery.specs.declared.Recovery.{Recovery}
-use Rattle.session_words.specs.State.{recoveryWord}
+use Rattle.session.specs.declared.Recovery.{Recovery}
+use Rattle.session_words.specs.State.{requestIdWords, deviceIdWords, recoveryWord}
 use Rattle.calls.specs.declared.Answer.{Answer}
 use Rattle.calls.specs.declared.Answer.the-variants as answer
 
@@ -31,19 +30,15 @@ answerSize = 32
 unfoldable pub refusalWords : Refusal → List ℕ
 refusalWords r = 0 ∷ r .number ∷ errorWords (r .error)
 
--- three words: session, generation, sequence
-abbrev pub idTail : RequestId → List ℕ → List ℕ
-idTail id rest = id .session ∷ id .generation ∷ id .sequence ∷ rest
-
 -- thirteen: device, endpoint, type, direction, length, SETUP
 abbrev pub metadataTail : RequestMetadata → List ℕ → List ℕ
 metadataTail m rest =
-    m .device .session ∷ m .device .generation ∷ m .device .slot ∷ m .endpoint
+    deviceIdWords (m .device) ++ m .endpoint
     ∷ transferWord (m .«transfer_type») ∷ directionWord (m .direction) ∷ m .«requested_length»
     ∷ setupTail (setupWords (m .setup)) rest
 
 unfoldable pub begunWords : Submission → List ℕ
-begunWords x = 2 ∷ idTail (x .id) (x .row ∷ metadataTail (x .metadata) (flagWord (x .«has_packets») ∷ []))
+begunWords x = 2 ∷ requestIdWords (x .id) ++ x .row ∷ metadataTail (x .metadata) (flagWord (x .«has_packets») ∷ [])
 
 -- has data, its direction, the status stage's, profile
 abbrev pub stageTail : ValidatedControlPlan → List ℕ → List ℕ
@@ -53,24 +48,23 @@ stageTail p rest =
 -- the eight SETUP bytes stand last, a word each
 unfoldable pub planWords : PlanSubmission → List ℕ
 planWords x =
-    3 ∷ idTail (x .id) (x .row ∷ metadataTail (x .plan .metadata) (stageTail (x .plan) (setupBytes (packetOf (x .plan .metadata .setup)))))
+    3 ∷ requestIdWords (x .id) ++ x .row ∷ metadataTail (x .plan .metadata) (stageTail (x .plan) (setupBytes (packetOf (x .plan .metadata .setup))))
 
 abbrev pub stateTail : StateWords → List ℕ → List ℕ
 stateTail s rest = s .tag ∷ s .a ∷ s .b ∷ s .c ∷ s .d ∷ s .e ∷ s .f ∷ rest
 
 unfoldable pub reportWords : RequestReport → List ℕ
 reportWords x =
-    4 ∷ idTail (x .id) (metadataTail (x .metadata) (stateTail (stateWords (x .state)) (flagWord (x .«logical_cancel») ∷ flagWord (x .«timed_out») ∷ [])))
+    4 ∷ requestIdWords (x .id) ++ metadataTail (x .metadata) (stateTail (stateWords (x .state)) (flagWord (x .«logical_cancel») ∷ flagWord (x .«timed_out») ∷ []))
 
 -- target, device, endpoint, and what the backend is to do
 unfoldable pub recoveringWords : Recovery → List ℕ
-recoveringWords x = 9 ∷ idTail (x .target) (x .device .session ∷ x .device .generation ∷ x .device .slot ∷ x .endpoint ∷ recoveryWord (x .kind) ∷ [])
+recoveringWords x = 9 ∷ requestIdWords (x .target) ++ deviceIdWords (x .device) ++ x .endpoint ∷ recoveryWord (x .kind) ∷ []
 
 unfoldable pub recoveredWords : AbortReport → List ℕ
 recoveredWords x =
-    10 ∷ idTail (x .target)
-    (x .device .session ∷ x .device .generation ∷ x .device .slot ∷ x .endpoint ∷ x .completed ∷ x .aborted ∷ flagWord (x .«restart_ready»)
-    ∷ optionErrorWords (x .error))
+    10 ∷ requestIdWords (x .target) ++ deviceIdWords (x .device)
+    ++ x .endpoint ∷ x .completed ∷ x .aborted ∷ flagWord (x .«restart_ready») ∷ optionErrorWords (x .error)
 
 abbrev pub answerWords : Answer → List ℕ
 answerWords (answer.Refused r) = refusalWords r

@@ -6,7 +6,8 @@ use lib.Dec.{ltb}
 use Rattle.chain.specs.Chain.{_if_else_}
 use Rattle.words.specs.Records.{splice}
 use Rattle.models.specs.declared.RequestId.{RequestId}
-use Rattle.recovery.specs.Begin.{recoverOf}
+use Rattle.recovery.specs.Recover.{recoverOf}
+use Rattle.recovery.specs.RecoveryReply.{recoveryReplyOf}
 use Rattle.recovery.specs.declared.BeginAnswer.{BeginAnswer}
 use Rattle.recovery.specs.declared.BeginAnswer.the-variants as begin
 use Rattle.recovery.specs.declared.Begun.{Begun}
@@ -15,8 +16,8 @@ use Rattle.recovery.specs.declared.Recovered.{Recovered}
 use Rattle.recovery.specs.declared.RecoveryAnswer.{RecoveryAnswer}
 use Rattle.recovery.specs.declared.RecoveryAnswer.the-variants as recovery
 use Rattle.calls.specs.Calls.{Beginning, Submit, SubmitPlan, Poll, Recover, Replying, ToSubmit, ToPoll, ToRecovery, Call, Open, Place, Move, Begin, Reply, Change, Read}
-use Rattle.answer_words.specs.Encode.{idTail}
-use Rattle.calls.specs.Step.{World, rowsMatch, recoversOf}
+use Rattle.calls.specs.Step.{World, worldStore}
+use Rattle.session_words.specs.State.{requestIdWords}
 
 -- how many words the lists have at most: two lengths, and 128 ids
 abbrev pub listSize : ℕ
@@ -27,7 +28,7 @@ tokenList tokens = length tokens ∷ tokens
 
 abbrev pub idWords : List RequestId → List ℕ
 idWords [] = []
-idWords (id ∷ ids) = idTail id (idWords ids)
+idWords (id ∷ ids) = requestIdWords id ++ idWords ids
 
 abbrev pub idList : List RequestId → List ℕ
 idList ids = length ids ∷ idWords ids
@@ -50,15 +51,15 @@ recoveredLists o = recoveredBy (o .answer) (o .ids)
 
 -- the lists of a call: those of a recovery's start and of its reply, and no others
 abbrev pub begunIn : Beginning → World → List ℕ
-begunIn (Submit q bytes given packets first second) w = []
+begunIn (Submit packets q) w = []
 begunIn (SubmitPlan q bytes first) w = []
 begunIn (Poll id) w = []
-begunIn (Recover id kind) w = begunLists (recoverOf (w .session) (rowsMatch w) id kind (w .store .rows))
+begunIn (Recover id kind) w = begunLists (recoverOf id kind (w .session) (worldStore w))
 
 abbrev pub repliedIn : Replying → World → List ℕ
 repliedIn (ToSubmit reply) w = []
 repliedIn (ToPoll reply bytes) w = []
-repliedIn (ToRecovery reply tokens words aborted bytes) w = recoveredLists (recoversOf reply tokens words aborted bytes w .result)
+repliedIn (ToRecovery reply lists) w = recoveredLists (recoveryReplyOf reply lists (w .session) (w .lent .memory) .result)
 
 unfoldable pub listsOf : Call → World → List ℕ
 listsOf (Open o) w = []

@@ -1,28 +1,19 @@
 -- What an answer's words say, and the answers that they tell whole: those with every number in the range of its type. Assumes nothing.
 use Prim.Native.Nat.{ℕ, _+_, _<_, _^_}
-use mathlib.Core.Bool.{true}
 use mathlib.Core.List.{List}
-use mathlib.Core.Path.{_≡_}
 use lib.Dec.{eqb}
 use lib.ListN.{getD}
 use Rattle.chain.specs.Chain.{_if_else_}
 use Rattle.words.specs.Records.{tab}
-use Rattle.words.specs.Words.{readFlag, isSigned}
-use Rattle.words.specs.declared.OptionU32.{OptionU32}
-use Rattle.words.specs.declared.OptionU32.the-variants as u32
+use Rattle.words.specs.Words.{readFlag}
 use Rattle.models.specs.Codes.{readDirection, readProfile}
-use Rattle.models.specs.declared.DeviceId.{DeviceId}
-use Rattle.models.specs.declared.OperationError.{OperationError}
-use Rattle.models.specs.declared.OptionError.{OptionError}
-use Rattle.models.specs.declared.OptionError.the-variants as error
-use Rattle.models.specs.declared.OptionSetup.{OptionSetup}
-use Rattle.models.specs.declared.OptionSetup.the-variants as setup
 use Rattle.models.specs.declared.RequestMetadata.{RequestMetadata}
 use Rattle.models.specs.declared.RequestState.{RequestState}
 use Rattle.models.specs.declared.RequestState.the-variants as state
 use Rattle.rows.specs.Codec.{readMetadata, readStateWords}
 use Rattle.scope.specs.Returned.{readError, readOptionError}
 use Rattle.session_words.specs.State.{readRequestId, readDeviceId, readKind}
+use Rattle.calls.specs.Fits.{U32Fits, ErrorFits, OptionErrorFits, DeviceFits, SetupFits}
 use Rattle.calls.specs.declared.Answer.{Answer}
 use Rattle.calls.specs.declared.Answer.the-variants as answer
 
@@ -71,25 +62,6 @@ readAnswer w =
     })
 
 -- ---- in the range of its type
-abbrev pub U32Fits : OptionU32 → Type 0
-U32Fits u32.None = Unit {0}
-U32Fits (u32.Some v) = v < 2 ^ 32
-
-abbrev pub ErrorFits : OperationError → Type 0
-ErrorFits e = (e .message < 2 ^ 16) × (isSigned (e .«os_code») ≡ true) × U32Fits (e .«completion_code»)
-
-abbrev pub OptionErrorFits : OptionError → Type 0
-OptionErrorFits error.None = Unit {0}
-OptionErrorFits (error.Some e) = ErrorFits e
-
-abbrev pub DeviceFits : DeviceId → Type 0
-DeviceFits d = d .slot < 2 ^ 8
-
-abbrev pub SetupFits : OptionSetup → Type 0
-SetupFits setup.None = Unit {0}
-SetupFits (setup.Some p) =
-    (p .«request_type» < 2 ^ 8) × (p .request < 2 ^ 8) × (p .value < 2 ^ 16) × (p .index < 2 ^ 16) × (p .length < 2 ^ 16)
-
 abbrev pub MetadataFits : RequestMetadata → Type 0
 MetadataFits m = DeviceFits (m .device) × (m .endpoint < 2 ^ 8) × SetupFits (m .setup)
 

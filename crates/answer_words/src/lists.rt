@@ -6,11 +6,11 @@ use recovery::Recovered;
 use recovery::RecoveryAnswer;
 use words::slices;
 ghost use mathlib.Core.Path.{_≡_};
-ghost use mathlib.Core.List.{[], _++_};
+ghost use mathlib.Core.List.{_++_};
 ghost use Prim.Native.Nat.{_+_, _*_, _≤_, min};
 ghost use lib.ListN.{length, take};
 ghost use Rattle.words.specs.Records.{splice};
-ghost use Rattle.answer_words.specs.Encode.{idTail};
+ghost use Rattle.session_words.specs.State.{requestIdWords};
 ghost use Rattle.answer_words.specs.Lists.{tokenList, idList, begunLists, recoveredLists, putLists};
 
 // How many words the lists of an answer have at most.
@@ -36,7 +36,7 @@ fn put_tokens(lists: &mut [u64], tokens: [u64; 128], count: u64)
 // Three words.
 fn put_id(lists: &mut [u64], at: usize, id: RequestId)
     requires { ⌜ at + 3 ≤ length (now lists) ⌝ }
-    ensures { λ _. ⌜ now (lists .exit) ≡ splice at (idTail id []) (now (lists .entry)) ⌝ }
+    ensures { λ _. ⌜ now (lists .exit) ≡ splice at (requestIdWords id) (now (lists .entry)) ⌝ }
 {
     slices::copy_words(lists, at, &[id.session, id.generation, id.sequence], 3);
 }

@@ -14,12 +14,12 @@ use Rattle.words.specs.Records.{tab, part}
 use Rattle.words.specs.Words.{readFlag, readOptionU64}
 use Rattle.words.proofs.Records.{part-length}
 use Rattle.scope.specs.Returned.{completionWords, readOptionError, readCompletion}
-use Rattle.session_words.specs.State.{readRequestId}
+use Rattle.session_words.specs.State.{readRequestId, requestIdWords}
 use Rattle.session.specs.declared.RecoveryKind.the-variants as kind
 use Rattle.calls.specs.Calls.{Call, Open, Place, Device, Port, Endpoints, Reconcile, Move, Acquire, Initialize, Close, Begin, Submit, SubmitPlan, Recover, Reply, ToSubmit, ToPoll, ToRecovery, Change, Cancel, Timeout, Read, Reports, HeldCount, HeldBytes}
-use Rattle.call_words.specs.Parts.{isZero, isFlag, isByte, areZero, byFlag, zeros, requestIdWords, backendCompletionWords, isError, isOptionError, readReading, isCompletion}
+use Rattle.call_words.specs.Parts.{isZero, isFlag, isByte, areZero, byFlag, zeros, backendCompletionWords, isError, isOptionError, readReading, isCompletion}
 use Rattle.call_words.specs.Form.{has, isOpenCall, isSetDevice, isSetPort, isSetEndpoints, isSetReconcile, isAcquire, isInitialize, isClose, isSubmit, isPlan, isSubmitReply, isPollReply, isReports, isReset, isRecovered, isRecoveryReply, isPlacing, isMoving, isSubmission, isReplying, isReporting, isRecoveryCall, isCall}
-use Rattle.call_words.specs.Arguments.{readOpening, readSnapshot, readPortRow, readAcquireReply, readSpec, readPlan, readSubmitReply, readPollReply, readOptionId, readRecoveryReply, readCompleted, readCompletions, readAborted}
+use Rattle.call_words.specs.Arguments.{readOpening, readSnapshot, readPortRow, readAcquireReply, readSpec, readReadings, readRequest, readPlan, readSubmitReply, readPollReply, readOptionId, readRecoveryReply, readCompleted, readCompletions, readAborted, readLists}
 use Rattle.call_words.specs.Decode.{readPlacing, readMoving, readSubmission, readReplying, readChanging, readReporting, readRecovering, readCall}
 use Rattle.call_words.specs.Encode.{recoveryReplyWords, callWords}
 use Rattle.call_words.proofs.Told.{and4, opening-told, device-told, port-told, endpoints-told, reconcile-told, acquire-told, initialize-told, close-told, submit-reply-told, reports-told, reset-told, recovery-reply-told, submit-told, plan-told}
@@ -111,8 +111,8 @@ module _ (w : List ℕ) where
       (λ k z. (leb-true 27 (length w) z, rw k))
 
   submit-says : (bytes : List ℕ) → getD w 0 0 ≡ 8 → isSubmit w ≡ true
-      → Says (Begin (Submit (readSpec w) bytes (readFlag (getD w 26 0)) (drop 27 w) (readReading w 14) (readReading w 20)))
-  unfolding readSpec callWords
+      → Says (Begin (Submit (drop 27 w) (readRequest w bytes)))
+  unfolding readSpec readReadings callWords
   submit-says bytes e t =
       let p = submit-told w t in
       let g = packets (p .7) in
@@ -207,7 +207,7 @@ module _ (w : List ℕ) where
       (take-append-drop n (drop 10 w))
 
   recovery-reply-says : (bytes : List ℕ) → getD w 0 0 ≡ 24 → isRecoveryReply w ≡ true
-      → Says (Reply (ToRecovery (readRecoveryReply w) (readCompleted w) (readCompletions w) (readAborted w) bytes))
+      → Says (Reply (ToRecovery (readRecoveryReply w) (readLists w bytes)))
   unfolding readCompleted readCompletions readAborted callWords
   recovery-reply-says bytes e t =
       let n = getD w 8 0 in

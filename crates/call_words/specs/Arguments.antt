@@ -11,6 +11,7 @@ use Rattle.models.specs.declared.ControlPlan.{ControlPlan}
 use Rattle.models.specs.declared.DeviceSnapshot.{DeviceSnapshot}
 use Rattle.models.specs.declared.RequestSpec.{RequestSpec}
 use Rattle.bus.specs.declared.PortRow.{PortRow}
+use Rattle.targets.specs.declared.Readings.{Readings}
 use Rattle.session.specs.declared.lifecycle.AcquireReply.{AcquireReply}
 use Rattle.session.specs.declared.lifecycle.AcquireReply.the-variants as acquire
 use Rattle.session.specs.declared.lifecycle.Opening.{Opening}
@@ -18,13 +19,15 @@ use Rattle.reports.specs.declared.OptionId.{OptionId}
 use Rattle.reports.specs.declared.OptionId.the-variants as option
 use Rattle.polls.specs.declared.PollReply.{PollReply}
 use Rattle.polls.specs.declared.PollReply.the-variants as poll
+use Rattle.submissions.specs.Submit.{Request, request}
 use Rattle.submissions.specs.declared.SubmitReply.{SubmitReply}
 use Rattle.submissions.specs.declared.SubmitReply.the-variants as submit
 use Rattle.scope.specs.Returned.{completionWords, readError, readOptionError, readCompletion}
+use Rattle.recovery.specs.RecoveryReply.{ReplyLists, replyLists}
 use Rattle.recovery.specs.declared.RecoveryReply.{RecoveryReply}
 use Rattle.recovery.specs.declared.RecoveryReply.the-variants as recovery
 use Rattle.session_words.specs.State.{readDeviceId, readRequestId}
-use Rattle.call_words.specs.Parts.{readPortId, readSetup, readOptionSetup, readStage, readStatus}
+use Rattle.call_words.specs.Parts.{readPortId, readSetup, readOptionSetup, readReading, readStage, readStatus}
 
 unfoldable pub readOpening : List ℕ → Opening
 readOpening w = record {
@@ -33,8 +36,7 @@ readOpening w = record {
   «recovery_revision» = readOptionU64 (getD w 3 0) (getD w 4 0);
   «has_ports» = readFlag (getD w 5 0);
   «port_count» = getD w 6 0 % 2 ^ 8;
-  «row_count» = getD w 7 0;
-  «row_bytes» = getD w 8 0;
+  size = record { «row_count» = getD w 7 0; «row_bytes» = getD w 8 0 };
 }
 
 unfoldable pub readSnapshot : List ℕ → DeviceSnapshot
@@ -55,6 +57,12 @@ readSpec w = record {
   length = getD w 7 0;
   setup = readOptionSetup w 8;
 }
+
+unfoldable pub readReadings : List ℕ → Readings
+readReadings w = record { first = readReading w 14; second = readReading w 20 }
+
+abbrev pub readRequest : List ℕ → List ℕ → Request
+readRequest w bytes = request (readSpec w) bytes (readFlag (getD w 26 0)) (readReadings w)
 
 unfoldable pub readPlan : List ℕ → ControlPlan
 readPlan w = record {
@@ -93,3 +101,6 @@ readCompletions w = part (10 + getD w 8 0) (getD w 9 0 * completionWords) w
 
 unfoldable pub readAborted : List ℕ → List ℕ
 readAborted w = drop (10 + getD w 8 0 + getD w 9 0 * completionWords) w
+
+abbrev pub readLists : List ℕ → List ℕ → ReplyLists
+readLists w bytes = replyLists (readCompleted w) (readCompletions w) (readAborted w) bytes

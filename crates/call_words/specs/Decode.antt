@@ -10,7 +10,7 @@ use Rattle.scope.specs.Returned.{readOptionError}
 use Rattle.calls.specs.Calls.{Call, Open, Place, Device, Port, Endpoints, Reconcile, Move, Acquire, Initialize, Close, Begin, Submit, SubmitPlan, Poll, Recover, Reply, ToSubmit, ToPoll, ToRecovery, Change, Cancel, Timeout, Reclaim, Read, Status, Reports, CountReports, CompletedBytes, HeldCount, HeldBytes}
 use Rattle.session_words.specs.State.{readRequestId}
 use Rattle.call_words.specs.Parts.{readReading}
-use Rattle.call_words.specs.Arguments.{readOpening, readSnapshot, readPortRow, readAcquireReply, readSpec, readPlan, readSubmitReply, readPollReply, readOptionId, readRecoveryReply, readCompleted, readCompletions, readAborted}
+use Rattle.call_words.specs.Arguments.{readOpening, readSnapshot, readPortRow, readAcquireReply, readRequest, readPlan, readSubmitReply, readPollReply, readOptionId, readRecoveryReply, readLists}
 
 -- 0 to 4
 unfoldable pub readPlacing : ℕ → List ℕ → Call
@@ -31,7 +31,7 @@ readMoving n w =
 -- 8 and 9
 unfoldable pub readSubmission : ℕ → List ℕ → List ℕ → Call
 readSubmission n w bytes =
-    Begin (Submit (readSpec w) bytes (readFlag (getD w 26 0)) (drop 27 w) (readReading w 14) (readReading w 20)) if eqb n 8 else
+    Begin (Submit (drop 27 w) (readRequest w bytes)) if eqb n 8 else
     Begin (SubmitPlan (readPlan w) bytes (readReading w 14))
 
 -- 10 to 12
@@ -63,7 +63,7 @@ unfoldable pub readRecovering : ℕ → List ℕ → List ℕ → Call
 readRecovering n w bytes =
     Begin (Recover (readRequestId w 1) kind.Abort) if eqb n 22 else
     Begin (Recover (readRequestId w 1) (kind.Reset (readFlag (getD w 4 0)))) if eqb n 23 else
-    Reply (ToRecovery (readRecoveryReply w) (readCompleted w) (readCompletions w) (readAborted w) bytes)
+    Reply (ToRecovery (readRecoveryReply w) (readLists w bytes))
 
 unfoldable pub readCall : List ℕ → List ℕ → Call
 readCall w bytes =

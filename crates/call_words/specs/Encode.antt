@@ -20,14 +20,15 @@ use Rattle.scope.specs.Returned.{completionWords, errorWords, optionErrorWords}
 use Rattle.recovery.specs.declared.RecoveryReply.{RecoveryReply}
 use Rattle.recovery.specs.declared.RecoveryReply.the-variants as recovery
 use Rattle.calls.specs.Calls.{Call, Open, Placing, Place, Device, Port, Endpoints, Reconcile, Moving, Move, Acquire, Initialize, Close, Beginning, Begin, Submit, SubmitPlan, Poll, Recover, Replying, Reply, ToSubmit, ToPoll, ToRecovery, Changing, Change, Cancel, Timeout, Reclaim, Reading, Read, Status, Reports, CountReports, CompletedBytes, HeldCount, HeldBytes}
-use Rattle.call_words.specs.Parts.{zeros, requestIdWords, deviceIdWords, portIdWords, optionNumberWords, packetWords, optionSetupWords, readingWords, backendCompletionWords, stageWords, statusWord}
+use Rattle.session_words.specs.State.{requestIdWords, deviceIdWords}
+use Rattle.call_words.specs.Parts.{zeros, portIdWords, optionNumberWords, packetWords, optionSetupWords, readingWords, backendCompletionWords, stageWords, statusWord}
 
 -- ---- the arguments of several words
 
 abbrev pub openingWords : Opening → List ℕ
 openingWords o =
     o .session ∷ o .«first_sequence» ∷ optionNumberWords (o .«recovery_revision»)
-    ++ flagWord (o .«has_ports») ∷ o .«port_count» ∷ o .«row_count» ∷ o .«row_bytes» ∷ []
+    ++ flagWord (o .«has_ports») ∷ o .«port_count» ∷ o .size .«row_count» ∷ o .size .«row_bytes» ∷ []
 
 abbrev pub acquireWords : AcquireReply → List ℕ
 acquireWords acquire.Acquired = zeros 6
@@ -73,8 +74,8 @@ movingWords (Initialize e) = 6 ∷ optionErrorWords e
 movingWords (Close fresh e) = 7 ∷ optionNumberWords fresh ++ optionErrorWords e
 
 abbrev pub beginningWords : Beginning → List ℕ
-beginningWords (Submit q bytes given packets first second) =
-    8 ∷ specWords q ++ readingWords first ++ readingWords second ++ flagWord given ∷ packets
+beginningWords (Submit packets q) =
+    8 ∷ specWords (q .spec) ++ readingWords (q .readings .first) ++ readingWords (q .readings .second) ++ flagWord (q .given) ∷ packets
 beginningWords (SubmitPlan p bytes reading) = 9 ∷ controlPlanWords p ++ readingWords reading
 beginningWords (Poll id) = 11 ∷ requestIdWords id
 beginningWords (Recover id kind.Abort) = 22 ∷ requestIdWords id
@@ -83,8 +84,8 @@ beginningWords (Recover id (kind.Reset preserve)) = 23 ∷ requestIdWords id ++ 
 abbrev pub replyingWords : Replying → List ℕ
 replyingWords (ToSubmit r) = 10 ∷ submitReplyWords r
 replyingWords (ToPoll r bytes) = 12 ∷ pollReplyWords r
-replyingWords (ToRecovery r completed completions aborted bytes) =
-    24 ∷ recoveryReplyWords r ++ length completed ∷ length completions / completionWords ∷ completed ++ completions ++ aborted
+replyingWords (ToRecovery r l) =
+    24 ∷ recoveryReplyWords r ++ length (l .tokens) ∷ length (l .completions) / completionWords ∷ l .tokens ++ l .completions ++ l .aborted
 
 abbrev pub changingNumber : Changing → ℕ
 changingNumber Cancel = 13
@@ -111,7 +112,7 @@ callWords (Read r) = readingCallWords r
 -- ---- the bytes lent beside the words
 
 abbrev pub beginningBytes : Beginning → List ℕ
-beginningBytes (Submit q bytes given packets first second) = bytes
+beginningBytes (Submit packets q) = q .bytes
 beginningBytes (SubmitPlan p bytes reading) = bytes
 beginningBytes (Poll id) = []
 beginningBytes (Recover id k) = []
@@ -119,7 +120,7 @@ beginningBytes (Recover id k) = []
 abbrev pub replyingBytes : Replying → List ℕ
 replyingBytes (ToSubmit r) = []
 replyingBytes (ToPoll r bytes) = bytes
-replyingBytes (ToRecovery r completed completions aborted bytes) = bytes
+replyingBytes (ToRecovery r l) = l .bytes
 
 abbrev pub callBytes : Call → List ℕ
 callBytes (Open o) = []

@@ -3,4 +3,4 @@ pub mod Form
 pub mod Arguments
 pub mod Decode
 pub mod Encode
-pub mod Typed
+pub mod Fits

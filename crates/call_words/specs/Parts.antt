@@ -9,7 +9,6 @@ use Rattle.words.specs.Words.{flagWord, optionU32Word, optionU64Words}
 use Rattle.words.specs.declared.OptionU64.{OptionU64}
 use Rattle.models.specs.Codes.{readDirection, directionWord}
 use Rattle.models.specs.declared.BackendCompletion.{BackendCompletion}
-use Rattle.models.specs.declared.DeviceId.{DeviceId}
 use Rattle.models.specs.declared.OptionDirection.{OptionDirection}
 use Rattle.models.specs.declared.OptionDirection.the-variants as direction
 use Rattle.models.specs.declared.OptionSetup.{OptionSetup}
@@ -18,7 +17,6 @@ use Rattle.models.specs.declared.OptionStage.the-variants as stage
 use Rattle.models.specs.declared.PortId.{PortId}
 use Rattle.models.specs.declared.PortReading.{PortReading}
 use Rattle.models.specs.declared.PortReading.the-variants as reading
-use Rattle.models.specs.declared.RequestId.{RequestId}
 use Rattle.models.specs.declared.SetupPacket.{SetupPacket}
 use Rattle.rows.specs.Codec.{readSetupWords, setupWords, setupTail}
 use Rattle.scope.specs.Returned.{readError, errorWords, optionErrorWords}
@@ -65,12 +63,6 @@ isBusId w at = isByte w (at + 2)
 
 abbrev pub readPortId : List ℕ → ℕ → PortId
 readPortId w at = record { session = getD w at 0; generation = getD w (at + 1) 0; number = getD w (at + 2) 0 % 2 ^ 8 }
-
-abbrev pub requestIdWords : RequestId → List ℕ
-requestIdWords x = x .session ∷ x .generation ∷ x .sequence ∷ []
-
-abbrev pub deviceIdWords : DeviceId → List ℕ
-deviceIdWords x = x .session ∷ x .generation ∷ x .slot ∷ []
 
 abbrev pub portIdWords : PortId → List ℕ
 portIdWords x = x .session ∷ x .generation ∷ x .number ∷ []

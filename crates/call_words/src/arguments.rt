@@ -18,10 +18,12 @@ use rows::codec;
 use scope::returned;
 use scope::returned::error_at;
 use scope::returned::option_error_at;
+use session::Size;
 use session::lifecycle::AcquireReply;
 use session::lifecycle::Opening;
 use session_words::state;
 use submissions::SubmitReply;
+use targets::Readings;
 use words::slices;
 use words::slices::word_at;
 ghost use mathlib.Core.Path.{_≡_};
@@ -30,7 +32,7 @@ ghost use lib.ListN.{getD, take, drop};
 ghost use Rattle.scope.specs.Returned.{completionWords};
 ghost use Rattle.session_words.specs.State.{readDeviceId, readRequestId};
 ghost use Rattle.call_words.specs.Parts.{readPortId, readSetup, readReading, readStage, readStatus};
-ghost use Rattle.call_words.specs.Arguments.{readOpening, readSnapshot, readPortRow, readAcquireReply, readSpec, readPlan, readSubmitReply, readPollReply, readOptionId, readRecoveryReply, readCompleted, readCompletions, readAborted};
+ghost use Rattle.call_words.specs.Arguments.{readOpening, readSnapshot, readPortRow, readAcquireReply, readSpec, readReadings, readPlan, readSubmitReply, readPollReply, readOptionId, readRecoveryReply, readCompleted, readCompletions, readAborted};
 
 // How many words a completion of a recovery's reply has.
 pub(crate) const COMPLETION: usize = 11;
@@ -79,8 +81,10 @@ pub fn opening(w: &[u64]) -> Opening
         recovery_revision: words::to_option_u64(word_at(w, 3), word_at(w, 4)),
         has_ports: words::to_flag(word_at(w, 5)),
         port_count: (word_at(w, 6) % 256) as u8,
-        row_count: word_at(w, 7),
-        row_bytes: word_at(w, 8),
+        size: Size {
+            row_count: word_at(w, 7),
+            row_bytes: word_at(w, 8),
+        },
     }
 }
 
@@ -130,6 +134,15 @@ pub fn spec(w: &[u64]) -> RequestSpec
         direction: codes::to_direction(word_at(w, 6)),
         length: word_at(w, 7),
         setup,
+    }
+}
+
+pub fn readings(w: &[u64]) -> Readings
+    ensures { λ r. ⌜ r ≡ readReadings (now (w .entry)) ⌝ }
+{
+    Readings {
+        first: reading_at(w, 14),
+        second: reading_at(w, 20),
     }
 }
 

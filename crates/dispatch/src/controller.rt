@@ -11,8 +11,9 @@ use words::slices::word_at;
 ghost use mathlib.Core.Path.{_≡_};
 ghost use Prim.Native.Nat.{_%_, _^_};
 ghost use lib.ListN.{getD};
-ghost use Rattle.session.specs.Lent.{storeOut, busOut};
-ghost use Rattle.calls.specs.Step.{after, stepOf};
+ghost use Rattle.chain.specs.After.{after};
+ghost use Rattle.session.specs.Lent.{memory, lent, storeOut, busOut};
+ghost use Rattle.calls.specs.Step.{stepOf};
 ghost use Rattle.call_words.specs.Decode.{readPlacing, readMoving};
 ghost use Rattle.dispatch.specs.Slices.{worldIn, StepsRows};
 
@@ -31,7 +32,7 @@ pub fn place_call(
     area: &[u8],
     call: &[u64],
 ) -> Outcome
-    ensures { λ r. ⌜ after r (busOut bus) (storeOut rows) (now (area .entry))
+    ensures { λ r. ⌜ after r (lent (busOut bus) (memory (storeOut rows) (now (area .entry))))
         ≡ stepOf (readPlacing number (now (call .entry))) (worldIn session bus rows area) ⌝ }
 {
     if number == 0 {

@@ -7,9 +7,11 @@ use session::Session;
 use session_words::state;
 use words::slices::word_at;
 ghost use mathlib.Core.Path.{_≡_};
+ghost use Rattle.chain.specs.After.{after};
+ghost use Rattle.session.specs.Lent.{lentOut};
 ghost use Rattle.call_words.specs.Decode.{readCall};
-ghost use Rattle.dispatch.specs.Apply.{ran, runOf, ranOn, done, dispatchOf};
-ghost use Rattle.dispatch.specs.Slices.{worldIn, afterOut, lentIn, lentOut};
+ghost use Rattle.dispatch.specs.Apply.{ran, runOf, ranOn, dispatchOf};
+ghost use Rattle.dispatch.specs.Slices.{worldIn, buffersIn, buffersOut};
 
 mod controller;
 mod requests;
@@ -23,7 +25,7 @@ fn step(
     bytes: &[u8],
     lists: &mut [u64],
 ) -> Outcome
-    ensures { λ r. ⌜ ran (afterOut r bus rows area) (now (lists .exit))
+    ensures { λ r. ⌜ ran (after r (lentOut bus rows area)) (now (lists .exit))
         ≡ runOf (readCall (now (call .entry)) (now (bytes .entry))) (worldIn session bus rows area)
         (now (lists .entry)) ⌝ }
 {
@@ -60,8 +62,8 @@ fn answer(
     out: &mut [u64],
     lists: &mut [u64],
 )
-    ensures { λ _. ⌜ lentOut session bus rows area out lists
-        ≡ ranOn (readCall (now (call .entry)) (now (bytes .entry))) (lentIn session bus rows area out lists) ⌝ }
+    ensures { λ _. ⌜ buffersOut session bus rows area out lists
+        ≡ ranOn (readCall (now (call .entry)) (now (bytes .entry))) (buffersIn session bus rows area out lists) ⌝ }
 {
     let before = state::to_session(session);
     let outcome = step(before, bus, rows, area, call, bytes, lists);
@@ -83,8 +85,8 @@ pub fn apply(
     out: &mut [u64],
     lists: &mut [u64],
 ) -> u64
-    ensures { λ r. ⌜ done r (lentOut session bus rows area out lists)
-        ≡ dispatchOf (now (call .entry)) (now (bytes .entry)) (lentIn session bus rows area out lists) ⌝ }
+    ensures { λ r. ⌜ after r (buffersOut session bus rows area out lists)
+        ≡ dispatchOf (now (call .entry)) (now (bytes .entry)) (buffersIn session bus rows area out lists) ⌝ }
 {
     if !form::is_call(call) {
         return 1;

@@ -6,7 +6,8 @@ use calls::Outcome;
 use calls::answers;
 use polls::poll;
 use polls::poll_reply;
-use recovery::begin;
+use recovery::recover;
+use recovery::recovery_reply;
 use reports::change;
 use reports::status;
 use session::Session;
@@ -17,10 +18,12 @@ use submissions::submit_reply;
 use words::slices;
 use words::slices::word_at;
 ghost use mathlib.Core.Path.{_≡_};
+ghost use Rattle.chain.specs.After.{after};
+ghost use Rattle.session.specs.Lent.{lentOut};
 ghost use Rattle.calls.specs.Answers.{outcome};
 ghost use Rattle.calls.specs.Step.{stepOf};
 ghost use Rattle.call_words.specs.Decode.{readSubmission, readReplying, readChanging, readReporting, readRecovering};
-ghost use Rattle.dispatch.specs.Slices.{worldIn, afterOut, StepsRows, StepsStore, ReadsStore, RunsStore};
+ghost use Rattle.dispatch.specs.Slices.{worldIn, StepsRows, StepsMemory, ReadsMemory, RunsMemory};
 
 // 8 and 9: submissions.
 pub fn submit_call(
@@ -32,15 +35,14 @@ pub fn submit_call(
     call: &[u64],
     bytes: &[u8],
 ) -> Outcome
-    ensures { λ r. ⌜ afterOut r bus rows area
+    ensures { λ r. ⌜ after r (lentOut bus rows area)
         ≡ stepOf (readSubmission number (now (call .entry)) (now (bytes .entry))) (worldIn session bus rows area) ⌝ }
 {
-    let first = arguments::reading_at(call, 14);
     if number == 8 {
         let q = arguments::spec(call);
         let given = words::to_flag(word_at(call, 26));
         let packets = slices::rest(call, 27);
-        let second = arguments::reading_at(call, 20);
+        let readings = arguments::readings(call);
         return answers::of_submitted(submit::submit_request_packets(
             session,
             bus,
@@ -50,11 +52,11 @@ pub fn submit_call(
             bytes,
             given,
             packets,
-            first,
-            second,
+            readings,
         ));
     }
     let q = arguments::plan(call);
+    let first = arguments::reading_at(call, 14);
     answers::of_planned(plan::submit_control_plan(session, bus, rows, area, q, bytes, first))
 }
 
@@ -67,7 +69,7 @@ pub fn reply_call(
     call: &[u64],
     bytes: &[u8],
 ) -> Outcome
-    ensures { λ r. ⌜ StepsStore r (readReplying number (now (call .entry)) (now (bytes .entry))) session rows area ⌝ }
+    ensures { λ r. ⌜ StepsMemory r (readReplying number (now (call .entry)) (now (bytes .entry))) session rows area ⌝ }
 {
     if number == 10 {
         let answer = arguments::submit_reply(call);
@@ -103,14 +105,14 @@ pub fn report_call(
     area: &[u8],
     call: &[u64],
 ) -> Outcome
-    ensures { λ r. ⌜ ReadsStore r (readReporting number (now (call .entry))) session rows area ⌝ }
+    ensures { λ r. ⌜ ReadsMemory r (readReporting number (now (call .entry))) session rows area ⌝ }
 {
     let answer = report_answer(number, session, rows, area, call);
     Outcome { answer, session }
 }
 
 fn report_answer(number: u64, session: Session, rows: &[u64], area: &[u8], call: &[u64]) -> Answer
-    ensures { λ r. ⌜ ReadsStore (outcome r session) (readReporting number (now (call .entry))) session rows area ⌝ }
+    ensures { λ r. ⌜ ReadsMemory (outcome r session) (readReporting number (now (call .entry))) session rows area ⌝ }
 {
     let id = state::id_at(call, 1);
     if number == 16 {
@@ -142,18 +144,18 @@ pub fn recover_call(
     bytes: &[u8],
     lists: &mut [u64],
 ) -> Outcome
-    ensures { λ r. ⌜ RunsStore r (readRecovering number (now (call .entry)) (now (bytes .entry)))
+    ensures { λ r. ⌜ RunsMemory r (readRecovering number (now (call .entry)) (now (bytes .entry)))
         session rows area lists ⌝ }
 {
     let id = state::id_at(call, 1);
     if number == 22 {
-        let begun = begin::abort_request(session, rows, id);
+        let begun = recover::abort_request(session, rows, id);
         lists::write_begun(lists, begun);
         return answers::of_begun(begun);
     }
     if number == 23 {
         let preserve = words::to_flag(word_at(call, 4));
-        let begun = begin::reset_endpoint_request(session, rows, id, preserve);
+        let begun = recover::reset_endpoint_request(session, rows, id, preserve);
         lists::write_begun(lists, begun);
         return answers::of_begun(begun);
     }
@@ -168,13 +170,13 @@ fn recovered(
     bytes: &[u8],
     lists: &mut [u64],
 ) -> Outcome
-    ensures { λ r. ⌜ RunsStore r (readRecovering 24 (now (call .entry)) (now (bytes .entry))) session rows area lists ⌝ }
+    ensures { λ r. ⌜ RunsMemory r (readRecovering 24 (now (call .entry)) (now (bytes .entry))) session rows area lists ⌝ }
 {
     let answer = arguments::backend_abort(call);
     let tokens = arguments::completed(call);
     let completions = arguments::completions(call);
     let aborted = arguments::aborted(call);
-    let recovered = recovery::reply::recovery_reply(
+    let recovered = recovery_reply::recovery_reply(
         session,
         rows,
         area,

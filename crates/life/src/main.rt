@@ -20,6 +20,7 @@ use reports::OptionId;
 use reports::change;
 use reports::status;
 use session::Session;
+use session::Size;
 use session::lifecycle;
 use session::lifecycle::AcquireReply;
 use session::lifecycle::Opened;
@@ -29,6 +30,7 @@ use submissions::SubmitReply;
 use submissions::Submitted;
 use submissions::submit;
 use submissions::submit_reply;
+use targets::Readings;
 use texts::print;
 use words::OptionI32;
 use words::OptionU32;
@@ -43,8 +45,10 @@ fn opening(row_count: u64, row_bytes: u64) -> Opening {
         recovery_revision: OptionU64::Some(0),
         has_ports: true,
         port_count: 1,
-        row_count,
-        row_bytes,
+        size: Size {
+            row_count,
+            row_bytes,
+        },
     }
 }
 
@@ -123,8 +127,10 @@ fn submit_bulk(
         b"",
         false,
         &none,
-        word,
-        word,
+        Readings {
+            first: word,
+            second: word,
+        },
     )
 }
 

@@ -13,7 +13,7 @@ use Rattle.chain.proofs.Chain.{caseB, both, if-all}
 use Rattle.words.specs.Words.{optionU64Words}
 use Rattle.words.proofs.Options.{low}
 use Rattle.models.specs.Codes.{readController, controllerWord}
-use Rattle.session_words.specs.State.{sessionSize, portsWords, portsIn, revisionIn, stallWords, stallIn, readKind, recoveryWord, flightWords, flightIn, portsTail, revisionTail, stallTail, flightTail, readSession, sessionWords, standsAt, portsStand, revisionStands, stallStands, flightStands, isSession, Kept, keptOf, keptAs}
+use Rattle.session_words.specs.State.{sessionSize, portsWords, portsIn, revisionIn, stallWords, stallIn, readKind, recoveryWord, flightWords, flightIn, portsTail, revisionTail, stallTail, flightTail, readSession, sessionWords, standsAt, isSession, Kept, keptOf, keptAs}
 
 -- ---- words in a list
 and-true : (a : Bool) → (a && true) ≡ a
@@ -74,20 +74,32 @@ controller-same (suc (suc (suc (suc (suc n))))) =
     let c = suc (suc (suc (suc (suc n)))) in
     ne-eqb c 4 (λ q. omega arith) ∙ sym (le-ltb c 5 (omega arith))
 
--- ---- each part of a session's words
+-- ---- each part of a session's words that may be missing has the words of what it says
 module _ (w : List ℕ) where
+  abbrev portsStand : Bool
+  portsStand = standsAt w 3 (portsTail (portsWords (portsIn w)) [])
+
+  abbrev revisionStands : Bool
+  revisionStands = standsAt w 7 (revisionTail (optionU64Words (revisionIn w)) [])
+
+  abbrev stallStands : Bool
+  stallStands = standsAt w 9 (stallTail (stallWords (stallIn w)) [])
+
+  abbrev flightStands : Bool
+  flightStands = standsAt w 15 (flightTail (flightWords (flightIn w)) [])
+
   module _ (p s c : ℕ) (ep : p ≡ getD w 3 0) (es : s ≡ getD w 4 0) (ec : c ≡ getD w 5 0) where
-    pub no-ports : p ≡ 0 → (eqb s 0 && eqb c 0) ≡ portsStand w
+    pub no-ports : p ≡ 0 → (eqb s 0 && eqb c 0) ≡ portsStand
     no-ports e = rw (← ep, ← es, ← ec, e, and-true (eqb c 0))
 
-    pub some-ports : (p ≡ 0 → ⊥) → (eqb p 1 && ltb c 256) ≡ portsStand w
+    pub some-ports : (p ≡ 0 → ⊥) → (eqb p 1 && ltb c 256) ≡ portsStand
     some-ports e = rw (← ep, ← es, ← ec, ne-eqb p 0 e, same s, byte-same c, and-true (ltb c 256))
 
   module _ (p v : ℕ) (ep : p ≡ getD w 7 0) (ev : v ≡ getD w 8 0) where
-    pub no-revision : p ≡ 0 → eqb v 0 ≡ revisionStands w
+    pub no-revision : p ≡ 0 → eqb v 0 ≡ revisionStands
     no-revision e = rw (← ep, ← ev, e, and-true (eqb v 0))
 
-    pub some-revision : (p ≡ 0 → ⊥) → eqb p 1 ≡ revisionStands w
+    pub some-revision : (p ≡ 0 → ⊥) → eqb p 1 ≡ revisionStands
     some-revision e = rw (← ep, ← ev, ne-eqb p 0 e, same v, and-true (eqb p 1))
 
   pub five-zeros : (at a b c d e : ℕ) → a ≡ getD w at 0 → b ≡ getD w (at + 1) 0 → c ≡ getD w (at + 2) 0 → d ≡ getD w (at + 3) 0
@@ -99,18 +111,18 @@ module _ (w : List ℕ) where
       rw (z2, z3, z4, ea, eb, ec, ed, ee, and-true (eqb (getD w (at + 4) 0) 0)) (simp and-assoc)
 
   module _ (p : ℕ) (ep : p ≡ getD w 9 0) where
-    pub no-stall : (z : Bool) → p ≡ 0 → z ≡ standsAt w 10 (0 ∷ 0 ∷ 0 ∷ 0 ∷ 0 ∷ []) → z ≡ stallStands w
+    pub no-stall : (z : Bool) → p ≡ 0 → z ≡ standsAt w 10 (0 ∷ 0 ∷ 0 ∷ 0 ∷ 0 ∷ []) → z ≡ stallStands
     no-stall z e ez = ez ∙ rw (← ep, e)
 
     pub some-stall : (s e : ℕ) → (p ≡ 0 → ⊥) → s ≡ getD w 13 0 → e ≡ getD w 14 0
-        → (eqb p 1 && ltb s 256 && ltb e 256) ≡ stallStands w
+        → (eqb p 1 && ltb s 256 && ltb e 256) ≡ stallStands
     some-stall s e h es ee =
         rw (← ep, ← es, ← ee, ne-eqb p 0 h, same (getD w 10 0), same (getD w 11 0), same (getD w 12 0), byte-same s, byte-same e, and-true (ltb e 256))
         (and-assoc (eqb p 1) (ltb s 256) (ltb e 256))
 
   module _ (t : ℕ) (et : t ≡ getD w 15 0) where
     pub recovery-own : (s e k : ℕ) → t ≡ 3 → s ≡ getD w 21 0 → e ≡ getD w 22 0 → k ≡ getD w 23 0
-        → (ltb s 256 && ltb e 256 && ltb k 3) ≡ flightStands w
+        → (ltb s 256 && ltb e 256 && ltb k 3) ≡ flightStands
     recovery-own s e k h es ee ek =
         rw (
           ← et,
@@ -132,25 +144,25 @@ module _ (w : List ℕ) where
 
     module _ (z : Bool) (ez : z ≡ standsAt w 19 (0 ∷ 0 ∷ 0 ∷ 0 ∷ 0 ∷ [])) where
       pub nothing-own : (s g q : ℕ) → t ≡ 0 → s ≡ getD w 16 0 → g ≡ getD w 17 0 → q ≡ getD w 18 0
-          → (eqb s 0 && eqb g 0 && eqb q 0 && z) ≡ flightStands w
+          → (eqb s 0 && eqb g 0 && eqb q 0 && z) ≡ flightStands
       nothing-own s g q h es eg eq = rw (← et, h, es, eg, eq, ez) (simp and-assoc)
 
-      submission-own : t ≡ 1 → (ltb t 3 && z) ≡ flightStands w
+      submission-own : t ≡ 1 → (ltb t 3 && z) ≡ flightStands
       submission-own e = rw (← et, e, ez, same (getD w 16 0), same (getD w 17 0), same (getD w 18 0))
 
-      poll-own : t ≡ 2 → (ltb t 3 && z) ≡ flightStands w
+      poll-own : t ≡ 2 → (ltb t 3 && z) ≡ flightStands
       poll-own e = rw (← et, e, ez, same (getD w 16 0), same (getD w 17 0), same (getD w 18 0))
 
-      pub id-own : (t ≡ 3 → ⊥) → (t ≡ 0 → ⊥) → (ltb t 3 && z) ≡ flightStands w
+      pub id-own : (t ≡ 3 → ⊥) → (t ≡ 0 → ⊥) → (ltb t 3 && z) ≡ flightStands
       id-own h3 h0 =
           caseB (eqb t 1) (λ e. submission-own (eqb-true t 1 e))
           (λ e. caseB (eqb t 2) (λ f. poll-own (eqb-true t 2 f))
           (λ f. let h1 = eqb-false t 1 e in let h2 = eqb-false t 2 f in rw (← et, ne-eqb t 0 h0, e, f, ne-eqb t 3 h3, le-ltb t 3 (omega arith))))
 
   -- the parts together
-  module _ (c : ℕ) (b r s f : Bool) (ec : c ≡ getD w 6 0) (eb : b ≡ portsStand w)
-      (er : r ≡ revisionStands w)
-      (es : s ≡ stallStands w) (ef : f ≡ flightStands w) where
+  module _ (c : ℕ) (b r s f : Bool) (ec : c ≡ getD w 6 0) (eb : b ≡ portsStand)
+      (er : r ≡ revisionStands)
+      (es : s ≡ stallStands) (ef : f ≡ flightStands) where
     abbrev from15 : List ℕ
     from15 = flightTail (flightWords (flightIn w)) [] ++ (getD w 24 0 ∷ getD w 25 0 ∷ [])
 

@@ -17,6 +17,7 @@ use Rattle.session.specs.declared.InFlight.{InFlight}
 use Rattle.session.specs.declared.InFlight.the-variants as flight
 use Rattle.session.specs.declared.OptionStall.{OptionStall}
 use Rattle.session.specs.declared.OptionStall.the-variants as stall
+use Rattle.session.specs.declared.Recovery.{Recovery}
 use Rattle.session.specs.declared.RecoveryKind.{RecoveryKind}
 use Rattle.session.specs.declared.RecoveryKind.the-variants as kind
 use Rattle.session.specs.declared.Session.{Session}
@@ -48,6 +49,12 @@ readDeviceId w at = readDeviceWords (getD w at 0) (getD w (at + 1) 0) (getD w (a
 abbrev pub readRequestId : List ℕ → ℕ → RequestId
 readRequestId w at = readRequestWords (getD w at 0) (getD w (at + 1) 0) (getD w (at + 2) 0)
 
+abbrev pub requestIdWords : RequestId → List ℕ
+requestIdWords x = x .session ∷ x .generation ∷ x .sequence ∷ []
+
+abbrev pub deviceIdWords : DeviceId → List ℕ
+deviceIdWords x = x .session ∷ x .generation ∷ x .slot ∷ []
+
 abbrev pub readStall : ℕ → ℕ → DeviceId → ℕ → OptionStall
 readStall present revision device endpoint =
     cond (eqb present 0) stall.None (stall.Some (record { revision = revision; device = device; endpoint = endpoint % 2 ^ 8 }))
@@ -77,7 +84,7 @@ readFlight tag id device endpoint k =
     cond (eqb tag 0) flight.Nothing
     (cond (eqb tag 1) (flight.Submission id)
     (cond (eqb tag 2) (flight.Poll id)
-    (flight.Recovery id device (endpoint % 2 ^ 8) (readKind k))))
+    (flight.Recovery (record { target = id; device = device; endpoint = endpoint % 2 ^ 8; kind = readKind k }))))
 
 abbrev pub idFlight : ℕ → RequestId → FlightWords
 idFlight tag id = record {
@@ -92,24 +99,24 @@ idFlight tag id = record {
   kind = 0;
 }
 
-abbrev pub recoveryFlight : RequestId → DeviceId → ℕ → RecoveryKind → FlightWords
-recoveryFlight id device endpoint k = record {
+abbrev pub recoveryFlight : Recovery → FlightWords
+recoveryFlight x = record {
   tag = 3;
-  session = id .session;
-  generation = id .generation;
-  sequence = id .sequence;
-  «device_session» = device .session;
-  «device_generation» = device .generation;
-  slot = device .slot;
-  endpoint = endpoint;
-  kind = recoveryWord k;
+  session = x .target .session;
+  generation = x .target .generation;
+  sequence = x .target .sequence;
+  «device_session» = x .device .session;
+  «device_generation» = x .device .generation;
+  slot = x .device .slot;
+  endpoint = x .endpoint;
+  kind = recoveryWord (x .kind);
 }
 
 abbrev pub flightWords : InFlight → FlightWords
 flightWords flight.Nothing = idFlight 0 (readRequestWords 0 0 0)
 flightWords (flight.Submission id) = idFlight 1 id
 flightWords (flight.Poll id) = idFlight 2 id
-flightWords (flight.Recovery id device endpoint k) = recoveryFlight id device endpoint k
+flightWords (flight.Recovery x) = recoveryFlight x
 
 -- the ports, the revision, the stall and what is in flight of a session's words
 abbrev pub portsIn : List ℕ → OptionPorts
@@ -134,8 +141,7 @@ readSession w = record {
   «recovery_revision» = revisionIn w;
   «recoverable_stall» = stallIn w;
   «in_flight» = flightIn w;
-  «row_count» = getD w 24 0;
-  «row_bytes» = getD w 25 0;
+  size = record { «row_count» = getD w 24 0; «row_bytes» = getD w 25 0 };
 }
 
 abbrev pub portsTail : PortsWords → List ℕ → List ℕ
@@ -159,25 +165,12 @@ sessionWords s =
     ∷ revisionTail (optionU64Words (s .«recovery_revision»))
     (stallTail (stallWords (s .«recoverable_stall»))
     (flightTail (flightWords (s .«in_flight»))
-    (s .«row_count» ∷ s .«row_bytes» ∷ []))))
+    (s .size .«row_count» ∷ s .size .«row_bytes» ∷ []))))
 
 -- whether the words p stand in w from word `at` on
 abbrev pub standsAt : List ℕ → ℕ → List ℕ → Bool
 standsAt w at [] = true
 standsAt w at (x ∷ p) = eqb (getD w at 0) x && standsAt w (at + 1) p
-
--- whether each part that may be missing has the words of what it says
-abbrev pub portsStand : List ℕ → Bool
-portsStand w = standsAt w 3 (portsTail (portsWords (portsIn w)) [])
-
-abbrev pub revisionStands : List ℕ → Bool
-revisionStands w = standsAt w 7 (revisionTail (optionU64Words (revisionIn w)) [])
-
-abbrev pub stallStands : List ℕ → Bool
-stallStands w = standsAt w 9 (stallTail (stallWords (stallIn w)) [])
-
-abbrev pub flightStands : List ℕ → Bool
-flightStands w = standsAt w 15 (flightTail (flightWords (flightIn w)) [])
 
 -- a session's own words: they are those of the session that they say
 unfoldable pub isSession : List ℕ → Bool

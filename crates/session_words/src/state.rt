@@ -7,13 +7,16 @@ use models::codes;
 use session::InFlight;
 use session::OptionStall;
 use session::RecoverableStall;
+use session::Recovery;
 use session::RecoveryKind;
 use session::Session;
+use session::Size;
 use words::slices;
 use words::slices::word_at;
 ghost use mathlib.Core.Path.{_≡_};
 ghost use mathlib.Core.List.{[], _∷_};
-ghost use Rattle.session_words.specs.State.{readDeviceId, readRequestId, readPorts, portsIn, portsWords, readDeviceWords, readRequestWords, readStall, stallIn, stallWords, readKind, recoveryWord, readFlight, flightIn, idFlight, recoveryFlight, flightWords, readSession, sessionWords, standsAt, portsStand, revisionStands, stallStands, flightStands, isSession, keptOf, keptAs};
+ghost use Rattle.words.specs.Words.{optionU64Words};
+ghost use Rattle.session_words.specs.State.{readDeviceId, readRequestId, readPorts, portsIn, portsWords, revisionIn, readDeviceWords, readRequestWords, readStall, stallIn, stallWords, readKind, recoveryWord, readFlight, flightIn, idFlight, recoveryFlight, flightWords, readSession, sessionWords, portsTail, revisionTail, stallTail, flightTail, standsAt, isSession, keptOf, keptAs};
 
 // How many words a session has.
 pub const WORDS: usize = 26;
@@ -113,7 +116,8 @@ fn to_stall(w: &[u64]) -> OptionStall
 }
 
 fn stall_words(stall: OptionStall) -> StallWords
-    ensures { λ r. ⌜ (readStall (r .present) (r .revision) (readDeviceWords (r .session) (r .generation) (r .slot)) (r .endpoint) ≡ stall) × (r ≡ stallWords stall) ⌝ }
+    ensures { λ r. ⌜ (readStall (r .present) (r .revision) (readDeviceWords (r .session) (r .generation) (r .slot)) (r .endpoint) ≡ stall)
+        × (r ≡ stallWords stall) ⌝ }
 {
     match stall {
         OptionStall::None => StallWords {
@@ -174,7 +178,13 @@ fn to_flight(w: &[u64]) -> InFlight
     }
     let device = device_at(w, 19);
     let kind = to_kind(word_at(w, 23));
-    InFlight::Recovery(id, device, (word_at(w, 22) % 256) as u8, kind)
+    let endpoint = (word_at(w, 22) % 256) as u8;
+    InFlight::Recovery(Recovery {
+        target: id,
+        device,
+        endpoint,
+        kind,
+    })
 }
 
 fn id_flight(tag: u64, id: RequestId) -> FlightWords
@@ -193,24 +203,27 @@ fn id_flight(tag: u64, id: RequestId) -> FlightWords
     }
 }
 
-fn recovery_flight(id: RequestId, device: DeviceId, endpoint: u8, kind: RecoveryKind) -> FlightWords
-    ensures { λ r. ⌜ (readKind (r .kind) ≡ kind) × (r ≡ recoveryFlight id device endpoint kind) ⌝ }
+fn recovery_flight(x: Recovery) -> FlightWords
+    ensures { λ r. ⌜ (readKind (r .kind) ≡ x .kind) × (r ≡ recoveryFlight x) ⌝ }
 {
+    let kind = x.kind;
     FlightWords {
         tag: 3,
-        session: id.session,
-        generation: id.generation,
-        sequence: id.sequence,
-        device_session: device.session,
-        device_generation: device.generation,
-        slot: device.slot as u64,
-        endpoint: endpoint as u64,
+        session: x.target.session,
+        generation: x.target.generation,
+        sequence: x.target.sequence,
+        device_session: x.device.session,
+        device_generation: x.device.generation,
+        slot: x.device.slot as u64,
+        endpoint: x.endpoint as u64,
         kind: kind_word(kind),
     }
 }
 
 fn flight_words(flight: InFlight) -> FlightWords
-    ensures { λ r. ⌜ (readFlight (r .tag) (readRequestWords (r .session) (r .generation) (r .sequence)) (readDeviceWords (r .«device_session») (r .«device_generation») (r .slot)) (r .endpoint) (r .kind) ≡ flight) × (r ≡ flightWords flight) ⌝ }
+    ensures { λ r. ⌜ (readFlight (r .tag) (readRequestWords (r .session) (r .generation) (r .sequence))
+        (readDeviceWords (r .«device_session») (r .«device_generation») (r .slot)) (r .endpoint) (r .kind) ≡ flight)
+        × (r ≡ flightWords flight) ⌝ }
 {
     match flight {
         InFlight::Nothing => id_flight(
@@ -223,12 +236,7 @@ fn flight_words(flight: InFlight) -> FlightWords
         ),
         InFlight::Submission(id) => id_flight(1, id),
         InFlight::Poll(id) => id_flight(2, id),
-        InFlight::Recovery(id, device, endpoint, kind) => recovery_flight(
-            id,
-            device,
-            endpoint,
-            kind,
-        ),
+        InFlight::Recovery(x) => recovery_flight(x),
     }
 }
 
@@ -245,8 +253,10 @@ pub fn to_session(w: &[u64]) -> Session
         recovery_revision: words::to_option_u64(word_at(w, 7), word_at(w, 8)),
         recoverable_stall: to_stall(w),
         in_flight: to_flight(w),
-        row_count: word_at(w, 24),
-        row_bytes: word_at(w, 25),
+        size: Size {
+            row_count: word_at(w, 24),
+            row_bytes: word_at(w, 25),
+        },
     }
 }
 
@@ -259,6 +269,7 @@ pub fn session_words(session: Session) -> [u64; 26]
     let revision = session.recovery_revision;
     let stall = session.recoverable_stall;
     let flight = session.in_flight;
+    let size = session.size;
     let p = ports_words(ports);
     let r = words::option_u64_words(revision);
     let x = stall_words(stall);
@@ -288,13 +299,13 @@ pub fn session_words(session: Session) -> [u64; 26]
         f.slot,
         f.endpoint,
         f.kind,
-        session.row_count,
-        session.row_bytes,
+        size.row_count,
+        size.row_bytes,
     ]
 }
 
 fn is_ports(w: &[u64]) -> bool
-    ensures { λ r. ⌜ r ≡ portsStand (now (w .entry)) ⌝ }
+    ensures { λ r. ⌜ r ≡ standsAt (now (w .entry)) 3 (portsTail (portsWords (portsIn (now (w .entry)))) []) ⌝ }
 {
     let present = word_at(w, 3);
     let session = word_at(w, 4);
@@ -306,7 +317,7 @@ fn is_ports(w: &[u64]) -> bool
 }
 
 fn is_revision(w: &[u64]) -> bool
-    ensures { λ r. ⌜ r ≡ revisionStands (now (w .entry)) ⌝ }
+    ensures { λ r. ⌜ r ≡ standsAt (now (w .entry)) 7 (revisionTail (optionU64Words (revisionIn (now (w .entry)))) []) ⌝ }
 {
     let present = word_at(w, 7);
     let value = word_at(w, 8);
@@ -329,7 +340,7 @@ fn are_five_zeros(w: &[u64], at: u8) -> bool
 }
 
 fn is_stall(w: &[u64]) -> bool
-    ensures { λ r. ⌜ r ≡ stallStands (now (w .entry)) ⌝ }
+    ensures { λ r. ⌜ r ≡ standsAt (now (w .entry)) 9 (stallTail (stallWords (stallIn (now (w .entry)))) []) ⌝ }
 {
     let present = word_at(w, 9);
     if present == 0 {
@@ -342,7 +353,7 @@ fn is_stall(w: &[u64]) -> bool
 
 // A submission and a poll have an id alone.
 fn is_flight(w: &[u64]) -> bool
-    ensures { λ r. ⌜ r ≡ flightStands (now (w .entry)) ⌝ }
+    ensures { λ r. ⌜ r ≡ standsAt (now (w .entry)) 15 (flightTail (flightWords (flightIn (now (w .entry)))) []) ⌝ }
 {
     let tag = word_at(w, 15);
     if tag == 3 {

@@ -1,7 +1,8 @@
 // The C boundary: functions over numbers and slices. Each slice is a pointer and a length. include/tapewoad.h has their prototypes.
 ghost use mathlib.Core.Path.{_≡_};
-ghost use Rattle.dispatch.specs.Apply.{done, dispatchOf};
-ghost use Rattle.dispatch.specs.Slices.{lentIn, lentOut};
+ghost use Rattle.chain.specs.After.{after};
+ghost use Rattle.dispatch.specs.Apply.{dispatchOf};
+ghost use Rattle.dispatch.specs.Slices.{buffersIn, buffersOut};
 ghost use Rattle.tapewoad.specs.Version.{version};
 
 #[no_mangle]
@@ -15,8 +16,8 @@ pub extern "C" fn tapewoad_apply(
     out: &mut [u64],
     lists: &mut [u64],
 ) -> u64
-    ensures { λ r. ⌜ done r (lentOut session bus rows area out lists)
-        ≡ dispatchOf (now (call .entry)) (now (bytes .entry)) (lentIn session bus rows area out lists) ⌝ }
+    ensures { λ r. ⌜ after r (buffersOut session bus rows area out lists)
+        ≡ dispatchOf (now (call .entry)) (now (bytes .entry)) (buffersIn session bus rows area out lists) ⌝ }
 {
     dispatch::apply(session, bus, rows, area, call, bytes, out, lists)
 }

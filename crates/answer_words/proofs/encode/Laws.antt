@@ -1,6 +1,6 @@
 -- Laws of answers as words. Assumes nothing.
 use Prim.Native.Nat.{ℕ, _≤_}
-use mathlib.Core.List.{List, [], _∷_}
+use mathlib.Core.List.{List, [], _∷_, _++_}
 use mathlib.Core.Path.{_≡_, refl, _∙_}
 use lib.ListN.{length, take, replicate, getD}
 use lib.Seq.{take-length}
@@ -24,10 +24,10 @@ use Rattle.models.specs.declared.OptionError.{OptionError}
 use Rattle.models.specs.declared.OptionError.the-variants as error
 use Rattle.scope.specs.Returned.{optionErrorWords}
 use Rattle.recovery.specs.declared.AbortReport.{AbortReport}
-use Rattle.recovery.specs.declared.Recovery.{Recovery}
-use Rattle.session_words.specs.State.{recoveryWord}
+use Rattle.session.specs.declared.Recovery.{Recovery}
+use Rattle.session_words.specs.State.{requestIdWords, deviceIdWords, recoveryWord}
 use Rattle.calls.specs.declared.Answer.{Answer}
-use Rattle.answer_words.specs.Encode.{refusalWords, idTail, metadataTail, begunWords, stageTail, planWords, stateTail, reportWords, recoveringWords, recoveredWords, answerWords, written}
+use Rattle.answer_words.specs.Encode.{refusalWords, metadataTail, begunWords, stageTail, planWords, stateTail, reportWords, recoveringWords, recoveredWords, answerWords, written}
 
 pub refusal-exact : (r : Refusal) (c o k : ℕ) → c ≡ categoryWord (r .error .category) → o ≡ optionI32Word (r .error .«os_code»)
     → k ≡ optionU32Word (r .error .«completion_code») → 0 ∷ r .number ∷ c ∷ r .error .message ∷ o ∷ k ∷ [] ≡ refusalWords r
@@ -37,7 +37,7 @@ refusal-exact r c o k ec eo ek = rw (ec, eo, ek)
 -- metadata whose transfer type, direction and SETUP have the words t, d and p
 pub metadata-exact : (m : RequestMetadata) (t d : ℕ) (p : SetupWords) → t ≡ transferWord (m .«transfer_type») → d ≡ directionWord (m .direction)
     → p ≡ setupWords (m .setup)
-    → m .device .session ∷ m .device .generation ∷ m .device .slot ∷ m .endpoint ∷ t ∷ d ∷ m .«requested_length» ∷ setupTail p [] ≡ metadataTail m []
+    → deviceIdWords (m .device) ++ m .endpoint ∷ t ∷ d ∷ m .«requested_length» ∷ setupTail p [] ≡ metadataTail m []
 metadata-exact m t d p et ed ep = rw (et, ed, ep)
 
 -- the first eight of a list, one by one
@@ -52,26 +52,26 @@ bytes-exact q l e = rw e
 -- parts of words, put one behind the other
 module _ (m w₁ w₂ w : List ℕ) where
   pub begun-exact : (x : Submission) (h : ℕ) → m ≡ metadataTail (x .metadata) [] → h ≡ flagWord (x .«has_packets»)
-      → w₁ ≡ splice 0 (take 5 (2 ∷ idTail (x .id) (x .row ∷ []))) (replicate 19 0) → w₂ ≡ splice 5 (take 13 m) w₁
+      → w₁ ≡ splice 0 (take 5 (2 ∷ requestIdWords (x .id) ++ x .row ∷ [])) (replicate 19 0) → w₂ ≡ splice 5 (take 13 m) w₁
       → w ≡ splice 18 (take 1 (h ∷ [])) w₂ → w ≡ begunWords x
   unfolding begunWords splice
   begun-exact x h em eh e₁ e₂ e = e ∙ rw (e₂, e₁, em, eh)
 
   pub report-exact : (x : RequestReport) (s : StateWords) (c o : ℕ) (w₃ : List ℕ) → m ≡ metadataTail (x .metadata) [] → s ≡ stateWords (x .state)
-      → c ≡ flagWord (x .«logical_cancel») → o ≡ flagWord (x .«timed_out») → w₁ ≡ splice 0 (take 4 (4 ∷ idTail (x .id) [])) (replicate 26 0)
+      → c ≡ flagWord (x .«logical_cancel») → o ≡ flagWord (x .«timed_out») → w₁ ≡ splice 0 (take 4 (4 ∷ requestIdWords (x .id))) (replicate 26 0)
       → w₂ ≡ splice 4 (take 13 m) w₁ → w₃ ≡ splice 17 (take 7 (stateTail s [])) w₂ → w ≡ splice 24 (take 2 (c ∷ o ∷ [])) w₃ → w ≡ reportWords x
   unfolding reportWords splice
   report-exact x s c o w₃ em es ec eo e₁ e₂ e₃ e = e ∙ rw (e₃, e₂, e₁, em, es, ec, eo)
 
   pub plan-exact : (x : PlanSubmission) (q : SetupPacket) (t b w₃ : List ℕ) → m ≡ metadataTail (x .plan .metadata) []
       → q ≡ packetOf (x .plan .metadata .setup) → b ≡ setupBytes q → t ≡ stageTail (x .plan) []
-      → w₁ ≡ splice 0 (take 5 (3 ∷ idTail (x .id) (x .row ∷ []))) (replicate 30 0) → w₂ ≡ splice 5 (take 13 m) w₁ → w₃ ≡ splice 18 (take 4 t) w₂
+      → w₁ ≡ splice 0 (take 5 (3 ∷ requestIdWords (x .id) ++ x .row ∷ [])) (replicate 30 0) → w₂ ≡ splice 5 (take 13 m) w₁ → w₃ ≡ splice 18 (take 4 t) w₂
       → w ≡ splice 22 (take 8 b) w₃ → w ≡ planWords x
   unfolding planWords setupBytes splice
   plan-exact x q t b w₃ em eq eb et e₁ e₂ e₃ e = e ∙ rw (e₃, e₂, e₁, em, et, eb, eq)
 
 pub recovering-exact : (x : Recovery) (k : ℕ) → k ≡ recoveryWord (x .kind)
-    → 9 ∷ idTail (x .target) (x .device .session ∷ x .device .generation ∷ x .device .slot ∷ x .endpoint ∷ k ∷ []) ≡ recoveringWords x
+    → 9 ∷ requestIdWords (x .target) ++ deviceIdWords (x .device) ++ x .endpoint ∷ k ∷ [] ≡ recoveringWords x
 unfolding recoveringWords
 recovering-exact x k e = rw e
 
@@ -91,7 +91,7 @@ five-exact error.None = refl
 five-exact (error.Some x) = refl
 
 pub recovered-exact : (x : AbortReport) (f : ℕ) (l : List ℕ) → f ≡ flagWord (x .«restart_ready») → l ≡ optionErrorWords (x .error)
-    → 10 ∷ idTail (x .target) (x .device .session ∷ x .device .generation ∷ x .device .slot ∷ x .endpoint ∷ x .completed ∷ x .aborted ∷ f ∷ fiveBy l) ≡ recoveredWords x
+    → 10 ∷ requestIdWords (x .target) ++ deviceIdWords (x .device) ++ x .endpoint ∷ x .completed ∷ x .aborted ∷ f ∷ fiveBy l ≡ recoveredWords x
 unfolding recoveredWords
 recovered-exact x f l ef el = rw (ef, el, five-exact (x .error))
 

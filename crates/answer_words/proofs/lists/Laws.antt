@@ -12,13 +12,13 @@ use Rattle.words.proofs.Parts.{take-cut}
 use Rattle.words.specs.Records.{splice}
 use Rattle.models.specs.declared.Refusal.{Refusal}
 use Rattle.models.specs.declared.RequestId.{RequestId}
+use Rattle.session.specs.declared.Recovery.{Recovery}
 use Rattle.recovery.specs.declared.AbortReport.{AbortReport}
 use Rattle.recovery.specs.declared.BeginAnswer.the-variants as begin
 use Rattle.recovery.specs.declared.Begun.{Begun}
 use Rattle.recovery.specs.declared.Recovered.{Recovered}
-use Rattle.recovery.specs.declared.Recovery.{Recovery}
 use Rattle.recovery.specs.declared.RecoveryAnswer.the-variants as recovery
-use Rattle.answer_words.specs.Encode.{idTail}
+use Rattle.session_words.specs.State.{requestIdWords}
 use Rattle.answer_words.specs.Lists.{tokenList, idWords, idList, begunLists, recoveredLists, putLists}
 
 -- a, and then b behind it
@@ -54,10 +54,10 @@ module _ (ids : List RequestId) (at : ℕ) (l : List ℕ) where
   module _ (n k : ℕ) (m : List ℕ) (e : m ≡ splice (at + 1) (idWords (take k ids)) l) where
     -- one id more
     pub ids-on : (d : RequestId) (after : List ℕ) → at + 1 + n * 3 ≤ length l → k < n → n ≤ length ids
-        → after ≡ splice (at + 1 + k * 3) (idTail (getD ids k d) []) m → after ≡ splice (at + 1) (idWords (take (k + 1) ids)) l
+        → after ≡ splice (at + 1 + k * 3) (requestIdWords (getD ids k d)) m → after ≡ splice (at + 1) (idWords (take (k + 1) ids)) l
     ids-on d after h lt le q =
         let z : at + 1 + k * 3 ≡ at + 1 + length (idWords (take k ids)) = omega (arith, id-words-length (take k ids), length-take-le k ids (omega arith)) in
-        let j = splice-join (at + 1) (at + 1 + k * 3) (idWords (take k ids)) (idTail (getD ids k d) []) l z (omega arith) in
+        let j = splice-join (at + 1) (at + 1 + k * 3) (idWords (take k ids)) (requestIdWords (getD ids k d)) l z (omega arith) in
         q ∙ rw (e, j, add-one k, take-suc ids k d (omega arith), id-words-append (take k ids) (getD ids k d ∷ []))
 
     pub ids-end : (l₀ : List ℕ) → at + 1 + n * 3 ≤ length l₀ → length ids ≡ 128 → n ≤ 128 → k ≤ n → n ≤ k → l ≡ splice at (n ∷ []) l₀

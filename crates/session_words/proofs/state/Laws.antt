@@ -23,6 +23,7 @@ use Rattle.session.specs.declared.InFlight.the-variants as flight
 use Rattle.session.specs.declared.OptionStall.{OptionStall}
 use Rattle.session.specs.declared.OptionStall.the-variants as stall
 use Rattle.session.specs.declared.RecoverableStall.{RecoverableStall}
+use Rattle.session.specs.declared.Recovery.{Recovery}
 use Rattle.session.specs.declared.RecoveryKind.{RecoveryKind}
 use Rattle.session.specs.declared.Session.{Session}
 use Rattle.session_words.specs.State.{readPorts, portsWords, readDeviceWords, readRequestWords, readStall, stallWords, readKind, readFlight, readDeviceId, readRequestId, portsIn, stallIn, flightIn, recoveryFlight, flightWords, readSession, sessionWords, portsTail, revisionTail, stallTail, flightTail, Kept, keptOf, keptAs}
@@ -43,10 +44,10 @@ flightBy f =
     readFlight (f .tag) (readRequestWords (f .session) (f .generation) (f .sequence)) (readDeviceWords (f .«device_session») (f .«device_generation») (f .slot)) (f .endpoint)
     (f .kind)
 
-pub recovery-back : (id : RequestId) (d : DeviceId) (e : ℕ) (k : RecoveryKind) (f : FlightWords) → d .slot < 2 ^ 8 → e < 2 ^ 8
-    → f ≡ recoveryFlight id d e k → readKind (f .kind) ≡ k → flightBy f ≡ flight.Recovery id d e k
-recovery-back id d e k f h g ef ek =
-    let z : readKind (recoveryFlight id d e k .kind) ≡ k = ap (λ (x : FlightWords). readKind (x .kind)) (sym ef) ∙ ek in
+pub recovery-back : (x : Recovery) (f : FlightWords) → x .device .slot < 2 ^ 8 → x .endpoint < 2 ^ 8
+    → f ≡ recoveryFlight x → readKind (f .kind) ≡ x .kind → flightBy f ≡ flight.Recovery x
+recovery-back x f h g ef ek =
+    let z : readKind (recoveryFlight x .kind) ≡ x .kind = ap (λ (y : FlightWords). readKind (y .kind)) (sym ef) ∙ ek in
     rw ef (simp (low 8 h, low 8 g, z))
 
 -- a session's words, and the session that they say
@@ -54,7 +55,7 @@ module _ (s : Session) (p : PortsWords) (c : ℕ) (r : OptionWords) (x : StallWo
   abbrev wordsBy : List ℕ
   wordsBy =
       s .number ∷ s .generation ∷ s .«next_sequence»
-      ∷ portsTail p (c ∷ revisionTail r (stallTail x (flightTail f (s .«row_count» ∷ s .«row_bytes» ∷ []))))
+      ∷ portsTail p (c ∷ revisionTail r (stallTail x (flightTail f (s .size .«row_count» ∷ s .size .«row_bytes» ∷ []))))
 
   pub session-back : readPorts (p .present) (p .session) (p .count) ≡ s .ports → readController c ≡ s .state
       → readOptionU64 (r .present) (r .value) ≡ s .«recovery_revision»
@@ -82,7 +83,7 @@ module _ (l : List ℕ) (tag : ℕ) (et : tag ≡ getD l 15 0) where
       flight-poll e = simp (sym et, ne-eqb tag 0 some, ne-eqb tag 1 other, eq-eqb tag 2 e, ei)
 
       pub flight-recovery : (d : DeviceId) (e w : ℕ) (k : RecoveryKind) → (tag ≡ 2 → ⊥) → d ≡ readDeviceId l 19 → e ≡ getD l 22 0 → k ≡ readKind w
-          → w ≡ getD l 23 0 → flight.Recovery id d (e % 2 ^ 8) k ≡ flightIn l
+          → w ≡ getD l 23 0 → flight.Recovery (record { target = id; device = d; endpoint = e % 2 ^ 8; kind = k }) ≡ flightIn l
       flight-recovery d e w k h ed ee ek ew =
           simp (sym et, ne-eqb tag 0 some, ne-eqb tag 1 other, ne-eqb tag 2 h, ei, ed, ee, ek, ew)
 
@@ -100,8 +101,7 @@ pub session-read : (l : List ℕ) (number generation sequence state present valu
       «recovery_revision» = r;
       «recoverable_stall» = x;
       «in_flight» = f;
-      «row_count» = count;
-      «row_bytes» = bytes;
+      size = record { «row_count» = count; «row_bytes» = bytes };
     }) (readSession l)
 unfolding readSession
 session-read l _ _ _ _ _ _ _ _ _ _ _ _ _ e₀ e₁ e₂ ep ec e₆ er e₇ e₈ ex ef en eb = rw (e₀, e₁, e₂, ep, ec, e₆, er, e₇, e₈, ex, ef, en, eb)

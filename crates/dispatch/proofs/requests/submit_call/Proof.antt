@@ -9,17 +9,12 @@ returns c =
       submit-step,
       c .before .before .before .before .before .before .before .before .before .before .before .before .before .before .before .before .if1 .taken,
       c .before .before .before .before .before .before .before .before .before .before .before .before .before .before .before .spec .ensures,
-      c .before .before .before .before .before .before .before .before .before .before .before .before .before .before .before .before .before .reading-at .ensures,
     )
-
-returns-2 : tie.Need-returns-2
-returns-2 c = search plan-step
 
 pub submit-call-spec : {M : Type 1} → statement M
 submit-call-spec =
     tie.close
     (tie.spec
-    (λ c κs. search needs)
     (λ c κs. search needs)
     (λ c κs. search needs)
     (λ c κs. search needs)
@@ -34,7 +29,8 @@ submit-call-spec =
     (λ c κs. search needs)
     (λ c κs. search needs)
     (λ c κs. search needs)
+    (λ c κs. search needs)
     (λ c. search needs)
     (λ c. search needs)
     (λ c. search needs)
-    returns-2)
+    (λ c. search plan-step))

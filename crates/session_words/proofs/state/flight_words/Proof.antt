@@ -15,7 +15,7 @@ returns-3 c = rw (c .id-flight3 .ensures, c .before .before .flight2 .given .1) 
 
 returns-4 : tie.Need-returns-4
 returns-4 c = (
-  recovery-back _ _ _ _ _ (search needs) (search needs) (c .recovery-flight .ensures .1) (c .recovery-flight .ensures .0) ∙ sym (c .before .before .flight3 .given .1),
+  recovery-back _ _ (search needs) (search needs) (c .recovery-flight .ensures .1) (c .recovery-flight .ensures .0) ∙ sym (c .before .before .flight3 .given .1),
   rw (c .recovery-flight .ensures .1, c .before .before .flight3 .given .1),
 )
 
