@@ -28,7 +28,6 @@ use Rattle.models.specs.declared.Refusal.{Refusal}
 use Rattle.models.proofs.Enums.{transfer-back, direction-back, profile-back}
 use Rattle.standards.specs.Setup.{setupBytes}
 use Rattle.rows.specs.Codec.{readMetadata, readStateWords, stateWords}
-use Rattle.rows.specs.declared.codec.StateWords.{StateWords}
 use Rattle.scope.specs.Returned.{optionErrorWords}
 use Rattle.session.specs.declared.Recovery.{Recovery}
 use Rattle.session.specs.declared.RecoveryKind.{RecoveryKind}
@@ -58,10 +57,7 @@ unfolding readMetadata
 metadata-back m (d, e, s) =
     rw (low 8 d, low 8 e, transfer-back (m .«transfer_type»), direction-back (m .direction), setup-back (m .setup) s)
 
-abbrev stateBy : StateWords → RequestState
-stateBy s = readStateWords (s .tag) (s .a) (s .b) (s .c) (s .d) (s .e) (s .f)
-
-state-back : (s : RequestState) → StateFits s → stateBy (stateWords s) ≡ s
+state-back : (s : RequestState) → StateFits s → readStateWords (stateWords s) ≡ s
 state-back (state.Pending cancel late) h = rw (flag-back cancel, flag-back late)
 state-back (state.Completed actual code cancel) h = rw (low 32 h, flag-back cancel)
 state-back (state.Failed e code quiescent) (h, k) = rw (error-back e h, u32-back code k, flag-back quiescent)

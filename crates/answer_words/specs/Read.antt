@@ -42,7 +42,7 @@ readAnswer w =
     answer.Report (record {
       id = readRequestId w 1;
       metadata = readMetadata (wordsFrom w 4 13);
-      state = readStateWords (getD w 17 0) (getD w 18 0) (getD w 19 0) (getD w 20 0) (getD w 21 0) (getD w 22 0) (getD w 23 0);
+      state = readStateWords (record { tag = getD w 17 0; a = getD w 18 0; b = getD w 19 0; c = getD w 20 0; d = getD w 21 0; e = getD w 22 0; f = getD w 23 0 });
       «logical_cancel» = readFlag (getD w 24 0);
       «timed_out» = readFlag (getD w 25 0);
     }) if eqb (getD w 0 0) 4 else
