@@ -76,54 +76,53 @@ pub record Example : Type 0 where
   pub computed : Said
   pub expected : Said
 
-infix 4 _gives_
-abbrev pub _gives_ : Said → Said → Example
-a gives b = record { computed = a; expected = b }
+abbrev gives : Said → Said → Example
+gives a b = record { computed = a; expected = b }
 
 -- a refusal with its category, whose message is its number
-abbrev pub refusal : ErrorCategory → ℕ → OptionU32 → Refusal
+abbrev refusal : ErrorCategory → ℕ → OptionU32 → Refusal
 refusal c n code = record { number = n; error = record { category = c; message = n; «os_code» = i32.None; «completion_code» = code } }
 
-abbrev pub invalid : ℕ → Refusal
+abbrev invalid : ℕ → Refusal
 invalid n = refusal category.Validation n u32.None
 
-abbrev pub unsupported : ℕ → Refusal
+abbrev unsupported : ℕ → Refusal
 unsupported n = refusal category.Unsupported n u32.None
 
-abbrev pub device : DeviceId
+abbrev device : DeviceId
 device = record { session = 1; generation = 0; slot = 1 }
 
 -- n bytes
-abbrev pub metadata : ℕ → TransferType → Direction → OptionSetup → ℕ → RequestMetadata
+abbrev metadata : ℕ → TransferType → Direction → OptionSetup → ℕ → RequestMetadata
 metadata endpoint t d s n = record { device = device; endpoint = endpoint; «transfer_type» = t; direction = d; «requested_length» = n; setup = s }
 
 -- ---- prepare
 
 -- request k of the type t, with n bytes
-abbrev pub packet : ℕ → ℕ → ℕ → SetupPacket
+abbrev packet : ℕ → ℕ → ℕ → SetupPacket
 packet t k n = record { «request_type» = t; request = k; value = 0; index = 0; length = n }
 
 -- n bytes from endpoint 81h
-abbrev pub bulk : ℕ → Said
+abbrev bulk : ℕ → Said
 bulk n =
     Prepares (prepared (record { device = device; endpoint = 0x81; «transfer_type» = Bulk; direction = In; length = n; setup = setup.None }) 0 65536)
 
 -- n bytes by the packet p, with no data
-abbrev pub control : Direction → ℕ → SetupPacket → Said
+abbrev control : Direction → ℕ → SetupPacket → Said
 control d n p =
     Prepares (prepared (record { device = device; endpoint = 0; «transfer_type» = Control; direction = d; length = n; setup = setup.Some p }) 0 65536)
 
-abbrev pub packets : List ℕ → ℕ → Said
+abbrev packets : List ℕ → ℕ → Said
 packets l n = Packs (packetsChecked true l Isochronous n)
 
 -- ---- plans: Compliant, status IN, with no data
 
-abbrev pub compliant : SetupPacket → OptionStage → Said
+abbrev compliant : SetupPacket → OptionStage → Said
 compliant p s =
     Plans (planned (record { device = device; profile = Compliant; setup = p; «data_stage» = s; «status_direction» = direction.Some In }) 0 65536)
 
 -- the plan of the packet p without a stage
-abbrev pub planOk : SetupPacket → Said
+abbrev planOk : SetupPacket → Said
 planOk p = Plans (plan.Ready (record {
   metadata = metadata 0 Control In (setup.Some p) 0;
   «has_data» = false;
@@ -134,7 +133,7 @@ planOk p = Plans (plan.Ready (record {
 
 -- ---- replies, in an Initialized session of as many rows of 8 bytes as are named
 
-abbrev pub session : InFlight → ℕ → Session
+abbrev session : InFlight → ℕ → Session
 session f rows = record {
   number = 1;
   generation = 0;
@@ -147,17 +146,17 @@ session f rows = record {
   size = record { «row_count» = rows; «row_bytes» = 8 };
 }
 
-abbrev pub stored : List Row → Memory
+abbrev stored : List Row → Memory
 stored rows = memory (record { words = replicate (length rows * rowWords) 0; rows = rows }) (replicate (length rows * 8) 0)
 
-abbrev pub id : ℕ → RequestId
+abbrev id : ℕ → RequestId
 id n = record { session = 1; generation = 0; sequence = n }
 
-abbrev pub pending : RequestState
+abbrev pending : RequestState
 pending = Pending false false
 
 -- the request n, of 8 bytes, with its token
-abbrev pub row : ℕ → ℕ → Row
+abbrev row : ℕ → ℕ → Row
 row n token = record {
   used = true;
   id = id n;
@@ -168,63 +167,62 @@ row n token = record {
   state = pending;
 }
 
-abbrev pub states : Memory → List RequestState
+abbrev states : Memory → List RequestState
 states m = map (λ (r : Row). r .state) (m .store .rows)
 
 -- a poll's reply, quiescent, with the code k and these bytes
-abbrev pub completion : ℕ → List ℕ → BackendCompletion
+abbrev completion : ℕ → List ℕ → BackendCompletion
 completion k bytes =
     record { «actual_length» = u64.Some (length bytes); «completion_code» = u32.Some k; «has_data» = true; error = error.None; quiescent = true }
 
-abbrev pub polled : ℕ → List ℕ → Said
+abbrev polled : ℕ → List ℕ → Said
 polled k bytes =
     Leaves (states (pollReplyOf (reply.Completion (completion k bytes)) bytes (session (flight.Poll (id 1)) 1) (stored (row 1 7 ∷ [])) .lent))
 
 -- a recovery's reply that aborted these tokens; the row of the lower id stands second
-abbrev pub recovering : InFlight
+abbrev recovering : InFlight
 recovering = flight.Recovery (record { target = id 1; device = device; endpoint = 0x81; kind = kind.Abort })
 
-abbrev pub recovered : After Recovered Memory → Said
+abbrev recovered : After Recovered Memory → Said
 recovered o = Recovers (o .result .answer) (o .result .session .state) (states (o .lent))
 
-abbrev pub aborted : Bool → List ℕ → Said
+abbrev aborted : Bool → List ℕ → Said
 aborted ready tokens =
     recovered
     (recoveryReplyOf (returned.Done (record { «restart_ready» = ready; error = error.None })) (replyLists [] [] tokens []) (session recovering 2)
     (stored (row 2 9 ∷ row 1 7 ∷ [])))
 
 -- its report where one request was aborted and the endpoint is not ready
-abbrev pub oneAborted : RecoveryAnswer
+abbrev oneAborted : RecoveryAnswer
 oneAborted =
     recovery.Report (record { target = id 1; device = device; endpoint = 0x81; completed = 0; aborted = 1; «restart_ready» = false; error = error.None })
 
 abbrev pub starred : List Example
 starred =
     -- bulk 65,536 passes; 65,537 is 6. Control 65,535 passes; 65,536 is 9
-    bulk 65536 gives Prepares (prepare.Ready (metadata 0x81 Bulk In setup.None 65536))
-    ∷ bulk 65537 gives Prepares (prepare.Refused (unsupported 6))
-    ∷ control In 65535 (packet 0x80 6 65535) gives Prepares (prepare.Ready (metadata 0 Control In (setup.Some (packet 0x80 6 65535)) 65535))
-    ∷ control In 65536 (packet 0x80 6 65535) gives Prepares (prepare.Refused (invalid 9))
+    gives (bulk 65536) (Prepares (prepare.Ready (metadata 0x81 Bulk In setup.None 65536)))
+    ∷ gives (bulk 65537) (Prepares (prepare.Refused (unsupported 6)))
+    ∷ gives (control In 65535 (packet 0x80 6 65535)) (Prepares (prepare.Ready (metadata 0 Control In (setup.Some (packet 0x80 6 65535)) 65535)))
+    ∷ gives (control In 65536 (packet 0x80 6 65535)) (Prepares (prepare.Refused (invalid 9)))
     -- 128 packets of 512 pass with length 65,536; 129 packets are 4; packets (2^64 - 1, 1) are 4
-    ∷ packets (replicate 128 512) 65536 gives Packs verdict.Pass
-    ∷ packets (replicate 129 512) 66048 gives Packs (verdict.Refused (invalid 4))
-    ∷ packets (0xffff_ffff_ffff_ffff ∷ 1 ∷ []) 0 gives Packs (verdict.Refused (invalid 4))
+    ∷ gives (packets (replicate 128 512) 65536) (Packs verdict.Pass)
+    ∷ gives (packets (replicate 129 512) 66048) (Packs (verdict.Refused (invalid 4)))
+    ∷ gives (packets (0xffff_ffff_ffff_ffff ∷ 1 ∷ []) 0) (Packs (verdict.Refused (invalid 4)))
     -- SETUP 80h 06h, value 0100h, index 0, length 18 gives bytes 80 06 00 01 00 00 12 00
-    ∷ Writes (setupBytes (record { «request_type» = 0x80; request = 6; value = 0x0100; index = 0; length = 18 }))
-      gives Writes (0x80 ∷ 0x06 ∷ 0x00 ∷ 0x01 ∷ 0x00 ∷ 0x00 ∷ 0x12 ∷ 0x00 ∷ [])
+    ∷ gives (Writes (setupBytes (record { «request_type» = 0x80; request = 6; value = 0x0100; index = 0; length = 18 }))) (Writes (0x80 ∷ 0x06 ∷ 0x00 ∷ 0x01 ∷ 0x00 ∷ 0x00 ∷ 0x12 ∷ 0x00 ∷ []))
     -- type 60h is 13. Type 80h request 5 is 14 in prepare and passes 19 in a plan
-    ∷ control Out 0 (packet 0x60 6 0) gives Prepares (prepare.Refused (unsupported 13))
-    ∷ control In 0 (packet 0x80 5 0) gives Prepares (prepare.Refused (unsupported 14))
-    ∷ compliant (packet 0x80 5 0) stage.None gives planOk (packet 0x80 5 0)
+    ∷ gives (control Out 0 (packet 0x60 6 0)) (Prepares (prepare.Refused (unsupported 13)))
+    ∷ gives (control In 0 (packet 0x80 5 0)) (Prepares (prepare.Refused (unsupported 14)))
+    ∷ gives (compliant (packet 0x80 5 0) stage.None) (planOk (packet 0x80 5 0))
     -- Compliant, type 80h, length 0, status IN: no stage passes, an empty stage is 22
-    ∷ compliant (packet 0x80 6 0) stage.None gives planOk (packet 0x80 6 0)
-    ∷ compliant (packet 0x80 6 0) (stage.Some (record { direction = In; length = 0 })) gives Plans (plan.Refused (invalid 22))
+    ∷ gives (compliant (packet 0x80 6 0) stage.None) (planOk (packet 0x80 6 0))
+    ∷ gives (compliant (packet 0x80 6 0) (stage.Some (record { direction = In; length = 0 }))) (Plans (plan.Refused (invalid 22)))
     -- requested 8: code 13 with 0 bytes completes; code 1 with length 9 is Failed, not quiescent
-    ∷ polled 13 [] gives Leaves (Completed 0 13 false ∷ [])
-    ∷ polled 1 (replicate 9 0) gives Leaves (Failed (refusal category.RecoveryRequired 48 (u32.Some 1) .error) (u32.Some 1) false ∷ [])
+    ∷ gives (polled 13 []) (Leaves (Completed 0 13 false ∷ []))
+    ∷ gives (polled 1 (replicate 9 0)) (Leaves (Failed (refusal category.RecoveryRequired 48 (u32.Some 1) .error) (u32.Some 1) false ∷ []))
     -- tokens 7, 9 affected, ready, aborted (7): 46. Not ready: 7 Aborted, 9 Pending, recovery marked
-    ∷ aborted true (7 ∷ []) gives Recovers (recovery.Refused (invalid 46)) RecoveryRequired (pending ∷ pending ∷ [])
-    ∷ aborted false (7 ∷ []) gives Recovers oneAborted RecoveryRequired (pending ∷ Aborted ∷ [])
+    ∷ gives (aborted true (7 ∷ [])) (Recovers (recovery.Refused (invalid 46)) RecoveryRequired (pending ∷ pending ∷ []))
+    ∷ gives (aborted false (7 ∷ [])) (Recovers oneAborted RecoveryRequired (pending ∷ Aborted ∷ []))
     ∷ []
 
 -- every example of a list holds
