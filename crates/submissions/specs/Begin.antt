@@ -1,7 +1,6 @@
 -- The end of every submission (document 01, "Added by design", and the places capacity, device, not control and ledger of its table).
 -- Assumes nothing.
 use Prim.Native.Nat.{ℕ}
-use mathlib.Core.Bool.{Bool}
 use mathlib.Core.List.{List}
 use lib.Dec.{leb}
 use lib.ListN.{replicate}

@@ -65,7 +65,8 @@ fn new_id(session: Session) -> RequestId
 
 // IN gets zeros of the length, OUT the data.
 fn write_buffer(area: &mut [u8], start: usize, metadata: RequestMetadata, bytes: &[u8])
-    requires { ⌜ (start + metadata .«requested_length» ≤ length (now area)) × (start + length (now bytes) ≤ length (now area)) ⌝ }
+    requires { ⌜ (start + metadata .«requested_length» ≤ length (now area))
+        × (start + length (now bytes) ≤ length (now area)) ⌝ }
     ensures { λ _. ⌜ now (area .exit) ≡ writeOf start metadata (now (bytes .entry)) (now (area .entry)) ⌝ }
 {
     let direction = metadata.direction;
@@ -87,8 +88,10 @@ fn begin(
     bytes: &[u8],
 ) -> Started
     requires { ⌜ (place .row < length (readRows (now rows)))
-        × (place .start + metadata .«requested_length» ≤ length (now area)) × (place .start + length (now bytes) ≤ length (now area)) ⌝ }
-    ensures { λ r. ⌜ after r (memoryOut rows area) ≡ beginOf (draft place metadata (now (bytes .entry))) session (memoryIn rows area) ⌝ }
+        × (place .start + metadata .«requested_length» ≤ length (now area))
+        × (place .start + length (now bytes) ≤ length (now area)) ⌝ }
+    ensures { λ r. ⌜ after r (memoryOut rows area)
+        ≡ beginOf (draft place metadata (now (bytes .entry))) session (memoryIn rows area) ⌝ }
 {
     let spent = rules::spend_sequence(session.next_sequence);
     match spent {
@@ -118,7 +121,8 @@ pub(crate) fn begin_target(
     readings: Readings,
 ) -> Started
     requires { ⌜ (length (now bus) ≡ busWords) × (place .row < length (readRows (now rows)))
-        × (place .start + metadata .«requested_length» ≤ length (now area)) × (place .start + length (now bytes) ≤ length (now area)) ⌝ }
+        × (place .start + metadata .«requested_length» ≤ length (now area))
+        × (place .start + length (now bytes) ≤ length (now area)) ⌝ }
     ensures { λ r. ⌜ after r (lentOut bus rows area)
         ≡ targetOf (draft place metadata (now (bytes .entry))) readings session (lentIn bus rows area) ⌝ }
 {

@@ -64,7 +64,8 @@ fn plan_prepared(
 ) -> PlanSubmitted
     requires { ⌜ (length (now bus) ≡ busWords) × (place .row < length (readRows (now rows)))
         × (place .start + session .size .«row_bytes» ≤ length (now area)) ⌝ }
-    ensures { λ r. ⌜ after r (lentOut bus rows area) ≡ plannedOf place q (now (bytes .entry)) first session (lentIn bus rows area) ⌝ }
+    ensures { λ r. ⌜ after r (lentOut bus rows area)
+        ≡ plannedOf place q (now (bytes .entry)) first session (lentIn bus rows area) ⌝ }
 {
     let size = session.size;
     let answer = plan::validate_plan(q, bytes.len() as u64, size.row_bytes);
@@ -102,17 +103,16 @@ fn plan_room(
     first: PortReading,
 ) -> PlanSubmitted
     requires { ⌜ lentSizes (session .size) (length (now rows)) (length (now area)) (length (now bus)) ≡ true ⌝ }
-    ensures { λ r. ⌜ after r (lentOut bus rows area) ≡ planRoomOf q (now (bytes .entry)) first session (lentIn bus rows area) ⌝ }
+    ensures { λ r. ⌜ after r (lentOut bus rows area)
+        ≡ planRoomOf q (now (bytes .entry)) first session (lentIn bus rows area) ⌝ }
 {
     let found = begin::find_room(rows);
     let Found::At(row) = found else {
         return plan_refused(session, models::refuse(5));
     };
     let size = session.size;
-    let place = Place {
-        row,
-        start: row * size.row_bytes as usize,
-    };
+    let start = row * size.row_bytes as usize;
+    let place = Place { row, start };
     plan_prepared(session, bus, rows, area, place, q, bytes, first)
 }
 
@@ -126,7 +126,8 @@ pub fn submit_control_plan(
     bytes: &[u8],
     first: PortReading,
 ) -> PlanSubmitted
-    ensures { λ r. ⌜ after r (lentOut bus rows area) ≡ submitPlanOf q (now (bytes .entry)) first session (lentIn bus rows area) ⌝ }
+    ensures { λ r. ⌜ after r (lentOut bus rows area)
+        ≡ submitPlanOf q (now (bytes .entry)) first session (lentIn bus rows area) ⌝ }
 {
     let verdict = start::lent_ready(session, rows.len(), area.len(), bus.len());
     match verdict {

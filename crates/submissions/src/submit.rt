@@ -105,17 +105,16 @@ fn submit_room(
     readings: Readings,
 ) -> Submitted
     requires { ⌜ lentSizes (session .size) (length (now rows)) (length (now area)) (length (now bus)) ≡ true ⌝ }
-    ensures { λ r. ⌜ after r (lentOut bus rows area) ≡ roomOf (request q (now (bytes .entry)) given readings) session (lentIn bus rows area) ⌝ }
+    ensures { λ r. ⌜ after r (lentOut bus rows area)
+        ≡ roomOf (request q (now (bytes .entry)) given readings) session (lentIn bus rows area) ⌝ }
 {
     let found = begin::find_room(rows);
     let Found::At(row) = found else {
         return submit_refused(session, models::refuse(5));
     };
     let size = session.size;
-    let place = Place {
-        row,
-        start: row * size.row_bytes as usize,
-    };
+    let start = row * size.row_bytes as usize;
+    let place = Place { row, start };
     submit_prepared(session, bus, rows, area, place, q, bytes, given, readings)
 }
 
@@ -133,7 +132,8 @@ fn submit_checked(
 ) -> Submitted
     requires { ⌜ lentSizes (session .size) (length (now rows)) (length (now area)) (length (now bus)) ≡ true ⌝ }
     ensures { λ r. ⌜ after r (lentOut bus rows area)
-        ≡ packetsOf (now (packets .entry)) (request q (now (bytes .entry)) given readings) session (lentIn bus rows area) ⌝ }
+        ≡ packetsOf (now (packets .entry)) (request q (now (bytes .entry)) given readings) session
+        (lentIn bus rows area) ⌝ }
 {
     let transfer_type = q.transfer_type;
     let verdict = packets::check_packets(given, packets, transfer_type, q.length);
@@ -156,7 +156,8 @@ pub fn submit_request_packets(
     readings: Readings,
 ) -> Submitted
     ensures { λ r. ⌜ after r (lentOut bus rows area)
-        ≡ submitOf (now (packets .entry)) (request q (now (bytes .entry)) given readings) session (lentIn bus rows area) ⌝ }
+        ≡ submitOf (now (packets .entry)) (request q (now (bytes .entry)) given readings) session
+        (lentIn bus rows area) ⌝ }
 {
     let verdict = start::lent_ready(session, rows.len(), area.len(), bus.len());
     match verdict {

@@ -8,6 +8,7 @@ use borrow.Author.Tests.{le-leb, lt-leb, ltb-true, ltb-false}
 use lib.Dec.{ltb, leb}
 use lib.ListN.{length, take, replicate}
 use lib.Seq.{take-length}
+use Rattle.chain.specs.After.{after}
 use Rattle.chain.specs.Chain.{_if_else_}
 use Rattle.chain.specs.Lists.{count, foundIn}
 use Rattle.chain.specs.declared.Found.{Found}
@@ -15,7 +16,6 @@ use Rattle.chain.specs.declared.Found.the-variants as found
 use Rattle.chain.proofs.Chain.{caseB, takes, passes, through}
 use Rattle.words.specs.Records.{splice}
 use Rattle.models.specs.Kinds.{isIn}
-use Rattle.models.specs.declared.PortReading.{PortReading}
 use Rattle.models.specs.declared.Refusal.{Refusal}
 use Rattle.models.specs.declared.RequestId.{RequestId}
 use Rattle.models.specs.declared.RequestMetadata.{RequestMetadata}
@@ -32,12 +32,14 @@ use Rattle.rules.specs.declared.Spent.the-variants as spent
 use Rattle.ledger.proofs.Found.{found-in}
 use Rattle.ledger.proofs.tally.Laws.{saturate-plain, saturate-top, saturate-le}
 use Rattle.bus.specs.Tables.{Bus}
-use Rattle.bus.specs.Ports.{verdictTo}
 use Rattle.targets.specs.Target.{checkTarget}
+use Rattle.targets.specs.declared.Readings.{Readings}
+use Rattle.session.specs.Lent.{Memory, memory, lent}
 use Rattle.session.specs.Session.{isInitialized}
 use Rattle.session.specs.Session as session
 use Rattle.session.specs.declared.Session.{Session}
-use Rattle.submissions.specs.Begin.{roomIn, newId, startRefused, writeOf, startTo, beginBy, beginOf, targetTo, withBus, targetBy, targetOf}
+use Rattle.session.specs.declared.sizes.Place.{Place}
+use Rattle.submissions.specs.Begin.{roomIn, newId, startRefused, writeOf, Draft, draft, beginOf, targetBy, targetOf}
 use Rattle.submissions.specs.declared.begin.Start.the-variants as start
 use Rattle.submissions.specs.declared.begin.Started.{Started}
 
@@ -67,7 +69,7 @@ module _ (rows : List Row) (n : ℕ) (e : n ≡ heldCount 16 rows) where
       let z : n ≡ saturate 16 (count isHeld rows) = e in
       passes Found _ _ _ _ (lt-leb 128 (count isHeld rows) (below-128 (count isHeld rows) (omega arith))) ef
 
-pub found-free : (rows : List Row) (i : ℕ) → roomIn rows ≡ found.At i → foundIn isFree rows ≡ found.At i
+found-free : (rows : List Row) (i : ℕ) → roomIn rows ≡ found.At i → foundIn isFree rows ≡ found.At i
 unfolding roomIn _if_else_
 found-free rows i =
     caseB (leb 128 (count isHeld rows)) (λ t. rw t λ e. let z : _≡_ {A = ℕ} 0 1 = cc in absurd (omega arith)) (λ t. rw t λ e. e)
@@ -77,43 +79,33 @@ pub room-in : (rows : List Row) (f : Found) (i : ℕ) → f ≡ roomIn rows → 
 room-in rows f i ef e = found-in isFree rows (foundIn isFree rows) i refl (found-free rows i (sym ef ∙ e))
 
 -- the buffer
-module _ (at : ℕ) (m : RequestMetadata) (bytes area after : List ℕ) (b : Bool) (eb : b ≡ isIn (m .direction)) where
-  pub write-in : b ≡ true → after ≡ splice at (replicate (m .«requested_length») 0) area → after ≡ writeOf at m bytes area
+module _ (start : ℕ) (m : RequestMetadata) (bytes area written : List ℕ) (b : Bool) (eb : b ≡ isIn (m .direction)) where
+  pub write-in : b ≡ true → written ≡ splice start (replicate (m .«requested_length») 0) area → written ≡ writeOf start m bytes area
   unfolding writeOf
-  write-in t e = e ∙ ap (λ (z : List ℕ). splice at z area) (takes (List ℕ) _ _ _ _ (through b _ true eb t) refl)
+  write-in t e = e ∙ ap (λ (z : List ℕ). splice start z area) (takes (List ℕ) _ _ _ _ (through b _ true eb t) refl)
 
-  pub write-out : b ≡ false → after ≡ splice at (take (length bytes) bytes) area → after ≡ writeOf at m bytes area
+  pub write-out : b ≡ false → written ≡ splice start (take (length bytes) bytes) area → written ≡ writeOf start m bytes area
   unfolding writeOf
-  write-out t e = e ∙ ap (λ (z : List ℕ). splice at z area) (passes (List ℕ) _ _ _ _ (through b _ false eb t) (take-length bytes))
+  write-out t e = e ∙ ap (λ (z : List ℕ). splice start z area) (passes (List ℕ) _ _ _ _ (through b _ false eb t) (take-length bytes))
 
 -- the sequence number, then row and buffer
-module _ (s : Session) (i at : ℕ) (m : RequestMetadata) (bytes : List ℕ) (store : Store) (area : List ℕ) (v : Spent) (ev : v ≡ spendSequence (s .«next_sequence»)) where
-  begun : (w : Spent) → v ≡ w → beginBy w s i at m bytes store area ≡ beginOf s i at m bytes store area
+module _ (p : Place) (q : RequestMetadata) (bytes : List ℕ) (s : Session) (m : Memory) (v : Spent) (ev : v ≡ spendSequence (s .«next_sequence»)) where
+  pub begin-stop : (r : Refusal) (x : Started) → v ≡ spent.Refused r → x ≡ startRefused s r → after x m ≡ beginOf (draft p q bytes) s m
   unfolding beginOf
-  begun w e = ap (λ (x : Spent). beginBy x s i at m bytes store area) (sym e ∙ ev)
+  begin-stop r x e ex = rw (ex, ← ev, e, beginOf)
 
-  pub begin-stop : (r : Refusal) (x : Started) → v ≡ spent.Refused r → x ≡ startRefused s r → startTo x store area ≡ beginOf s i at m bytes store area
-  unfolding beginBy
-  begin-stop r x e ex = ap (λ (z : Started). startTo z store area) ex ∙ begun (spent.Refused r) e
-
-  pub begin-on : (next : ℕ) (id : RequestId) (row : Row) (after : Store) (written : List ℕ) (n : Session) → v ≡ spent.Next next → id ≡ newId s
-      → row ≡ pendingRow id m → after ≡ putIn store i row → written ≡ writeOf at m bytes area → n ≡ session.spent s next id
-      → startTo (record { answer = start.At id i; session = n }) after written ≡ beginOf s i at m bytes store area
-  unfolding beginBy
-  begin-on next id row after written n e ei er ea ew en = rw (en, ea, er, ew, ei) (begun (spent.Next next) e)
+  pub begin-on : (next : ℕ) (id : RequestId) (row : Row) (store : Store) (area : List ℕ) (n : Session) → v ≡ spent.Next next → id ≡ newId s
+      → row ≡ pendingRow id q → store ≡ putIn (m .store) (p .row) row → area ≡ writeOf (p .start) q bytes (m .area) → n ≡ session.spent s next id
+      → after (record { answer = start.At id (p .row); session = n }) (memory store area) ≡ beginOf (draft p q bytes) s m
+  unfolding beginOf
+  begin-on next id row store area n e ei er es ea en = rw (en, es, er, ea, ei, ← ev, e, beginOf)
 
 -- device and endpoint, then the rest
-module _ (s : Session) (i at : ℕ) (m : RequestMetadata) (bytes : List ℕ) (first second : PortReading) (b : Bus) (store : Store) (area : List ℕ) (t : Bool) (v : Verdict) (after : Bus) (et : t ≡ isInitialized (s .state)) (ev : verdictTo v after ≡ checkTarget t (s .ports) m first second b) where
-  aimed : (w : Verdict) → v ≡ w → targetBy w s i at m bytes after store area ≡ targetOf s i at m bytes first second b store area
-  unfolding targetOf
-  aimed w e = rw (← et, ← ev, e)
+module _ (d : Draft) (x : Readings) (s : Session) (b seen : Bus) (m : Memory) (t : Bool) (v : Verdict) (et : t ≡ isInitialized (s .state)) (ev : after v seen ≡ checkTarget t (s .ports) (d .metadata) x b) where
+  pub target-stop : (r : Refusal) (y : Started) → v ≡ verdict.Refused r → y ≡ startRefused s r → after y (lent seen m) ≡ targetOf d x s (lent b m)
+  unfolding targetOf targetBy
+  target-stop r y e ey = rw (ey, ← et, ← ev, e)
 
-  pub target-stop : (r : Refusal) (x : Started) → v ≡ verdict.Refused r → x ≡ startRefused s r
-      → targetTo x after store area ≡ targetOf s i at m bytes first second b store area
-  unfolding targetBy
-  target-stop r x e ex = ap (λ (z : Started). targetTo z after store area) ex ∙ aimed (verdict.Refused r) e
-
-  pub target-on : (x : Started) (put : Store) (written : List ℕ) → v ≡ verdict.Pass → startTo x put written ≡ beginOf s i at m bytes store area
-      → targetTo x after put written ≡ targetOf s i at m bytes first second b store area
-  unfolding targetBy
-  target-on x put written e h = ap (withBus after) h ∙ aimed verdict.Pass e
+  pub target-on : (y : Started) (left : Memory) → v ≡ verdict.Pass → after y left ≡ beginOf d s m → after y (lent seen left) ≡ targetOf d x s (lent b m)
+  unfolding targetOf targetBy
+  target-on y left e h = rw (← et, ← ev, e, ← h)

@@ -1,9 +1,9 @@
 -- One law for each way out of a control plan's submission: its premises are the facts in hand there. Assumes nothing.
-use Prim.Native.Nat.{ℕ, _*_}
-use mathlib.Core.Bool.{Bool}
+use Prim.Native.Nat.{ℕ}
 use mathlib.Core.List.{List}
-use mathlib.Core.Path.{_≡_, ap, _∙_}
+use mathlib.Core.Path.{_≡_, _∙_}
 use lib.ListN.{length}
+use Rattle.chain.specs.After.{After, after}
 use Rattle.chain.specs.declared.Found.{Found}
 use Rattle.chain.specs.declared.Found.the-variants as found
 use Rattle.models.specs.Refusals.{refusalOf}
@@ -13,18 +13,18 @@ use Rattle.models.specs.declared.Refusal.{Refusal}
 use Rattle.models.specs.declared.RequestId.{RequestId}
 use Rattle.models.specs.declared.Verdict.{Verdict}
 use Rattle.models.specs.declared.Verdict.the-variants as verdict
-use Rattle.rows.specs.Table.{readRows}
-use Rattle.rows.specs.Store.{Store, storeOf}
-use Rattle.rows.specs.declared.Row.{Row}
-use Rattle.bus.specs.Tables.{Bus}
 use Rattle.checks.specs.Plan.{planned}
 use Rattle.checks.specs.declared.plan.Planned.{Planned}
 use Rattle.checks.specs.declared.plan.Planned.the-variants as plan
 use Rattle.checks.specs.declared.plan.ValidatedControlPlan.{ValidatedControlPlan}
+use Rattle.session.specs.Lent.{Lent, lentFits}
+use Rattle.session.specs.Sizes.{placeOf}
 use Rattle.session.specs.Start.{readyOf}
 use Rattle.session.specs.declared.Session.{Session}
-use Rattle.submissions.specs.Begin.{roomIn, TargetTo, targetTo, targetOf}
-use Rattle.submissions.specs.Submit.{PlanTo, planTo, planRefused, planStarted, plannedTo, plannedBy, planRoomBy, planBy, submitPlanOf}
+use Rattle.session.specs.declared.sizes.Place.{Place}
+use Rattle.session.proofs.start.Laws.{guard-stop, guard-on}
+use Rattle.submissions.specs.Begin.{roomIn, draft, targetOf}
+use Rattle.submissions.specs.Plan.{planRefused, planStarted, plannedOf, planRoomOf, submitPlanOf}
 use Rattle.submissions.specs.declared.PlanSubmitted.{PlanSubmitted}
 use Rattle.submissions.specs.declared.PlanAnswer.the-variants as planAnswer
 use Rattle.submissions.specs.declared.begin.Start.{Start}
@@ -42,40 +42,35 @@ module _ (a : Start) (s : Session) (p : ValidatedControlPlan) where
   unfolding planStarted
   started-at id i e = rw e
 
-module _ (s : Session) (q : ControlPlan) (bytes : List ℕ) (first : PortReading) (b : Bus) (area : List ℕ) where
+module _ (q : ControlPlan) (bytes : List ℕ) (first : PortReading) (s : Session) (l : Lent) where
   -- 18 to 25 with 6 and 7, then the rest
-  module _ (store : Store) (x : PlanSubmitted) (i : ℕ) (a : Planned) (ea : a ≡ planned q (length bytes) (s .«row_bytes»)) where
-    pub planned-stop : (r : Refusal) → a ≡ plan.Refused r → x ≡ planRefused s r
-        → planTo x b store area ≡ plannedBy (planned q (length bytes) (s .«row_bytes»)) s i bytes first b store area
-    unfolding plannedBy
-    planned-stop r e ex = ap (λ (z : PlanSubmitted). planTo z b store area) ex ∙ rw (← ea, e)
+  module _ (p : Place) (x : PlanSubmitted) (a : Planned) (ea : a ≡ planned q (length bytes) (s .size .«row_bytes»)) where
+    pub planned-stop : (r : Refusal) → a ≡ plan.Refused r → x ≡ planRefused s r → after x l ≡ plannedOf p q bytes first s l
+    unfolding plannedOf
+    planned-stop r e ex = rw (ex, ← ea, e, plannedOf)
 
-    pub planned-on : (at : ℕ) (p : ValidatedControlPlan) (y : Started) (seen : Bus) (put : Store) (written : List ℕ) → at ≡ i * s .«row_bytes» → a ≡ plan.Ready p
-        → targetTo y seen put written ≡ targetOf s i at (p .metadata) bytes first first b store area → x ≡ planStarted (y .answer) (y .session) p
-        → planTo x seen put written ≡ plannedBy (planned q (length bytes) (s .«row_bytes»)) s i bytes first b store area
-    unfolding plannedBy
-    planned-on at p y seen put written et e h ex =
-        ap (λ (z : PlanSubmitted). planTo z seen put written) ex ∙ (ap (λ (o : TargetTo). plannedTo o p) h ∙ rw (et, ← ea, e))
+    pub planned-on : (v : ValidatedControlPlan) (y : Started) (left : Lent) → a ≡ plan.Ready v
+        → after y left ≡ targetOf (draft p (v .metadata) bytes) (record { first = first; second = first }) s l → x ≡ planStarted (y .answer) (y .session) v
+        → after x left ≡ plannedOf p q bytes first s l
+    unfolding plannedOf
+    planned-on v y left e h ex = rw (ex, ← ea, e, plannedOf, ← h)
 
   -- 5
-  module _ (store : Store) (rows : List Row) (f : Found) (ef : f ≡ roomIn rows) where
-    pub plan-none : (x : PlanSubmitted) (r : Refusal) → f ≡ found.Nothing → r ≡ refusalOf 5 → x ≡ planRefused s r
-        → planTo x b store area ≡ planRoomBy (roomIn rows) s q bytes first b store area
-    unfolding planRoomBy
-    plan-none x r e er ex = ap (λ (z : PlanSubmitted). planTo z b store area) ex ∙ rw (← ef, e, er)
+  module _ (f : Found) (ef : f ≡ roomIn (l .memory .store .rows)) where
+    pub plan-none : (x : PlanSubmitted) (r : Refusal) → f ≡ found.Nothing → r ≡ refusalOf 5 → x ≡ planRefused s r → after x l ≡ planRoomOf q bytes first s l
+    unfolding planRoomOf
+    plan-none x r e er ex = rw (ex, ← ef, e, er, planRoomOf)
 
-    pub plan-at : (i : ℕ) (o : PlanTo) → f ≡ found.At i → o ≡ plannedBy (planned q (length bytes) (s .«row_bytes»)) s i bytes first b store area
-        → o ≡ planRoomBy (roomIn rows) s q bytes first b store area
-    unfolding planRoomBy
-    plan-at i o e h = h ∙ rw (← ef, e)
+    pub plan-at : (i : ℕ) (o : After PlanSubmitted Lent) → f ≡ found.At i → o ≡ plannedOf (placeOf (s .size) i) q bytes first s l → o ≡ planRoomOf q bytes first s l
+    unfolding planRoomOf
+    plan-at i o e h = h ∙ rw (← ef, e, planRoomOf)
 
   -- 1, 3
-  module _ (fits : Bool) (v : Verdict) (ev : v ≡ readyOf s fits) where
-    pub plan-stop : (store : Store) (x : PlanSubmitted) (r : Refusal) → v ≡ verdict.Refused r → x ≡ planRefused s r → planTo x b store area ≡ submitPlanOf s fits q bytes first b store area
-    unfolding submitPlanOf planBy
-    plan-stop store x r e ex = ap (λ (z : PlanSubmitted). planTo z b store area) ex ∙ rw (← ev, e)
+  module _ (v : Verdict) (ev : v ≡ readyOf s (lentFits (s .size) l)) where
+    pub plan-stop : (x : PlanSubmitted) (r : Refusal) → v ≡ verdict.Refused r → x ≡ planRefused s r → after x l ≡ submitPlanOf q bytes first s l
+    unfolding submitPlanOf
+    plan-stop x r e ex = guard-stop (After PlanSubmitted Lent) (λ r. after (planRefused s r) l) _ s _ _ v ev r e (rw ex)
 
-    pub plan-on : (l : List ℕ) (o : PlanTo) → v ≡ verdict.Pass → o ≡ planRoomBy (roomIn (readRows l)) s q bytes first b (storeOf l) area
-        → o ≡ submitPlanOf s fits q bytes first b (storeOf l) area
-    unfolding submitPlanOf planBy storeOf
-    plan-on l o e h = h ∙ rw (← ev, e)
+    pub plan-on : (o : After PlanSubmitted Lent) → v ≡ verdict.Pass → o ≡ planRoomOf q bytes first s l → o ≡ submitPlanOf q bytes first s l
+    unfolding submitPlanOf
+    plan-on o e h = guard-on (After PlanSubmitted Lent) _ _ s _ o v ev e h

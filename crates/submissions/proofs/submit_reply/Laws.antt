@@ -1,26 +1,26 @@
 -- One law for each way out of the reply to a submission: its premises are the facts in hand there. Assumes nothing.
 use Prim.Native.Nat.{ℕ}
 use mathlib.Core.Bool.{Bool, true, false, not}
-use mathlib.Core.Path.{_≡_, sym, ap, _∙_}
+use mathlib.Core.Path.{_≡_, refl, _∙_}
+use Rattle.chain.specs.After.{After, after}
 use Rattle.chain.proofs.Chain.{takes, passes, not-through}
 use Rattle.models.specs.Refusals.{refusalOf, fromBackend}
-use Rattle.models.specs.declared.DeviceId.{DeviceId}
 use Rattle.models.specs.declared.OperationError.{OperationError}
 use Rattle.models.specs.declared.Refusal.{Refusal}
 use Rattle.models.specs.declared.RequestId.{RequestId}
 use Rattle.models.specs.declared.RequestReport.{RequestReport}
 use Rattle.rows.specs.Store.{Store}
-use Rattle.ledger.specs.Apply.{appliedTo, applyOf}
+use Rattle.ledger.specs.Apply.{applyOf}
 use Rattle.ledger.specs.declared.Applied.{Applied}
 use Rattle.ledger.specs.declared.Applied.the-variants as applied
 use Rattle.rules.specs.declared.Change.the-variants as change
+use Rattle.session.specs.Lent.{storeFits}
 use Rattle.session.specs.Session.{withFlight}
-use Rattle.session.specs.declared.InFlight.{InFlight}
 use Rattle.session.specs.declared.InFlight.the-variants as flight
-use Rattle.session.specs.declared.RecoveryKind.{RecoveryKind}
+use Rattle.session.specs.declared.Recovery.{Recovery}
 use Rattle.session.specs.declared.Session.{Session}
-use Rattle.reports.specs.Answers.{effect, ReportedTo, reportedTo, reportRefused}
-use Rattle.submissions.specs.Reply.{acceptedBy, discardedBy, submitReplyBy, submitReplyIn, submitReplyOf}
+use Rattle.reports.specs.Answers.{effect, reportRefused}
+use Rattle.submissions.specs.SubmitReply.{acceptedBy, discardedBy, submitReplyBy, submitReplyIn, submitReplyOf}
 use Rattle.submissions.specs.declared.SubmitReply.{SubmitReply}
 use Rattle.submissions.specs.declared.SubmitReply.the-variants as reply
 use Rattle.reports.specs.declared.Reported.{Reported}
@@ -48,42 +48,37 @@ module _ (a : Applied) (s : Session) where
     discarded-done row m n r ea em en er ex = ex ∙ rw (ea, en, em, er)
 
 -- the row's change, then its answer
-module _ (y : SubmitReply) (id : RequestId) (s : Session) (store after : Store) (a : Applied) (x : Reported) where
-  pub reply-token : (token : ℕ) → y ≡ reply.Token token → appliedTo a after ≡ applyOf id (change.Accept token) store → x ≡ acceptedBy a s
-      → reportedTo x after ≡ submitReplyBy y id s store
+module _ (y : SubmitReply) (id : RequestId) (s : Session) (store left : Store) (a : Applied) (x : Reported) where
+  pub reply-token : (token : ℕ) → y ≡ reply.Token token → after a left ≡ applyOf id (change.Accept token) store → x ≡ acceptedBy a s
+      → after x left ≡ submitReplyBy y id s store
   unfolding submitReplyBy
   reply-token token e ea ex = rw (ex, e, ← ea)
 
-  pub reply-error : (error : OperationError) → y ≡ reply.Error error → appliedTo a after ≡ applyOf id change.Discard store → x ≡ discardedBy a error s
-      → reportedTo x after ≡ submitReplyBy y id s store
+  pub reply-error : (error : OperationError) → y ≡ reply.Error error → after a left ≡ applyOf id change.Discard store → x ≡ discardedBy a error s
+      → after x left ≡ submitReplyBy y id s store
   unfolding submitReplyBy
   reply-error error e ea ex = rw (ex, e, ← ea)
 
 -- by what is in flight
-module _ (s : Session) (fits : Bool) (y : SubmitReply) (store : Store) where
-  flown : (f : InFlight) (o : ReportedTo) → s .«in_flight» ≡ f → o ≡ submitReplyIn f fits y s store → o ≡ submitReplyOf s fits y store
-  unfolding submitReplyOf
-  flown f o e h = h ∙ ap (λ (g : InFlight). submitReplyIn g fits y s store) (sym e)
-
+module _ (y : SubmitReply) (s : Session) (store : Store) where
   module _ (x : Reported) (ex : x ≡ reportRefused s (refusalOf 2)) where
-    pub reply-idle : s .«in_flight» ≡ flight.Nothing → reportedTo x store ≡ submitReplyOf s fits y store
-    unfolding submitReplyIn
-    reply-idle e = flown flight.Nothing _ e (rw ex)
+    pub reply-idle : s .«in_flight» ≡ flight.Nothing → after x store ≡ submitReplyOf y s store
+    unfolding submitReplyOf submitReplyIn
+    reply-idle e = rw (ex, e)
 
-    pub reply-poll : (id : RequestId) → s .«in_flight» ≡ flight.Poll id → reportedTo x store ≡ submitReplyOf s fits y store
-    unfolding submitReplyIn
-    reply-poll id e = flown (flight.Poll id) _ e (rw ex)
+    pub reply-poll : (id : RequestId) → s .«in_flight» ≡ flight.Poll id → after x store ≡ submitReplyOf y s store
+    unfolding submitReplyOf submitReplyIn
+    reply-poll id e = rw (ex, e)
 
-    pub reply-recovery : (id : RequestId) (device : DeviceId) (endpoint : ℕ) (kind : RecoveryKind) → s .«in_flight» ≡ flight.Recovery id device endpoint kind
-        → reportedTo x store ≡ submitReplyOf s fits y store
-    unfolding submitReplyIn
-    reply-recovery id device endpoint kind e = flown (flight.Recovery id device endpoint kind) _ e (rw ex)
+    pub reply-recovery : (z : Recovery) → s .«in_flight» ≡ flight.Recovery z → after x store ≡ submitReplyOf y s store
+    unfolding submitReplyOf submitReplyIn
+    reply-recovery z e = rw (ex, e)
 
-  module _ (id : RequestId) (e : s .«in_flight» ≡ flight.Submission id) (f : Bool) (ef : f ≡ fits) where
-    pub reply-unfit : (x : Reported) → not f ≡ true → x ≡ reportRefused s (refusalOf 3) → reportedTo x store ≡ submitReplyOf s fits y store
-    unfolding submitReplyIn
-    reply-unfit x t ex = flown (flight.Submission id) _ e (takes ReportedTo _ _ _ _ (not-through f fits true ef t) (rw ex))
+  module _ (id : RequestId) (e : s .«in_flight» ≡ flight.Submission id) (f : Bool) (ef : f ≡ storeFits (s .size) store) where
+    pub reply-unfit : (x : Reported) → not f ≡ true → x ≡ reportRefused s (refusalOf 3) → after x store ≡ submitReplyOf y s store
+    unfolding submitReplyOf submitReplyIn
+    reply-unfit x t ex = rw (ex, e) (takes (After Reported Store) _ _ _ _ (not-through f _ true ef t) refl)
 
-    pub reply-on : (o : ReportedTo) → not f ≡ false → o ≡ submitReplyBy y id s store → o ≡ submitReplyOf s fits y store
-    unfolding submitReplyIn
-    reply-on o t h = flown (flight.Submission id) o e (passes ReportedTo _ _ _ _ (not-through f fits false ef t) h)
+    pub reply-on : (o : After Reported Store) → not f ≡ false → o ≡ submitReplyBy y id s store → o ≡ submitReplyOf y s store
+    unfolding submitReplyOf submitReplyIn
+    reply-on o t h = rw (h, e) (passes (After Reported Store) _ _ _ _ (not-through f _ false ef t) refl)

@@ -1,3 +1,5 @@
+use Rattle.rows.specs.Store.{storeOf}
+use Rattle.bus.specs.Tables.{busOf}
 use Rattle.submissions.proofs.plan.Laws.{plan-stop, plan-on}
 use Rattle.session.proofs.start.Laws.{ready-sizes}
 use borrow.Author.Needs.{needs}
@@ -8,9 +10,11 @@ plan-room-requires : tie.Need-plan-room-requires
 plan-room-requires c κs = search ready-sizes
 
 returns : tie.Need-returns
+unfolding storeOf busOf
 returns c = search plan-stop
 
 returns-2 : tie.Need-returns-2
+unfolding storeOf busOf
 returns-2 c = search plan-on
 
 pub submit-control-plan-spec : {M : Type 1} → statement M

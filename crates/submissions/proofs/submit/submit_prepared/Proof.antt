@@ -11,7 +11,7 @@ returns : tie.Need-returns
 returns c = search prepared-stop
 
 returns-2 : tie.Need-returns-2
-returns-2 c = search (prepared-on, (c .before .before .before .before .before .before .before .before .before .before .before .before .before .before .before .before .before .before .before .pre) .2)
+returns-2 c = search prepared-on
 
 pub submit-prepared-spec : {M : Type 1} → statement M
 submit-prepared-spec =

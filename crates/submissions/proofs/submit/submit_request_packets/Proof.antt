@@ -1,3 +1,5 @@
+use Rattle.rows.specs.Store.{storeOf}
+use Rattle.bus.specs.Tables.{busOf}
 use Rattle.submissions.proofs.submit.Laws.{submit-stop, submit-on}
 use Rattle.session.proofs.start.Laws.{ready-sizes}
 use borrow.Author.Needs.{needs}
@@ -8,9 +10,11 @@ submit-checked-requires : tie.Need-submit-checked-requires
 submit-checked-requires c κs = search ready-sizes
 
 returns : tie.Need-returns
+unfolding storeOf busOf
 returns c = search submit-stop
 
 returns-2 : tie.Need-returns-2
+unfolding storeOf busOf
 returns-2 c = search submit-on
 
 pub submit-request-packets-spec : {M : Type 1} → statement M

@@ -1,20 +1,24 @@
+use Rattle.rows.specs.Store.{storeOf}
 use Rattle.submissions.proofs.begin.Laws.{room-in}
 use Rattle.submissions.proofs.submit.Laws.{room-none, room-at}
-use Rattle.submissions.proofs.Room.{bus-fits, room-fits, room-place}
+use Rattle.submissions.proofs.Room.{room-fits, room-place}
+use Rattle.session.proofs.sizes.Laws.{lent-bus}
 use borrow.Author.Needs.{needs}
 use Rattle.submissions.proofs.submit.submit_room.Statement.{statement}
 use Rattle.submissions.proofs.submit.submit_room.Tie as tie
 
 returns : tie.Need-returns
+unfolding storeOf
 returns c = search room-none
 
-mul-at : tie.Need-mul-at
-mul-at c = search room-fits
+mul-start : tie.Need-mul-start
+mul-start c = search room-fits
 
 submit-prepared-requires : tie.Need-submit-prepared-requires
-submit-prepared-requires c κs = search (bus-fits, room-in, room-place)
+submit-prepared-requires c κs = search (lent-bus, room-in, room-place)
 
 returns-2 : tie.Need-returns-2
+unfolding storeOf
 returns-2 c = search room-at
 
 pub submit-room-spec : {M : Type 1} → statement M
@@ -28,7 +32,7 @@ submit-room-spec =
     (λ c κs. search needs)
     (λ c. search needs)
     returns
-    mul-at
+    mul-start
     submit-prepared-requires
     (λ c. search needs)
     (λ c. search needs)

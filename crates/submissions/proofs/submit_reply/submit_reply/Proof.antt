@@ -1,15 +1,18 @@
+use Rattle.rows.specs.Store.{storeOf}
 use Rattle.submissions.proofs.submit_reply.Laws.{reply-unfit, reply-idle, reply-on, reply-poll, reply-recovery}
 use borrow.Author.Needs.{needs}
 use Rattle.submissions.proofs.submit_reply.submit_reply.Statement.{statement}
 use Rattle.submissions.proofs.submit_reply.submit_reply.Tie as tie
 
 returns : tie.Need-returns
+unfolding storeOf
 returns c = search reply-unfit
 
 returns-2 : tie.Need-returns-2
 returns-2 c = search reply-idle
 
 returns-3 : tie.Need-returns-3
+unfolding storeOf
 returns-3 c = search reply-on
 
 returns-4 : tie.Need-returns-4
