@@ -190,7 +190,8 @@ fn settle(
     place: Place,
     bytes: &[u8],
 ) -> Reported
-    requires { ⌜ (place .row < length (readRows (now rows))) × (place .start + idle .size .«row_bytes» ≤ length (now area)) ⌝ }
+    requires { ⌜ (place .row < length (readRows (now rows)))
+        × (place .start + idle .size .«row_bytes» ≤ length (now area)) ⌝ }
     ensures { λ r. ⌜ after r (memoryOut rows area)
         ≡ settled (changeRow row (j .change)) j place (now (bytes .entry)) idle (memoryIn rows area) ⌝ }
 {
@@ -220,7 +221,8 @@ fn reply_at(
     reply: PollReply,
     bytes: &[u8],
 ) -> Reported
-    requires { ⌜ (place .row < length (readRows (now rows))) × (place .start + idle .size .«row_bytes» ≤ length (now area)) ⌝ }
+    requires { ⌜ (place .row < length (readRows (now rows)))
+        × (place .start + idle .size .«row_bytes» ≤ length (now area)) ⌝ }
     ensures { λ r. ⌜ after r (memoryOut rows area)
         ≡ pollReplyAt reply (rowIn (rowsIn rows) (place .row)) place (now (bytes .entry)) idle (memoryIn rows area) ⌝ }
 {
@@ -250,7 +252,8 @@ fn reply_found(
     reply: PollReply,
     bytes: &[u8],
 ) -> Reported
-    ensures { λ r. ⌜ after r (memoryOut rows area) ≡ pollReplyFound id reply (now (bytes .entry)) session (memoryIn rows area) ⌝ }
+    ensures { λ r. ⌜ after r (memoryOut rows area)
+        ≡ pollReplyFound id reply (now (bytes .entry)) session (memoryIn rows area) ⌝ }
 {
     let size = session.size;
     if !sizes::memory_fits(size, rows.len(), area.len()) {
@@ -273,7 +276,8 @@ pub fn poll_reply(
     reply: PollReply,
     bytes: &[u8],
 ) -> Reported
-    ensures { λ r. ⌜ after r (memoryOut rows area) ≡ pollReplyOf reply (now (bytes .entry)) session (memoryIn rows area) ⌝ }
+    ensures { λ r. ⌜ after r (memoryOut rows area)
+        ≡ pollReplyOf reply (now (bytes .entry)) session (memoryIn rows area) ⌝ }
 {
     let flight = session.in_flight;
     match flight {

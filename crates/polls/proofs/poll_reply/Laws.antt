@@ -182,30 +182,26 @@ module _ (id : RequestId) (r : PollReply) (bytes : List ℕ) (s : Session) (m : 
     unfolding pollReplyFound pollReplyBy
     found-at i idle y e ei ey = passes (After Reported Memory) _ _ _ _ (not-through f _ false ef t) (ey ∙ rw (sym eg ∙ e, ei))
 
--- the session without the poll has the same sizes
-pub idle-place : (s idle : Session) (w : List ℕ) (size : ℕ) (f : Bool) → f ≡ memorySizes (s .size) (length w) size → not f ≡ false
-    → (p : Row → Bool) (g : Found) (i : ℕ) → g ≡ foundIn p (readRows w) → g ≡ found.At i → idle ≡ withFlight s flight.Nothing
+-- the session with another operation in flight, or none, has the same sizes
+pub idle-place : (s idle : Session) (k : InFlight) (w : List ℕ) (size : ℕ) (f : Bool) → f ≡ memorySizes (s .size) (length w) size → not f ≡ false
+    → (p : Row → Bool) (g : Found) (i : ℕ) → g ≡ foundIn p (readRows w) → g ≡ found.At i → idle ≡ withFlight s k
     → i * s .size .«row_bytes» + idle .size .«row_bytes» ≤ size
-idle-place s idle w size f ef t p g i eg e ei = rw ei (found-place (s .size) w size f ef t p g i eg e)
+idle-place s idle k w size f ef t p g i eg e ei = rw ei (found-place (s .size) w size f ef t p g i eg e)
 
 -- by what is in flight
 module _ (r : PollReply) (bytes : List ℕ) (s : Session) (m : Memory) where
   module _ (x : Reported) (ex : x ≡ reportRefused s (refusalOf 2)) where
-    refused-in : pollReplyIn (s .«in_flight») r bytes s m ≡ after (reportRefused s (refusalOf 2)) m → after x m ≡ pollReplyOf r bytes s m
-    unfolding pollReplyOf
-    refused-in e = rw ex (sym e)
-
     pub reply-idle : s .«in_flight» ≡ flight.Nothing → after x m ≡ pollReplyOf r bytes s m
     unfolding pollReplyOf pollReplyIn
-    reply-idle e = refused-in (ap (λ (f : InFlight). pollReplyIn f r bytes s m) e)
+    reply-idle e = rw (ex, e)
 
     pub reply-submission : (id : RequestId) → s .«in_flight» ≡ flight.Submission id → after x m ≡ pollReplyOf r bytes s m
     unfolding pollReplyOf pollReplyIn
-    reply-submission id e = refused-in (ap (λ (f : InFlight). pollReplyIn f r bytes s m) e)
+    reply-submission id e = rw (ex, e)
 
     pub reply-recovery : (v : Recovery) → s .«in_flight» ≡ flight.Recovery v → after x m ≡ pollReplyOf r bytes s m
     unfolding pollReplyOf pollReplyIn
-    reply-recovery v e = refused-in (ap (λ (f : InFlight). pollReplyIn f r bytes s m) e)
+    reply-recovery v e = rw (ex, e)
 
   pub reply-on : (id : RequestId) (y : After Reported Memory) → s .«in_flight» ≡ flight.Poll id → y ≡ pollReplyFound id r bytes s m → y ≡ pollReplyOf r bytes s m
   unfolding pollReplyOf pollReplyIn
