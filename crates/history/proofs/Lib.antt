@@ -16,4 +16,5 @@ pub mod Refusing
 pub mod Theorem
 pub mod Never
 pub mod Waiting
+pub mod Watcher
 pub mod Examples
