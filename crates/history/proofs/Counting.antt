@@ -1,6 +1,6 @@
 -- An id is handed over as often as it has entries. Assumes nothing.
 use Prim.Native.Nat.{ℕ, _+_}
-use mathlib.Core.Bool.{false, cond, _&&_, true≢false}
+use mathlib.Core.Bool.{false, cond, true≢false}
 use mathlib.Core.List.{List, [], _∷_}
 use mathlib.Core.Path.{_≡_, refl, ap}
 use native.Mathlib.Omega.{arith}
@@ -36,28 +36,30 @@ use Rattle.reports.specs.Change.{changeOf}
 use Rattle.reports.specs.Status.{statusOf, nextOf, shownCount, completedPart, heldCountOf, heldBytesOf}
 use Rattle.reports.specs.declared.OptionId.{OptionId}
 use Rattle.reports.specs.declared.OptionId.the-variants as option
+use Rattle.polls.specs.PollReply.{pollReplyOf}
 use Rattle.polls.specs.declared.PollAnswer.{PollAnswer}
 use Rattle.polls.specs.declared.PollAnswer.the-variants as poll
 use Rattle.polls.specs.Poll.{pollOf}
-use Rattle.polls.specs.Finish.{finishOf}
 use Rattle.polls.specs.declared.PollReply.{PollReply}
 use Rattle.polls.specs.declared.PollReply.the-variants as pollReply
-use Rattle.submissions.specs.Submit.{submitOf, submitPlanOf}
-use Rattle.submissions.specs.Reply.{submitReplyOf}
+use Rattle.submissions.specs.Submit.{submitOf}
+use Rattle.submissions.specs.Plan.{submitPlanOf}
+use Rattle.submissions.specs.SubmitReply.{submitReplyOf}
 use Rattle.submissions.specs.declared.SubmitReply.{SubmitReply}
 use Rattle.submissions.specs.declared.SubmitReply.the-variants as submitReply
 use Rattle.scope.specs.Returned.{Returned, readReturned}
+use Rattle.recovery.specs.Recover.{recoverOf}
+use Rattle.recovery.specs.RecoveryReply.{ReplyLists, recoveryReplyOf}
 use Rattle.recovery.specs.declared.BeginAnswer.{BeginAnswer}
 use Rattle.recovery.specs.declared.BeginAnswer.the-variants as begin
 use Rattle.recovery.specs.declared.RecoveryAnswer.{RecoveryAnswer}
 use Rattle.recovery.specs.declared.RecoveryAnswer.the-variants as recovery
-use Rattle.recovery.specs.Begin.{recoverOf}
 use Rattle.calls.specs.Answers.{ofVerdict, ofSubmit, ofPlan, ofReport, ofPoll, ofNext, ofTally, ofPart, ofBegin, ofRecovery}
 use Rattle.calls.specs.Calls.{Reading, Status, Reports, CountReports, CompletedBytes, HeldCount, HeldBytes, Call, Open, Place, Move, Acquire, Initialize, Close, Begin, Submit, SubmitPlan, Poll, Recover, Reply, ToSubmit, ToPoll, ToRecovery, Change, Read}
-use Rattle.calls.specs.Step.{World, world, stepOf, rowsMatch, areaMatches, storeMatches, recoversOf, placedOf, movedOf, begunOf, repliedOf, changeBy, readOf}
+use Rattle.calls.specs.Step.{World, stepOf, placedOf, movedOf, begunOf, repliedOf, changeBy, readOf, worldStore}
 use Rattle.calls.specs.declared.Answer.{Answer}
 use Rattle.calls.specs.declared.Answer.the-variants as answer
-use Rattle.runs.specs.Run.{Handed, Event, isOpening, leftBy, answerTo, historyOf, Handing, Follows}
+use Rattle.runs.specs.Run.{Handed, Event, isOpening, leftBy, answerTo, historyOf, Handing, Follows, beside}
 use Rattle.runs.proofs.Handings.{by-handed}
 use Rattle.history.specs.Journal.{Entry, Journal, View, isEntry, atEntry, release, begunId, isAsked, isPass, isRecovering, endsBy, countsBy, begunBy, acceptedAs, testedAs, settledBy, atWaiting, polledBy, ReleasedTo, completesBy, completesAll, abortsAll, releasesAll, releasedIn, recoveryWaits, recoveredJournal, journalStep, journalOf}
 use Rattle.history.specs.Claim.{isBegun, handsOver}
@@ -71,13 +73,13 @@ refused-3 (Place p) j = refl
 refused-3 (Move (Acquire reply)) j = refl
 refused-3 (Move (Initialize reply)) j = refl
 refused-3 (Move (Close fresh reply)) j = refl
-refused-3 (Begin (Submit q bytes packed packets first second)) j = refl
+refused-3 (Begin (Submit packets q)) j = refl
 refused-3 (Begin (SubmitPlan q bytes first)) j = refl
 refused-3 (Begin (Poll id)) j = refl
 refused-3 (Begin (Recover id kind)) j = refl
 refused-3 (Reply (ToSubmit reply)) j = refl
 refused-3 (Reply (ToPoll reply bytes)) j = refl
-refused-3 (Reply (ToRecovery reply tokens words aborted bytes)) j = refl
+refused-3 (Reply (ToRecovery reply lists)) j = refl
 refused-3 (Change id c) j = refl
 refused-3 (Read r) j = refl
 
@@ -113,7 +115,7 @@ module _ (x : RequestId) where
   waiting-ids flight.Nothing f h l = refl
   waiting-ids (flight.Submission id) f h l = at-ids id f h l
   waiting-ids (flight.Poll id) f h l = at-ids id f h l
-  waiting-ids (flight.Recovery target device endpoint k) f h l = refl
+  waiting-ids (flight.Recovery y) f h l = refl
 
   polled-ids : (r : PollReply) (given : ℕ) (j : Journal) → number (polledBy r given j .entries) ≡ number (j .entries)
   polled-ids pollReply.Nothing given j = refl
@@ -147,23 +149,24 @@ module _ (x : RequestId) where
   aborts-ids view (t ∷ ts) l =
       omega (arith, aborts-ids view ts (atEntry (view t .id) release l), at-ids (view t .id) release (λ e. refl) l)
 
-  releases-ids : (view : ℕ → View) (rs : List Returned) (aborted bytes : List ℕ) (l : List Entry) → number (releasesAll view rs aborted bytes l) ≡ number l
-  releases-ids view rs aborted bytes l =
-      let q : ReleasedTo = completesAll view rs bytes l in
-      let e = completes-ids view rs bytes l in
-      let rest = aborts-ids view aborted (q .entries) in
+  releases-ids : (view : ℕ → View) (r : ReplyLists) (l : List Entry) → number (releasesAll view r l) ≡ number l
+  releases-ids view r l =
+      let rs : List Returned = readReturned (r .tokens) (r .completions) in
+      let q : ReleasedTo = completesAll view rs (r .bytes) l in
+      let e = completes-ids view rs (r .bytes) l in
+      let rest = aborts-ids view (r .aborted) (q .entries) in
       caseB (q .refused) (λ y. rw y (omega (arith, e, rest))) (λ y. rw y (omega (arith, e, rest)))
 
-  released-ids : (w : InFlight) (rs : List Returned) (aborted bytes : List ℕ) (l : List Entry) → number (releasedIn w rs aborted bytes l) ≡ number l
-  released-ids flight.Nothing rs aborted bytes l = refl
-  released-ids (flight.Submission id) rs aborted bytes l = refl
-  released-ids (flight.Poll id) rs aborted bytes l = refl
-  released-ids (flight.Recovery target device endpoint k) rs aborted bytes l = releases-ids _ rs aborted bytes l
+  released-ids : (w : InFlight) (r : ReplyLists) (l : List Entry) → number (releasedIn w r l) ≡ number l
+  released-ids flight.Nothing r l = refl
+  released-ids (flight.Submission id) r l = refl
+  released-ids (flight.Poll id) r l = refl
+  released-ids (flight.Recovery y) r l = releases-ids _ r l
 
-  recovered-ids : (a : Answer) (rs : List Returned) (aborted bytes : List ℕ) (j : Journal) → number (recoveredJournal a rs aborted bytes j .entries) ≡ number (j .entries)
-  recovered-ids a rs aborted bytes j =
-      let r = released-ids (j .waiting) rs aborted bytes (j .entries) in
-      caseB (endsBy a) (λ e. rw e (caseB (countsBy a) (λ y. rw y r) (λ y. rw y))) (λ e. rw e)
+  recovered-ids : (a : Answer) (r : ReplyLists) (j : Journal) → number (recoveredJournal a r j .entries) ≡ number (j .entries)
+  recovered-ids a r j =
+      let k = released-ids (j .waiting) r (j .entries) in
+      caseB (endsBy a) (λ e. rw e (caseB (countsBy a) (λ y. rw y k) (λ y. rw y))) (λ e. rw e)
 
   -- ---- a call other than a submission hands nothing over
   verdict-still : (a : Verdict) (n m : ℕ) → m ≡ n → m ≡ n + cond (isBegun x (begunId (ofVerdict a))) 1 0
@@ -203,45 +206,42 @@ module _ (x : RequestId) where
 
   read-still : (r : Reading) (w : World) (n : ℕ) → n ≡ n + cond (isBegun x (begunId (readOf r w))) 1 0
   unfolding readOf
-  read-still (Status id) w n = report-still (statusOf (w .session) (rowsMatch w) id (w .store .rows)) n n refl
-  read-still (Reports from) w n = nextReport-still (nextOf (w .session) (rowsMatch w) from (w .store .rows)) n n refl
-  read-still CountReports w n = tally-still (shownCount (w .session) (rowsMatch w) (w .store .rows)) n n refl
-  read-still (CompletedBytes id) w n = part-still (completedPart (w .session) (rowsMatch w && areaMatches w) id (w .store .rows)) n n refl
-  read-still HeldCount w n = tally-still (heldCountOf (rowsMatch w) (w .store .rows)) n n refl
-  read-still HeldBytes w n = tally-still (heldBytesOf (rowsMatch w) (w .store .rows)) n n refl
+  read-still (Status id) w n = report-still (statusOf id (w .session) (worldStore w)) n n refl
+  read-still (Reports from) w n = nextReport-still (nextOf from (w .session) (worldStore w)) n n refl
+  read-still CountReports w n = tally-still (shownCount (w .session) (worldStore w)) n n refl
+  read-still (CompletedBytes id) w n = part-still (completedPart id (length (w .lent .memory .area)) (w .session) (worldStore w)) n n refl
+  read-still HeldCount w n = tally-still (heldCountOf (w .session) (worldStore w)) n n refl
+  read-still HeldBytes w n = tally-still (heldBytesOf (w .session) (worldStore w)) n n refl
 
   step-ids : (c : Call) (w : World) (j : Journal) → isOpening c ≡ false
       → number (journalStep c (stepOf c w .result .answer) j .entries) ≡ number (j .entries) + cond (isBegun x (begunId (stepOf c w .result .answer))) 1 0
   unfolding stepOf movedOf begunOf repliedOf journalStep
   step-ids (Open o) w j f = absurd (true≢false f)
-  step-ids (Place p) w j f = verdict-still (placedOf p w .answer) _ _ refl
-  step-ids (Move (Acquire reply)) w j f = verdict-still (acquireOf (w .session) reply .answer) _ _ refl
-  step-ids (Move (Initialize reply)) w j f = verdict-still (initializeOf (w .session) reply .answer) _ _ refl
+  step-ids (Place p) w j f = verdict-still (placedOf p w .result) _ _ refl
+  step-ids (Move (Acquire reply)) w j f = verdict-still (acquireOf reply (w .session) .answer) _ _ refl
+  step-ids (Move (Initialize reply)) w j f = verdict-still (initializeOf reply (w .session) .answer) _ _ refl
   step-ids (Move (Close fresh reply)) w j f =
-      let a : Answer = ofVerdict (closeOf (w .session) (rowsMatch w) fresh reply (w .store) .result .answer) in
-      verdict-still (closeOf (w .session) (rowsMatch w) fresh reply (w .store) .result .answer) _ _
-      (let c = closed-ids x (j .entries) in caseB (isPass a) (λ e. rw e (omega (arith, c))) (λ e. rw e))
-  step-ids (Begin (Submit q bytes given packets one two)) w j f =
-      begun-ids (begunId (ofSubmit (submitOf (w .session) (storeMatches w) q bytes given packets one two (w .bus) (w .store) (w .area) .result .answer))) (q .device) (q .endpoint) (q .length) j
+      let a : Verdict = closeOf fresh reply (w .session) (worldStore w) .result .answer in
+      verdict-still a _ _ (let c = closed-ids x (j .entries) in caseB (isPass (ofVerdict a)) (λ e. rw e (omega (arith, c))) (λ e. rw e))
+  step-ids (Begin (Submit packets q)) w j f =
+      begun-ids (begunId (ofSubmit (submitOf packets q (w .session) (w .lent) .result .answer))) (q .spec .device) (q .spec .endpoint) (q .spec .length) j
   step-ids (Begin (SubmitPlan q bytes one)) w j f =
-      begun-ids (begunId (ofPlan (submitPlanOf (w .session) (storeMatches w) q bytes one (w .bus) (w .store) (w .area) .result .answer))) (q .device) 0
+      begun-ids (begunId (ofPlan (submitPlanOf q bytes one (w .session) (w .lent) .result .answer))) (q .device) 0
       (stageOf (q .«data_stage») (q .setup .«request_type») .length) j
   step-ids (Begin (Poll id)) w j f =
-      let a : Answer = ofPoll (pollOf (w .session) (rowsMatch w) id (w .store .rows) .answer) in
-      poll-still (pollOf (w .session) (rowsMatch w) id (w .store .rows) .answer) _ _ (caseB (isAsked a) (λ e. rw e) (λ e. rw e))
-  step-ids (Begin (Recover id kind)) w j f = begin-ids (recoverOf (w .session) (rowsMatch w) id kind (w .store .rows) .answer) id kind j
+      let a : PollAnswer = pollOf id (w .session) (worldStore w) .answer in
+      poll-still a _ _ (caseB (isAsked (ofPoll a)) (λ e. rw e) (λ e. rw e))
+  step-ids (Begin (Recover id kind)) w j f = begin-ids (recoverOf id kind (w .session) (worldStore w) .answer) id kind j
   step-ids (Reply (ToSubmit reply)) w j f =
-      let a : Answer = ofReport (submitReplyOf (w .session) (rowsMatch w) reply (w .store) .result .answer) in
-      report-still (submitReplyOf (w .session) (rowsMatch w) reply (w .store) .result .answer) _ _
-      (caseB (endsBy a) (λ e. rw e (waiting-ids (j .waiting) (acceptedAs reply) (λ y. accepted-id reply y) (j .entries))) (λ e. rw e))
+      let a : ReportAnswer = submitReplyOf reply (w .session) (worldStore w) .result .answer in
+      report-still a _ _ (caseB (endsBy (ofReport a)) (λ e. rw e (waiting-ids (j .waiting) (acceptedAs reply) (λ y. accepted-id reply y) (j .entries))) (λ e. rw e))
   step-ids (Reply (ToPoll reply bytes)) w j f =
-      let a : Answer = ofReport (finishOf (w .session) (rowsMatch w && areaMatches w) reply bytes (w .store) (w .area) .result .answer) in
-      report-still (finishOf (w .session) (rowsMatch w && areaMatches w) reply bytes (w .store) (w .area) .result .answer) _ _
-      (caseB (endsBy a) (λ e. rw e (polled-ids reply (length bytes) j)) (λ e. rw e))
-  step-ids (Reply (ToRecovery reply tokens words aborted bytes)) w j f =
-      recovery-still (recoversOf reply tokens words aborted bytes w .result .answer) _ _
-      (recovered-ids (ofRecovery (recoversOf reply tokens words aborted bytes w .result .answer)) (readReturned tokens words) aborted bytes j)
-  step-ids (Change id c) w j f = report-still (changeOf (w .session) (rowsMatch w) id (changeBy c) (w .store) .result .answer) _ _ refl
+      let a : ReportAnswer = pollReplyOf reply bytes (w .session) (w .lent .memory) .result .answer in
+      report-still a _ _ (caseB (endsBy (ofReport a)) (λ e. rw e (polled-ids reply (length bytes) j)) (λ e. rw e))
+  step-ids (Reply (ToRecovery reply lists)) w j f =
+      let a : RecoveryAnswer = recoveryReplyOf reply lists (w .session) (w .lent .memory) .result .answer in
+      recovery-still a _ _ (recovered-ids (ofRecovery a) lists j)
+  step-ids (Change id c) w j f = report-still (changeOf id (changeBy c) (w .session) (worldStore w) .result .answer) _ _ refl
   step-ids (Read r) w j f = read-still r w (number (j .entries))
 
   event-ids : (h : Handed) (c : Call) (w : World) (j : Journal) → Handing h c
@@ -250,7 +250,7 @@ module _ (x : RequestId) where
   event-ids h c w j f =
       let z : number (journalStep c (answer.Refused (refusalOf 3)) j .entries) ≡ number (j .entries) = ap (λ (y : Journal). number (y .entries)) (refused-3 c j) in
       by-handed h c w (λ a v. number (journalStep c a j .entries) ≡ number (j .entries) + cond (isBegun x (begunId a)) 1 0) f
-      (λ first bus area. step-ids c (world (w .session) bus (w .store) area) j first) (omega (arith, z))
+      (λ first bus area. step-ids c (beside bus area w) j first) (omega (arith, z))
 
   pub handed-over : (es : List Event) (w : World) (j : Journal) → Follows es
       → count (handsOver x) (historyOf w es) + number (j .entries) ≡ number (journalOf (historyOf w es) j .entries)

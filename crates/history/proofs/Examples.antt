@@ -39,7 +39,7 @@ use Rattle.ledger.specs.Tally.{saturate, heldCount, heldBytes}
 use Rattle.bus.specs.Tables.{busOf, cleared, putDevice, putEndpoints, putPort}
 use Rattle.bus.specs.Layout as layout
 use Rattle.bus.specs.Ports as bus
-use Rattle.bus.specs.Endpoints as lists
+use Rattle.bus.specs.Endpoints as endpoints
 use Rattle.checks.specs.Completion.{codeTested, testCode, testLength, testCompletion}
 use Rattle.checks.specs.Packets.{packetsChecked}
 use Rattle.checks.specs.Prepare as prepare
@@ -47,8 +47,8 @@ use Rattle.targets.specs.Target as target
 use Rattle.session.specs.Session.{isInitialized, raised, marked}
 use Rattle.session.specs.Lifecycle.{openOf, acquiredBy, acquireOf, initializedBy, initializeOf, closedBy, freshBy, closeOf}
 use Rattle.session.specs.Place.{placed, setDeviceOf, setPortOf, setEndpointsOf}
-use Rattle.session.specs.Start.{guarded, readyOf}
-use Rattle.session.specs.Sizes.{openFits, rowsFit, areaFits}
+use Rattle.session.specs.Start.{guarded}
+use Rattle.session.specs.Sizes.{rowsFit, areaFits}
 use Rattle.session.specs.declared.InFlight.the-variants as flight
 use Rattle.session.specs.declared.OptionStall.the-variants as stall
 use Rattle.session.specs.declared.RecoveryKind.the-variants as kind
@@ -58,30 +58,30 @@ use Rattle.session.specs.declared.lifecycle.Opening.{Opening}
 use Rattle.reports.specs.Answers.{effect}
 use Rattle.reports.specs.Change.{reportedBy, changeOf}
 use Rattle.reports.specs.Status.{heldCountOf, heldBytesOf}
-use Rattle.polls.specs.Finish.{stallOf, failedAs, judgedTest, judgedBy, judged, storedIn, settled, finishAt, finishBy, finishFound, finishIn, finishOf}
 use Rattle.polls.specs.Poll.{pollRow, pollBy, pollOf}
+use Rattle.polls.specs.PollReply.{pollReplyIn, pollReplyBy, pollReplyFound, stallOf, storedIn, failedAs, judgedTest, judgedBy, judged, settled, pollReplyAt, pollReplyOf}
 use Rattle.polls.specs.declared.PollReply.the-variants as poll
-use Rattle.submissions.specs.Begin.{roomIn, writeOf, beginBy, beginOf, targetBy, targetOf}
-use Rattle.submissions.specs.Reply.{acceptedBy, discardedBy, submitReplyBy, submitReplyIn, submitReplyOf}
-use Rattle.submissions.specs.Submit.{submittedBy, preparedBy, roomBy, packetsBy, submitBy, submitOf}
+use Rattle.submissions.specs.Begin.{roomIn, writeOf, beginOf, targetBy, targetOf}
+use Rattle.submissions.specs.Submit.{submittedBy, submitOf, packetsOf, roomOf, preparedOf, request}
+use Rattle.submissions.specs.SubmitReply.{submitReplyIn, acceptedBy, discardedBy, submitReplyBy, submitReplyOf}
 use Rattle.submissions.specs.declared.SubmitReply.the-variants as submit
 use Rattle.scope.specs.Affected.{isAffected, joined, affectedOf}
 use Rattle.scope.specs.Returned.{readBrought, broughtAt, readReturned, listsAgree}
 use Rattle.scope.specs.Scope.{inScope}
-use Rattle.recovery.specs.Begin as recoveryBegin
-use Rattle.recovery.specs.Entries.{storedAt, rowCompletedBy, testedBy, completeOne, abortedBy, abortOne}
-use Rattle.recovery.specs.Reply.{restoredBy, resetBy, sessionAfter, refusedAfter, abortsAfter, applyAll, concludedBy, scopedOf, doneOf, replyBy, replySized, replyIn, recoveryReplyOf}
+use Rattle.recovery.specs.Entries.{rowCompletedBy, testedBy, completeOne, abortedBy, abortOne, readEntries, applyAll}
+use Rattle.recovery.specs.Recover.{recoverBy, beginRow, recoverOf, begunAs}
+use Rattle.recovery.specs.RecoveryReply.{doneOf, replyBy, replySized, replyIn, ReplyLists, replyLists, restoredBy, resetBy, sessionAfter, refusedAfter, concludedBy, settledOf, recoveryReplyOf}
 use Rattle.recovery.specs.declared.AbortReport.{AbortReport}
 use Rattle.recovery.specs.declared.RecoveryReply.{RecoveryReply}
 use Rattle.recovery.specs.declared.RecoveryReply.the-variants as reply
 use Rattle.calls.specs.Calls.{Call, Open, Place, Device, Port, Endpoints, Move, Acquire, Initialize, Close, Begin, Submit, Poll, Recover, Reply, ToSubmit, ToPoll, Change, Timeout, Reclaim, Read, HeldCount, HeldBytes}
-use Rattle.calls.specs.Step.{World, world, placedOf, movedOf, begunOf, repliedOf, readOf, stepOf}
+use Rattle.calls.specs.Step.{World, placedOf, movedOf, begunOf, repliedOf, readOf, stepOf}
 use Rattle.calls.specs.declared.Answer.{Answer}
 use Rattle.calls.specs.declared.Answer.the-variants as answer
 use Rattle.runs.specs.Run.{Event, own, other, Answered, next, endOf, historyOf}
 use Rattle.history.specs.Journal.{Entry, journalStep}
 use Rattle.history.specs.Claim.{calls, rowsAfter, entriesAfter, returns, Different, Recovered, Claim}
-use Rattle.history.proofs.Theorem.{history-claim}
+use Rattle.history.proofs.Theorem.{history-claim, worldOf}
 
 -- two rows of 8 bytes, one port
 abbrev opening : Opening
@@ -91,8 +91,7 @@ opening = record {
   «recovery_revision» = u64.Some 0;
   «has_ports» = true;
   «port_count» = 1;
-  «row_count» = 2;
-  «row_bytes» = 8;
+  size = record { «row_count» = 2; «row_bytes» = 8 };
 }
 
 abbrev closed : Session
@@ -105,8 +104,7 @@ closed = record {
   «recovery_revision» = u64.None;
   «recoverable_stall» = stall.None;
   «in_flight» = flight.Nothing;
-  «row_count» = 0;
-  «row_bytes» = 0;
+  size = record { «row_count» = 0; «row_bytes» = 0 };
 }
 
 -- the lent slices: a bus, two rows, and their 16 bytes
@@ -114,7 +112,7 @@ abbrev busWords : List ℕ
 busWords = cleared .words
 
 abbrev before : World
-before = world closed (busOf busWords) (storeOf (replicate 52 0)) (replicate 16 0)
+before = worldOf closed busWords (replicate 52 0) (replicate 16 0)
 
 abbrev start : World
 start = next (stepOf (Open opening) before)
@@ -130,7 +128,9 @@ id n = record { session = 5; generation = 0; sequence = n }
 
 -- n bytes from endpoint 81h
 abbrev asks : ℕ → Call
-asks n = Begin (Submit (record { device = camera; endpoint = 0x81; «transfer_type» = Bulk; direction = In; length = n; setup = setup.None }) [] false [] (Word 0x403) (Word 0x403))
+asks n =
+    Begin (Submit [] (request (record { device = camera; endpoint = 0x81; «transfer_type» = Bulk; direction = In; length = n; setup = setup.None }) [] false
+    (record { first = Word 0x403; second = Word 0x403 })))
 
 abbrev broken : OperationError
 broken = record { category = Validation; message = 1; «os_code» = i32.None; «completion_code» = u32.None }
@@ -181,6 +181,10 @@ whole = reply.Done (record { «restart_ready» = true; error = error.None })
 abbrev completion : List ℕ
 completion = 0 ∷ 0 ∷ 0 ∷ 0 ∷ 0 ∷ 1 ∷ 4 ∷ 2 ∷ 1 ∷ 1 ∷ 4 ∷ []
 
+-- its lists, with n bytes
+abbrev lists : ℕ → ReplyLists
+lists n = replyLists (9 ∷ []) completion (7 ∷ []) (replicate n 1)
+
 -- the calls before the reply that succeeds, and those after it
 abbrev front : List Event
 front =
@@ -189,14 +193,14 @@ front =
     ∷ calls (asks 8) ∷ calls (Reply (ToSubmit (submit.Token 7)))
     ∷ calls (asks 4) ∷ calls (Reply (ToSubmit (submit.Token 9)))
     ∷ calls (Begin (Recover (id 0) kind.Abort)) ∷ calls (Read HeldCount) ∷ calls (Change (id 1) Timeout)
-    ∷ returns whole (9 ∷ []) completion (7 ∷ []) (1 ∷ 2 ∷ 3 ∷ 4 ∷ 5 ∷ []) own
+    ∷ returns whole (lists 5) own
     ∷ []
 
 abbrev back : List Event
 back = calls (Change (id 0) Reclaim) ∷ calls (Read HeldCount) ∷ calls (Read HeldBytes) ∷ []
 
 abbrev succeeds : Event
-succeeds = returns whole (9 ∷ []) completion (7 ∷ []) (1 ∷ 2 ∷ 3 ∷ 4 ∷ []) own
+succeeds = returns whole (lists 4) own
 
 abbrev recovery : List Event
 recovery = front ++ (succeeds ∷ back)
@@ -215,7 +219,7 @@ toReset =
     ∷ []
 
 abbrev aborts : Event
-aborts = returns whole [] [] (7 ∷ []) [] own
+aborts = returns whole (replyLists [] [] (7 ∷ []) []) own
 
 abbrev toAbort : List Event
 toAbort =
@@ -277,7 +281,7 @@ pub record Shown : Type 0 where
       ((1 ∷ 4 ∷ 0 ∷ 1 ∷ []) ∷ (0 ∷ 8 ∷ 0 ∷ 1 ∷ []) ∷ [])
       ((4 ∷ []) ∷ (1 ∷ 4 ∷ 1 ∷ 4 ∷ 1 ∷ []) ∷ [])
   -- the claim's own words about this recovery
-  pub recovered : Recovered camera 0x81 (9 ∷ []) completion (7 ∷ []) (rowsAfter start front) (rowsAfter start (front ++ (succeeds ∷ [])))
+  pub recovered : Recovered camera 0x81 (lists 4) (rowsAfter start front) (rowsAfter start (front ++ (succeeds ∷ [])))
   -- 28 while the controller is RecoveryRequired
   pub stalled-is : Computed stalled
       (0 ∷ 0 ∷ 0 ∷ 0 ∷ 0 ∷ 0 ∷ 0 ∷ 0 ∷ 0 ∷ 28 ∷ 0 ∷ 0 ∷ 0 ∷ 0 ∷ 0 ∷ 0 ∷ 0 ∷ 0 ∷ 0 ∷ 1 ∷ 2 ∷ 0 ∷ 0 ∷ [])
@@ -310,7 +314,7 @@ two-apart (r ∷ q ∷ []) e = go
 two-apart (r ∷ q ∷ p ∷ l) e = let z : _≡_ {A = ℕ} 2 3 = ap (λ (m : List ℕ). length (take 3 m)) (sym e) ∙ refl in absurd (omega arith)
 
 pub shown : Shown
-unfolding stepOf placedOf movedOf begunOf repliedOf readOf openOf openFits rowsFit areaFits cleared _if_else_ foundIn splice putIn emptied emptyRow isHeld putRow putWords rowCount readRow recordOf applyBy applyAt applyOf pendingRow spendSequence moved freed accepted whilePending timeOut completed failed reclaimed changeRow isAt isFree saturate heldCount heldBytes putDevice putEndpoints putPort codeTested testCode testLength testCompletion packetsChecked marked acquiredBy acquireOf initializedBy initializeOf placed setDeviceOf setPortOf setEndpointsOf effect roomIn writeOf beginBy beginOf targetBy targetOf reportedBy changeOf failedAs judgedTest judgedBy judged storedIn settled finishAt finishBy finishFound finishIn finishOf pollRow pollBy pollOf acceptedBy discardedBy submitReplyBy submitReplyIn submitReplyOf heldCountOf heldBytesOf submittedBy preparedBy roomBy packetsBy guarded readyOf submitBy submitOf bus.numberChecked bus.setPortBy bus.setPort bus.readingChecked bus.validatedRow bus.validatedBy bus.validated bus.observedBy bus.observedRow bus.observePortBy bus.observePort bus.freshObserved bus.freshWord bus.freshReading bus.freshPortBy bus.freshPort lists.setEndpoints prepare.dataChecked prepare.otherChecked prepare.specChecked prepare.preparedIf prepare.prepared target.knownBy target.knownDevice target.preparedDevice target.freshDevice target.checkDeviceBy target.checkDevice target.speedChecked target.endpointBy target.checkEndpoint target.checkTargetBy target.checkTarget layout.deviceRecord journalStep closeOf recoveryBegin.recoverOf recoveryBegin.recoverBy recoveryBegin.beginRow recoveryBegin.begunAs listed isAffected joined affectedOf inScope readBrought broughtAt readReturned listsAgree storedAt rowCompletedBy testedBy completeOne abortedBy abortOne abortConfirmed restoredBy resetBy sessionAfter refusedAfter abortsAfter applyAll concludedBy scopedOf doneOf replyBy replySized replyIn recoveryReplyOf part requestBefore storeOf readRows busOf raised stallOf freshBy closedBy isUncertain
+unfolding stepOf placedOf movedOf begunOf repliedOf readOf openOf rowsFit areaFits cleared _if_else_ foundIn splice putIn emptied emptyRow isHeld putRow putWords rowCount readRow recordOf applyBy applyAt applyOf pendingRow spendSequence moved freed accepted whilePending timeOut completed failed reclaimed changeRow isAt isFree saturate heldCount heldBytes putDevice putEndpoints putPort codeTested testCode testLength testCompletion packetsChecked marked acquiredBy acquireOf initializedBy initializeOf placed setDeviceOf setPortOf setEndpointsOf effect roomIn writeOf beginOf targetBy targetOf reportedBy changeOf failedAs judgedTest judgedBy judged storedIn settled pollReplyAt pollReplyBy pollReplyFound pollReplyIn pollReplyOf pollRow pollBy pollOf acceptedBy discardedBy submitReplyBy submitReplyIn submitReplyOf heldCountOf heldBytesOf submittedBy preparedOf roomOf packetsOf guarded submitOf bus.numberChecked bus.setPortBy bus.setPort bus.readingChecked bus.validatedRow bus.validatedBy bus.validated bus.observedBy bus.observedRow bus.observePortBy bus.observePort bus.freshObserved bus.freshWord bus.freshReading bus.freshPortBy bus.freshPort endpoints.setEndpoints prepare.dataChecked prepare.otherChecked prepare.specChecked prepare.preparedIf prepare.prepared target.knownBy target.knownDevice target.preparedDevice target.freshDevice target.checkDeviceBy target.checkDevice target.speedChecked target.endpointBy target.checkEndpoint target.checkTargetBy target.checkTarget layout.deviceRecord journalStep closeOf recoverOf recoverBy beginRow begunAs listed isAffected joined affectedOf inScope readBrought broughtAt readReturned listsAgree readEntries rowCompletedBy testedBy completeOne abortedBy abortOne abortConfirmed restoredBy resetBy sessionAfter refusedAfter applyAll concludedBy settledOf doneOf replyBy replySized replyIn recoveryReplyOf part requestBefore storeOf readRows busOf raised stallOf freshBy closedBy isUncertain
 shown =
     let of-recovery = history-claim opening closed busWords (replicate 52 0) (replicate 16 0) recovery refl
     (refl, (refl, (refl, (refl, (refl, (refl, (refl, (refl, (refl, (refl, (refl, (refl, (refl, (refl, (refl, (refl, (refl, tt)))))))))))))))))
@@ -325,7 +329,7 @@ shown =
             (refl, (refl, (refl, (refl, (refl, (refl, (refl, (refl, (refl, (refl, (refl, (refl, (refl, (refl, (refl, (refl, (refl, (refl, (refl, (refl, (refl, (refl, (refl, (refl, (refl, tt)))))))))))))))))))))))));
       };
       recovery-is = record { answers-are = refl; journal-is = refl; rows-are = refl; claim = of-recovery };
-      recovered = of-recovery .recovered front back own whole (9 ∷ []) completion (7 ∷ []) (1 ∷ 2 ∷ 3 ∷ 4 ∷ []) refl report refl refl refl
+      recovered = of-recovery .recovered front back own whole (lists 4) refl report refl refl refl
           (two-apart (rowsAfter start front) refl);
       stalled-is = record {
         answers-are = refl;

@@ -49,7 +49,7 @@ flight-none : (f : InFlight) → isBusy f ≡ false → f ≡ flight.Nothing
 flight-none flight.Nothing e = refl
 flight-none (flight.Submission id) e = absurd (true≢false e)
 flight-none (flight.Poll id) e = absurd (true≢false e)
-flight-none (flight.Recovery target device endpoint kind) e = absurd (true≢false e)
+flight-none (flight.Recovery x) e = absurd (true≢false e)
 
 module _ (s : Session) (rows : List Row) (j : Journal) (seen : List ℕ) (k : Inv s rows j seen) where
   pub marks : Inv (marked s) rows j seen
@@ -61,9 +61,9 @@ module _ (s : Session) (rows : List Row) (j : Journal) (seen : List ℕ) (k : In
   effects e = if-all (λ (x : Session). Inv x rows j seen) _ _ _ k marks
 
   -- ---- an operation ends
-  pub ended : (rows′ : List Row) (entries′ : List Entry) → Led rows′ entries′ → ((x : RequestId) → count (isEntry x) entries′ ≡ count (isEntry x) (j .entries))
+  pub ended-kept : (rows′ : List Row) (entries′ : List Entry) → Led rows′ entries′ → ((x : RequestId) → count (isEntry x) entries′ ≡ count (isEntry x) (j .entries))
       → Inv (withFlight s flight.Nothing) rows′ (record { entries = entries′; waiting = flight.Nothing }) seen
-  ended rows′ entries′ led ids = record {
+  ended-kept rows′ entries′ led ids = record {
     led = led;
     fresh = λ n h. ids _ ∙ k .fresh n h;
     past = λ x e. ids x ∙ k .past x e;
@@ -82,7 +82,7 @@ module _ (s : Session) (rows : List Row) (j : Journal) (seen : List ℕ) (k : In
     pub ends-at : Inv (withFlight s flight.Nothing) (set rows i r′) (endedWith g j) seen
     ends-at =
         subst (λ (l : List Entry). Inv (withFlight s flight.Nothing) (set rows i r′) (record { entries = l; waiting = flight.Nothing }) seen) (sym about)
-        (ended (set rows i r′) (atEntry x g (j .entries)) (led-at rows (j .entries) (k .led) x i lt hit r′ g c)
+        (ended-kept (set rows i r′) (atEntry x g (j .entries)) (led-at rows (j .entries) (k .led) x i lt hit r′ g c)
         (ids-kept rows (j .entries) (k .led) x i lt hit r′ g c))
 
   -- ---- a row changes, and no entry

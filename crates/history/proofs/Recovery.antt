@@ -8,8 +8,8 @@ use borrow.Author.Tests.{not-true}
 use lib.Dec.{eqb}
 use lib.ListN.{length}
 use Rattle.chain.specs.Lists.{count}
+use Rattle.chain.specs.After.{After}
 use Rattle.chain.proofs.Chain.{if-all, both}
-use Rattle.models.specs.declared.DeviceId.{DeviceId}
 use Rattle.models.specs.declared.Refusal.{Refusal}
 use Rattle.models.specs.declared.RequestId.{RequestId}
 use Rattle.models.specs.declared.Verdict.{Verdict}
@@ -19,6 +19,7 @@ use Rattle.rows.specs.Table.{isHeld, rowIn}
 use Rattle.rows.specs.declared.Row.{Row}
 use Rattle.ledger.specs.Search.{isAt}
 use Rattle.session.specs.Session.{withFlight, marked}
+use Rattle.session.specs.Lent.{Memory}
 use Rattle.session.specs.declared.InFlight.{InFlight}
 use Rattle.session.specs.declared.InFlight.the-variants as flight
 use Rattle.session.specs.declared.OptionStall.{OptionStall}
@@ -26,46 +27,49 @@ use Rattle.session.specs.declared.OptionStall.the-variants as stall
 use Rattle.session.specs.declared.RecoveryKind.{RecoveryKind}
 use Rattle.session.specs.declared.RecoveryKind.the-variants as kind
 use Rattle.session.specs.declared.Session.{Session}
-use Rattle.scope.specs.Affected.{affectedOf, tokensOf}
-use Rattle.scope.specs.Scope.{meant, inScope}
-use Rattle.scope.specs.Returned.{readReturned}
-use Rattle.recovery.specs.Begin.{recoveryOf, begunAs, recoverOf}
-use Rattle.recovery.specs.Reports.{idLists}
-use Rattle.recovery.specs.Reply.{RecoveredTo, isWhole, restoredBy, resetBy, sessionAfter, refusedAfter, applyAll, abortReport, concludedBy, scopedOf, recoveryReplyOf}
+use Rattle.scope.specs.Scope.{inScope}
+use Rattle.session.specs.declared.Recovery.{Recovery}
+use Rattle.recovery.specs.Recover.{recoverOf, begunAs, recoveryOf}
+use Rattle.recovery.specs.RecoveryReply.{ReplyLists, rowsMeant, ended, isWhole, restoredBy, resetBy, sessionAfter, refusedAfter, concludedBy, settledOf, recoveryReplyOf}
+use Rattle.recovery.specs.Entries.{applyAll}
 use Rattle.recovery.specs.declared.AbortReport.{AbortReport}
 use Rattle.recovery.specs.declared.Begun.{Begun}
 use Rattle.recovery.specs.declared.Ids.{Ids}
 use Rattle.recovery.specs.declared.Outcome.{Outcome}
-use Rattle.recovery.specs.declared.Recovery.{Recovery}
 use Rattle.recovery.specs.declared.RecoveryReply.{RecoveryReply}
+use Rattle.recovery.specs.declared.Recovered.{Recovered}
 use Rattle.calls.specs.Answers.{ofBegin, ofRecovery}
 use Rattle.calls.specs.declared.Answer.the-variants as answer
 use Rattle.runs.proofs.Ids.{access-held}
 use Rattle.runs.proofs.Ways.{begin-all, recovery-all}
-use Rattle.history.specs.Journal.{Entry, Journal, View, entryView, entryOf, isRecovering, idle, affectedViews, meantView, releasesAll, recoveryWaits, releasedIn, recoveredJournal}
+use Rattle.runs.proofs.Affected.{ownTokens, placeMeant}
+use Rattle.history.specs.Journal.{Entry, Journal, View, entryView, entryOf, isRecovering, idle, affectedViews, meantView, releasesAll, recoveryWaits, releasedIn, recoveredJournal, recoveryAs}
 use Rattle.history.specs.Claim.{rowView}
 use Rattle.history.proofs.Led.{entry-is}
 use Rattle.history.proofs.Changes.{view-is}
 use Rattle.history.proofs.Ordered.{view-ext}
-use Rattle.history.proofs.Inv.{Inv, marks, ended, waits-for}
+use Rattle.history.proofs.Inv.{Inv, marks, ended-kept, waits-for}
 use Rattle.history.proofs.Walks.{Kept, isLate, LateBy}
 use Rattle.history.proofs.Scoped.{recovered-kept}
 
 -- ---- the session after the entries
-module _ (rows : List Row) (j : Journal) (seen : List ℕ) where
-  restored-kept : (q : OptionStall) (s : Session) → Inv s rows j seen → (d : DeviceId) (endpoint : ℕ) (certain : Bool) → Inv (restoredBy q s d endpoint certain) rows j seen
+module _ (rows : List Row) (j : Journal) (seen : List ℕ) (s : Session) (k : Inv s rows j seen) where
+  abbrev Holds : Session → Type 0
+  Holds t = Inv t rows j seen
+
+  restored-kept : (q : OptionStall) (x : Recovery) (certain : Bool) → Holds (restoredBy q x certain s)
   unfolding restoredBy
-  restored-kept stall.None s k d endpoint certain = k
-  restored-kept (stall.Some note) s k d endpoint certain = if-all (λ (x : Session). Inv x rows j seen) _ _ _ k k
+  restored-kept stall.None x certain = k
+  restored-kept (stall.Some note) x certain = if-all Holds _ _ _ k k
 
-  reset-kept : (q : RecoveryKind) (s : Session) → Inv s rows j seen → (x : Recovery) (l : List Row) → Inv (resetBy q s x l) rows j seen
+  reset-kept : (q : RecoveryKind) (x : Recovery) (l : List Row) → Holds (resetBy q x l s)
   unfolding resetBy
-  reset-kept kind.Abort s k x l = k
-  reset-kept (kind.Reset preserve) s k x l = restored-kept (s .«recoverable_stall») s k (x .device) (x .endpoint) _
+  reset-kept kind.Abort x l = k
+  reset-kept (kind.Reset preserve) x l = restored-kept (s .«recoverable_stall») x _
 
-  after-kept : (s : Session) → Inv s rows j seen → (x : Recovery) (o : Outcome) (l : List Row) → Inv (sessionAfter s x o l) rows j seen
+  after-kept : (x : Recovery) (o : Outcome) (l : List Row) → Holds (sessionAfter (ended s x o) l)
   unfolding sessionAfter
-  after-kept s k x o l = if-all (λ (y : Session). Inv y rows j seen) _ _ _ (marks s rows j seen k) (reset-kept (x .kind) s k x l)
+  after-kept x o l = if-all Holds _ _ _ (marks s rows j seen k) (reset-kept (x .kind) x l)
 
 -- a refusal of an entry is none of those before the entries
 late-each : (a b c d e : Bool) → not (a || b || c || d || e) ≡ true → (a ≡ false) × (b ≡ false) × (c ≡ false) × (d ≡ false) × (e ≡ false)
@@ -98,84 +102,75 @@ module _ (s : Session) (j : Journal) (seen : List ℕ) (store : Store) (k : Inv 
         view-ext (entryView its) (rowView (rowIn (store .rows) i))
         (view-is (rowIn (store .rows) i) its held (entry-is (store .rows) (j .entries) (k .led) id i lt hit))
 
-    opened : (q : RecoveryKind) → Begin-kept id q (begunAs s (recoveryOf id (rowIn (store .rows) i) q) (store .rows))
+    opened : (q : RecoveryKind) → Begin-kept id q (begunAs (recoveryOf id q (rowIn (store .rows) i)) s (store .rows))
     unfolding begunAs
     opened q = record {
       led = k .led;
       fresh = k .fresh;
       past = k .past;
       here = k .here;
-      agree = ap (λ (v : View). flight.Recovery id (v .device) (v .endpoint) q) its-view;
+      agree = ap (λ (v : View). flight.Recovery (recoveryAs id q v)) its-view;
     }
 
-  pub begin-kept : (fits : Bool) (id : RequestId) (q : RecoveryKind) → Begin-kept id q (recoverOf s fits id q (store .rows))
-  begin-kept fits id q =
-      begin-all s id q (store .rows) (Begin-kept id q) (λ n e. k) (λ i lt hit m. k)
-      (λ i lt hit a m. opened id i lt hit (access-held id (rowIn (store .rows) i) hit a) q) fits
+  pub begin-kept : (id : RequestId) (q : RecoveryKind) → Begin-kept id q (recoverOf id q s store)
+  begin-kept id q =
+      begin-all id q s store (Begin-kept id q) (λ n e. k) (λ i lt hit m. k) (λ i lt hit a m. opened id i lt hit (access-held id (rowIn (store .rows) i) hit a) q)
 
   -- a start that opens its operation names it
-  pub begin-names : (x : Recovery) (fits : Bool) (id : RequestId) (q : RecoveryKind) → ofBegin (recoverOf s fits id q (store .rows) .answer) ≡ answer.Recovering x
-      → flight.Recovery (x .target) (x .device) (x .endpoint) (x .kind) ≡ recoveryWaits id q j .waiting
+  pub begin-names : (x : Recovery) (id : RequestId) (q : RecoveryKind) → ofBegin (recoverOf id q s store .answer) ≡ answer.Recovering x
+      → flight.Recovery x ≡ recoveryWaits id q j .waiting
   unfolding begunAs
-  begin-names x fits id q =
-      begin-all s id q (store .rows) Names (λ n e. refused) (λ i lt hit m. refused)
+  begin-names x id q =
+      begin-all id q s store (λ (o : Begun). ofBegin (o .answer) ≡ answer.Recovering x → flight.Recovery x ≡ recoveryWaits id q j .waiting)
+      (λ n e. refused) (λ i lt hit m. refused)
       (λ i lt hit a m y.
-      let n : recoveryOf id (rowIn (store .rows) i) q ≡ x = cc in
-      ap (λ (v : Recovery). flight.Recovery (v .target) (v .device) (v .endpoint) (v .kind)) (sym n)
-      ∙ ap (λ (v : View). flight.Recovery id (v .device) (v .endpoint) q) (sym (its-view id i lt hit (access-held id (rowIn (store .rows) i) hit a))))
-      fits
+      let n : recoveryOf id q (rowIn (store .rows) i) ≡ x = cc in
+      ap flight.Recovery (sym n)
+      ∙ ap (λ (v : View). flight.Recovery (recoveryAs id q v)) (sym (its-view id i lt hit (access-held id (rowIn (store .rows) i) hit a))))
     where
-      Names : Begun → Type 0
-      Names o = ofBegin (o .answer) ≡ answer.Recovering x → flight.Recovery (x .target) (x .device) (x .endpoint) (x .kind) ≡ recoveryWaits id q j .waiting
-
       refused : {f : Refusal} {A : Type 0} → answer.Refused f ≡ answer.Recovering x → A
       refused e = let z : _≡_ {A = ℕ} 0 1 = cc in absurd (omega arith)
 
-  -- ---- the reply
-  module _ (few : count isHeld (store .rows) ≤ 128) (tokens words aborted bytes area : List ℕ) where
-    abbrev Reply-kept : RecoveredTo → Type 0
-    Reply-kept o = Inv (o .result .session) (o .store .rows) (recoveredJournal (ofRecovery (o .result .answer)) (readReturned tokens words) aborted bytes j) seen
+-- ---- the reply
+module _ (s : Session) (j : Journal) (seen : List ℕ) (m : Memory) (k : Inv s (m .store .rows) j seen) (few : count isHeld (m .store .rows) ≤ 128) (l : ReplyLists) where
+  abbrev Reply-kept : After Recovered Memory → Type 0
+  Reply-kept o = Inv (o .result .session) (o .lent .store .rows) (recoveredJournal (ofRecovery (o .result .answer)) l j) seen
 
-    -- the session without the recovery
-    abbrev quiet : Session
-    quiet = withFlight s flight.Nothing
+  -- the session without the recovery
+  abbrev quiet : Session
+  quiet = withFlight s flight.Nothing
 
-    refused-kept : Inv (marked quiet) (store .rows) (idle j) seen
-    refused-kept = marks quiet (store .rows) (idle j) seen (waits-for s (store .rows) j seen k flight.Nothing)
+  refused-kept : Inv (marked quiet) (m .store .rows) (idle j) seen
+  refused-kept = marks quiet (m .store .rows) (idle j) seen (waits-for s (m .store .rows) j seen k flight.Nothing)
 
-    module _ (x : Recovery) (own : s .«in_flight» ≡ flight.Recovery (x .target) (x .device) (x .endpoint) (x .kind)) where
-      abbrev entries′ : List Entry
-      entries′ = releasesAll (meantView (affectedViews (x .device) (x .endpoint) (j .entries))) (readReturned tokens words) aborted bytes (j .entries)
+  module _ (x : Recovery) (own : s .«in_flight» ≡ flight.Recovery x) where
+    abbrev entries′ : List Entry
+    entries′ = releasesAll (meantView (affectedViews (x .device) (x .endpoint) (j .entries))) l (j .entries)
 
-      about : releasedIn (j .waiting) (readReturned tokens words) aborted bytes (j .entries) ≡ entries′
-      about = ap (λ (f : InFlight). releasedIn f (readReturned tokens words) aborted bytes (j .entries)) (k .agree ∙ own)
+    about : releasedIn (j .waiting) l (j .entries) ≡ entries′
+    about = ap (λ (f : InFlight). releasedIn f l (j .entries)) (k .agree ∙ own)
 
-      abbrev released : Journal
-      released = record { entries = entries′; waiting = flight.Nothing }
+    abbrev released : Journal
+    released = record { entries = entries′; waiting = flight.Nothing }
 
-      module _ (rows′ : List Row) (kept : Kept (store .rows) (j .entries) rows′ entries′) where
-        base : Inv quiet rows′ released seen
-        base = ended s (store .rows) j seen k rows′ entries′ (kept .led) (kept .ids)
+    module _ (rows′ : List Row) (kept : Kept (m .store .rows) (j .entries) rows′ entries′) where
+      base : Inv quiet rows′ released seen
+      base = ended-kept s (m .store .rows) j seen k rows′ entries′ (kept .led) (kept .ids)
 
-        concluded : (v : Verdict) → LateBy v → (o : Outcome) (report : AbortReport) (ids : Ids)
-            → Inv (concludedBy v quiet x o report ids rows′ .session) rows′ (recoveredJournal (ofRecovery (concludedBy v quiet x o report ids rows′ .answer)) (readReturned tokens words) aborted bytes j) seen
-        unfolding concludedBy refusedAfter
-        concluded (verdict.Refused r) late o report ids =
-            let (two, three, lists, error, scope) = late-numbers (r .number) late in
-            rw (two, three, lists, error, scope, about) (if-all (λ (y : Session). Inv y rows′ released seen) _ _ _ (marks quiet rows′ released seen base) base)
-        concluded verdict.Pass late o report ids = rw about (after-kept rows′ released seen quiet base x o rows′)
+      concluded : (v : Verdict) → LateBy v → (o : Outcome) (report : AbortReport) (ids : Ids)
+          → Inv (concludedBy v (ended quiet x o) report ids rows′ .session) rows′ (recoveredJournal (ofRecovery (concludedBy v (ended quiet x o) report ids rows′ .answer)) l j) seen
+      unfolding concludedBy refusedAfter
+      concluded (verdict.Refused r) late o report ids =
+          let (two, three, lists, error, scope) = late-numbers (r .number) late in
+          rw (two, three, lists, error, scope, about) (if-all (λ (y : Session). Inv y rows′ released seen) _ _ _ (marks quiet rows′ released seen base) base)
+      concluded verdict.Pass late o report ids = rw about (after-kept rows′ released seen quiet base x o rows′)
 
-      scoped-kept : (o : Outcome) → inScope (isWhole o) (tokensOf (store .rows) (affectedOf (x .device) (x .endpoint) (store .rows))) (tokens ++ aborted) ≡ true
-          → Reply-kept (scopedOf quiet x o (affectedOf (x .device) (x .endpoint) (store .rows)) (tokensOf (store .rows) (affectedOf (x .device) (x .endpoint) (store .rows))) tokens words aborted bytes store area)
-      unfolding scopedOf
-      scoped-kept o n =
-          let w = recovered-kept (x .device) (x .endpoint) store (j .entries) few (k .led) (isWhole o) (quiet .«row_bytes») tokens words aborted bytes area n in
-          concluded
-          (applyAll (meant (affectedOf (x .device) (x .endpoint) (store .rows)) (tokensOf (store .rows) (affectedOf (x .device) (x .endpoint) (store .rows)))) (quiet .«row_bytes») (readReturned tokens words) aborted bytes store area .store .rows)
-          (w .0)
-          (applyAll (meant (affectedOf (x .device) (x .endpoint) (store .rows)) (tokensOf (store .rows) (affectedOf (x .device) (x .endpoint) (store .rows)))) (quiet .«row_bytes») (readReturned tokens words) aborted bytes store area .verdict)
-          (w .1) o (abortReport x o (length tokens) (length aborted))
-          (idLists (store .rows) (meant (affectedOf (x .device) (x .endpoint) (store .rows)) (tokensOf (store .rows) (affectedOf (x .device) (x .endpoint) (store .rows)))) tokens aborted)
+    settled-kept : (o : Outcome) → inScope (isWhole o) (ownTokens (x .device) (x .endpoint) (m .store .rows)) (l .tokens ++ l .aborted) ≡ true
+        → Reply-kept (settledOf (ended quiet x o) (rowsMeant (placeMeant (x .device) (x .endpoint) (m .store .rows)) l) m)
+    unfolding settledOf
+    settled-kept o n =
+        let w = recovered-kept (x .device) (x .endpoint) m (j .entries) few (k .led) (isWhole o) (s .size) l n in
+        concluded _ (w .0) (applyAll (s .size) (rowsMeant (placeMeant (x .device) (x .endpoint) (m .store .rows)) l) m .result) (w .1) o _ _
 
-    pub recovery-kept : (fits : Bool) (r : RecoveryReply) → Reply-kept (recoveryReplyOf s fits r tokens words aborted bytes store area)
-    recovery-kept fits r = recovery-all s tokens words aborted bytes store area Reply-kept k k k (λ e. refused-kept) refused-kept (λ x own o n. scoped-kept x own o n) fits r
+  pub recovery-kept : (r : RecoveryReply) → Reply-kept (recoveryReplyOf r l s m)
+  recovery-kept r = recovery-all l s m Reply-kept k k k (λ e. refused-kept) refused-kept (λ x own o n. settled-kept x own o n) r

@@ -1,9 +1,10 @@
 -- Polls and the backend's replies keep the invariant. Assumes nothing.
-use Prim.Native.Nat.{ℕ, _*_, _<_}
+use Prim.Native.Nat.{ℕ, _<_}
 use mathlib.Core.Path.{_≡_, refl, sym, ap, _∙_, subst}
 use mathlib.Core.Bool.{Bool, true, false, cond, false≢true}
 use mathlib.Core.List.{List}
 use lib.ListN.{length, set}
+use Rattle.chain.specs.After.{After, after}
 use Rattle.chain.proofs.Chain.{if-all}
 use Rattle.words.specs.declared.OptionU32.{OptionU32}
 use Rattle.models.specs.Refusals.{invalidCompletion}
@@ -27,21 +28,23 @@ use Rattle.checks.specs.Completion.{testCompletion}
 use Rattle.checks.specs.declared.completion.CompletionTest.{CompletionTest}
 use Rattle.checks.specs.declared.completion.CompletionTest.the-variants as test
 use Rattle.session.specs.Session.{marked, withFlight}
+use Rattle.session.specs.Lent.{Memory, memory}
+use Rattle.session.specs.Sizes.{placeOf}
 use Rattle.session.specs.declared.InFlight.{InFlight}
 use Rattle.session.specs.declared.InFlight.the-variants as flight
 use Rattle.session.specs.declared.Session.{Session}
-use Rattle.reports.specs.Answers.{effect, ReportedTo, reportedTo}
+use Rattle.reports.specs.Answers.{effect}
+use Rattle.reports.specs.declared.Reported.{Reported}
 use Rattle.polls.specs.Poll.{pollOf}
-use Rattle.polls.specs.Finish.{failedAs, invalidAs, judgedTest, judgedBy, judged, FinishTo, settled, finishAt, finishOf}
+use Rattle.polls.specs.PollReply.{failedAs, invalidAs, judgedTest, judgedBy, judged, settled, pollReplyAt, pollReplyOf}
 use Rattle.polls.specs.declared.Polled.{Polled}
 use Rattle.polls.specs.declared.PollReply.{PollReply}
 use Rattle.polls.specs.declared.PollReply.the-variants as poll
 use Rattle.polls.specs.declared.poll_reply.Judgement.{Judgement}
-use Rattle.submissions.specs.Reply.{acceptedBy, discardedBy, submitReplyBy, submitReplyOf}
+use Rattle.submissions.specs.SubmitReply.{acceptedBy, discardedBy, submitReplyBy, submitReplyOf}
 use Rattle.submissions.specs.declared.SubmitReply.{SubmitReply}
 use Rattle.submissions.specs.declared.SubmitReply.the-variants as submit
 use Rattle.calls.specs.Answers.{ofReport, ofPoll}
-use Rattle.calls.specs.Step.{World}
 use Rattle.runs.specs.Sound.{Sound}
 use Rattle.runs.proofs.Ids.{pending-held}
 use Rattle.runs.proofs.Ways.{apply-all, reply-all, poll-all, finish-all}
@@ -73,16 +76,10 @@ fail-to r x code quiescent = go (r .state)
     go (Failed a b c) e = absurd (false≢true e)
     go Aborted e = absurd (false≢true e)
 
-module _ (w : World) (sound : Sound w) (j : Journal) (seen : List ℕ) (k : Inv (w .session) (w .store .rows) j seen) where
-  abbrev s : Session
-  s = w .session
-
-  abbrev store : Store
-  store = w .store
-
+module _ (s : Session) (store : Store) (sound : Sound s store) (j : Journal) (seen : List ℕ) (k : Inv s (store .rows) j seen) where
   -- ---- the reply to a submission
-  abbrev Reply-kept : SubmitReply → ReportedTo → Type 0
-  Reply-kept x o = Inv (o .result .session) (o .store .rows) (cond (endsBy (ofReport (o .result .answer))) (endedWith (acceptedAs x) j) j) seen
+  abbrev Reply-kept : SubmitReply → After Reported Store → Type 0
+  Reply-kept x o = Inv (o .result .session) (o .lent .rows) (cond (endsBy (ofReport (o .result .answer))) (endedWith (acceptedAs x) j) j) seen
 
   module _ (id : RequestId) (own : s .«in_flight» ≡ flight.Submission id) (i : ℕ) (lt : i < length (store .rows)) (hit : isAt id (rowIn (store .rows) i) ≡ true) where
     abbrev replied : Row
@@ -92,19 +89,19 @@ module _ (w : World) (sound : Sound w) (j : Journal) (seen : List ℕ) (k : Inv 
     its = entryOf id (j .entries)
 
     replied-held : isHeld replied ≡ true
-    replied-held = pending-held id replied hit (submission-pending w sound id i lt hit own)
+    replied-held = pending-held id replied hit (submission-pending sound id i lt hit own)
 
     about : (g : Entry → Entry) → atWaiting (j .waiting) g (j .entries) ≡ atEntry id g (j .entries)
     about g = ap (λ (f : InFlight). atWaiting f g (j .entries)) (k .agree ∙ own)
 
     token-kept : (t : ℕ) → Reply-kept (submit.Token t)
-        (reportedTo (acceptedBy (applyBy (changeRow replied (change.Accept t)) i store .answer) s) (applyBy (changeRow replied (change.Accept t)) i store .store))
+        (after (acceptedBy (applyBy (changeRow replied (change.Accept t)) i store .result) s) (applyBy (changeRow replied (change.Accept t)) i store .lent))
     unfolding applyBy changeRow accepted moved acceptedBy putIn
     token-kept t = ends-at s (store .rows) j seen k id i lt hit (acceptedAs (submit.Token t))
         (about (acceptedAs (submit.Token t))) _ (token-change replied its replied-held (entry-is (store .rows) (j .entries) (k .led) id i lt hit) t)
 
     error-kept : (e : OperationError) → Reply-kept (submit.Error e)
-        (reportedTo (discardedBy (applyBy (changeRow replied change.Discard) i store .answer) e s) (applyBy (changeRow replied change.Discard) i store .store))
+        (after (discardedBy (applyBy (changeRow replied change.Discard) i store .result) e s) (applyBy (changeRow replied change.Discard) i store .lent))
     unfolding applyBy changeRow freed discardedBy putIn
     error-kept e = ends-at (effect e s) (store .rows) j seen (effects s (store .rows) j seen k e) id i lt hit (acceptedAs (submit.Error e))
         (about (acceptedAs (submit.Error e))) emptyRow (discard-change replied its replied-held (entry-is (store .rows) (j .entries) (k .led) id i lt hit))
@@ -112,28 +109,28 @@ module _ (w : World) (sound : Sound w) (j : Journal) (seen : List ℕ) (k : Inv 
   reply-by : (x : SubmitReply) (id : RequestId) → s .«in_flight» ≡ flight.Submission id → Reply-kept x (submitReplyBy x id s store)
   unfolding submitReplyBy acceptedBy discardedBy
   reply-by (submit.Token t) id own =
-      apply-all id (change.Accept t) store (λ a. Reply-kept (submit.Token t) (reportedTo (acceptedBy (a .answer) s) (a .store))) k
+      apply-all id (change.Accept t) store (λ a. Reply-kept (submit.Token t) (after (acceptedBy (a .result) s) (a .lent))) k
       (λ i lt hit. token-kept id own i lt hit t)
   reply-by (submit.Error x) id own =
-      apply-all id change.Discard store (λ a. Reply-kept (submit.Error x) (reportedTo (discardedBy (a .answer) x s) (a .store))) k
+      apply-all id change.Discard store (λ a. Reply-kept (submit.Error x) (after (discardedBy (a .result) x s) (a .lent))) k
       (λ i lt hit. error-kept id own i lt hit x)
 
-  pub reply-kept : (fits : Bool) (x : SubmitReply) → Reply-kept x (submitReplyOf s fits x store)
-  reply-kept fits x = reply-all s x store (Reply-kept x) k k (λ id own. reply-by x id own) fits
+  pub reply-kept : (x : SubmitReply) → Reply-kept x (submitReplyOf x s store)
+  reply-kept x = reply-all x s store (Reply-kept x) k k (λ id own. reply-by x id own)
 
   -- ---- a poll
   abbrev Poll-kept : RequestId → Polled → Type 0
   Poll-kept id o = Inv (o .session) (store .rows) (cond (isAsked (ofPoll (o .answer))) (pollWaits id j) j) seen
 
-  pub poll-kept : (fits : Bool) (id : RequestId) → Poll-kept id (pollOf s fits id (store .rows))
-  poll-kept fits id = poll-all s id (store .rows) (Poll-kept id) (λ x. k) (λ i. k) (λ i lt hit p r. waits-for s (store .rows) j seen k (flight.Poll id)) fits
+  pub poll-kept : (id : RequestId) → Poll-kept id (pollOf id s store)
+  poll-kept id = poll-all id s store (Poll-kept id) (λ x. k) (λ i. k) (λ i lt hit p r. waits-for s (store .rows) j seen k (flight.Poll id))
 
   -- ---- the reply to a poll
-  abbrev Finish-kept : Journal → FinishTo → Type 0
-  Finish-kept after o = Inv (o .result .session) (o .store .rows) (cond (endsBy (ofReport (o .result .answer))) after j) seen
+  abbrev Finish-kept : Journal → After Reported Memory → Type 0
+  Finish-kept left o = Inv (o .result .session) (o .lent .store .rows) (cond (endsBy (ofReport (o .result .answer))) left j) seen
 
   module _ (id : RequestId) (own : s .«in_flight» ≡ flight.Poll id) (i : ℕ) (lt : i < length (store .rows))
-      (hit : isAt id (rowIn (store .rows) i) ≡ true) (at room : ℕ) (bytes area : List ℕ) where
+      (hit : isAt id (rowIn (store .rows) i) ≡ true) (bytes area : List ℕ) where
     abbrev row : Row
     row = rowIn (store .rows) i
 
@@ -145,7 +142,7 @@ module _ (w : World) (sound : Sound w) (j : Journal) (seen : List ℕ) (k : Inv 
     quiet = withFlight s flight.Nothing
 
     polled : isPending (row .state) ≡ true
-    polled = poll-pending w sound id i lt hit own
+    polled = poll-pending sound id i lt hit own
 
     held : isHeld row ≡ true
     held = pending-held id row hit polled
@@ -153,14 +150,17 @@ module _ (w : World) (sound : Sound w) (j : Journal) (seen : List ℕ) (k : Inv 
     is : (w : View → ℕ) → entryW w entry ≡ rowW w row
     is = entry-is (store .rows) (j .entries) (k .led) id i lt hit
 
+    abbrev To : Step → Judgement → After Reported Memory
+    To t x = settled t x (placeOf (s .size) i) bytes quiet (memory store area)
+
     -- a change of the row with that of its entry; the session is the one without the poll, or that one marked
     settles : (g : Entry → Entry) (x : Judgement) (r′ : Row) → changeRow row (x .change) ≡ moved r′
         → Changed row r′ entry (g entry)
         → ((rows′ : List Row) (j′ : Journal) → Inv quiet rows′ j′ seen → Inv (x .session) rows′ j′ seen)
-        → Finish-kept (endedWith g j) (settled (changeRow row (x .change)) x quiet i at room bytes store area)
+        → Finish-kept (endedWith g j) (To (changeRow row (x .change)) x)
     unfolding settled moved putIn
     settles g x r′ e c m =
-        subst (λ (t : Step). Finish-kept (endedWith g j) (settled t x quiet i at room bytes store area)) (sym e)
+        subst (λ (t : Step). Finish-kept (endedWith g j) (To t x)) (sym e)
         (m (set (store .rows) i r′) (endedWith g j)
         (ends-at s (store .rows) j seen k id i lt hit g (ap (λ (f : InFlight). atWaiting f g (j .entries)) (k .agree ∙ own)) r′ c))
 
@@ -174,8 +174,7 @@ module _ (w : World) (sound : Sound w) (j : Journal) (seen : List ℕ) (k : Inv 
     fail-both x code false = fail-change row entry held is (Failed x code false) refl refl
 
     abbrev Judged-kept : (Entry → Entry) → Judgement → Type 0
-    Judged-kept g x = Finish-kept (endedWith g j)
-        (settled (changeRow row (x .change)) x quiet i at room bytes store area)
+    Judged-kept g x = Finish-kept (endedWith g j) (To (changeRow row (x .change)) x)
 
     tested-kept : (c : BackendCompletion) (g : Entry → Entry) (t : CompletionTest) → g entry ≡ testedAs t entry
         → Judged-kept g (judgedTest t quiet c)
@@ -211,13 +210,12 @@ module _ (w : World) (sound : Sound w) (j : Journal) (seen : List ℕ) (k : Inv 
         (ap (λ (n : ℕ). testedAs (testCompletion c given n) entry)
         (view-is row entry held is lengthOf))
 
-    finish-at : (x : PollReply) → Finish-kept (polledBy x (length bytes) j) (finishAt x quiet i at room bytes store area)
-    unfolding finishAt judged
+    finish-at : (x : PollReply) → Finish-kept (polledBy x (length bytes) j) (pollReplyAt x row (placeOf (s .size) i) bytes quiet (memory store area))
+    unfolding pollReplyAt judged
     finish-at poll.Nothing = waits-for s (store .rows) j seen k flight.Nothing
     finish-at (poll.Error e) = effects quiet (store .rows) (idle j) seen (waits-for s (store .rows) j seen k flight.Nothing) e
     finish-at (poll.Completion c) = judged-kept (c .error) c (length bytes)
 
-  pub finish-kept : (fits : Bool) (x : PollReply) (bytes area : List ℕ) → Finish-kept (polledBy x (length bytes) j) (finishOf s fits x bytes store area)
-  finish-kept fits x bytes area =
-      finish-all s x bytes store area (Finish-kept (polledBy x (length bytes) j)) k k
-      (λ id own i lt hit. finish-at id own i lt hit (i * s .«row_bytes») (s .«row_bytes») bytes area x) fits
+  pub finish-kept : (x : PollReply) (bytes area : List ℕ) → Finish-kept (polledBy x (length bytes) j) (pollReplyOf x bytes s (memory store area))
+  finish-kept x bytes area =
+      finish-all x bytes s (memory store area) (Finish-kept (polledBy x (length bytes) j)) k k (λ id own i lt hit. finish-at id own i lt hit bytes area x)

@@ -10,14 +10,15 @@ use lib.ListN.{length, getD, length-map, List·getD-map}
 use Rattle.chain.specs.Lists.{count, find}
 use Rattle.chain.proofs.Lists.{find-hit, getD-any}
 use Rattle.models.specs.declared.DeviceId.{DeviceId}
-use Rattle.rows.specs.Store.{Store}
 use Rattle.rows.specs.Table.{isHeld, rowIn, tokenIn}
 use Rattle.rows.specs.declared.Row.{Row}
-use Rattle.scope.specs.Affected.{affectedOf, tokensOf}
-use Rattle.scope.specs.Scope.{slotOf, isAmong, meant, inScope}
-use Rattle.scope.specs.Returned.{readReturned}
-use Rattle.recovery.specs.Reply.{applyAll}
-use Rattle.runs.proofs.Affected.{affected-is-held, meant-affected, meant-below, returned-tokens, slot-in}
+use Rattle.scope.specs.Affected.{affectedOf}
+use Rattle.scope.specs.Scope.{slotOf, isAmong, inScope}
+use Rattle.session.specs.Lent.{Memory}
+use Rattle.session.specs.declared.Size.{Size}
+use Rattle.recovery.specs.RecoveryReply.{ReplyLists, rowsMeant}
+use Rattle.recovery.specs.Entries.{applyAll}
+use Rattle.runs.proofs.Affected.{affected-is-held, meant-affected, meant-below, returned-tokens, slot-in, ownTokens, placeMeant}
 use Rattle.runs.proofs.Tokens.{scope-each, scope-distinct}
 use Rattle.history.specs.Journal.{Entry, noEntry, affectedViews, meantView, releasesAll, View, entryView}
 use Rattle.history.specs.Claim.{rowView}
@@ -31,10 +32,10 @@ module _ (d : DeviceId) (endpoint : ℕ) (rows : List Row) (entries : List Entry
   affected = affectedOf d endpoint rows
 
   abbrev own : List ℕ
-  own = tokensOf rows affected
+  own = ownTokens d endpoint rows
 
-  abbrev pub place : ℕ → ℕ
-  place t = meant affected own t
+  abbrev place : ℕ → ℕ
+  place = placeMeant d endpoint rows
 
   abbrev pub view : ℕ → View
   view t = meantView (affectedViews d endpoint entries) t
@@ -61,19 +62,16 @@ module _ (d : DeviceId) (endpoint : ℕ) (rows : List Row) (entries : List Entry
     ready-at = record { below = meant-below d endpoint rows t e; held = affected-is-held d endpoint rows (rowIn rows (place t)) (meant-affected d endpoint rows t e); is = view-at; token = token-at }
 
 -- ---- a reply in scope keeps rows and journal in step
-pub recovered-kept : (d : DeviceId) (endpoint : ℕ) (store : Store) (entries : List Entry) (few : count isHeld (store .rows) ≤ 128) (k : Led (store .rows) entries) (whole : Bool) (room : ℕ)
-    (tokens words aborted bytes area : List ℕ)
-    → inScope whole (tokensOf (store .rows) (affectedOf d endpoint (store .rows))) (tokens ++ aborted) ≡ true
-    → Kept (store .rows) entries
-    (applyAll (meant (affectedOf d endpoint (store .rows)) (tokensOf (store .rows) (affectedOf d endpoint (store .rows)))) room (readReturned tokens words) aborted bytes store area .store .rows)
-    (releasesAll (meantView (affectedViews d endpoint entries)) (readReturned tokens words) aborted bytes entries)
-    × LateBy (applyAll (meant (affectedOf d endpoint (store .rows)) (tokensOf (store .rows) (affectedOf d endpoint (store .rows)))) room (readReturned tokens words) aborted bytes store area .verdict)
-recovered-kept d endpoint store entries few k whole room tokens words aborted bytes area s =
-    let rows : List Row = store .rows in
-    let ts = returned-tokens tokens words in
-    let o : List ℕ = tokensOf rows (affectedOf d endpoint rows) in
-    let p : ℕ → ℕ = place d endpoint rows entries few k in
-    let v : ℕ → View = view d endpoint rows entries few k in
-    apply-kept p v room (readReturned tokens words) aborted bytes store area entries k
-    (rw ts (scope-distinct o whole (tokens ++ aborted) s))
-    (rw ts (scope-each o whole (tokens ++ aborted) s (Ready p v rows) (ready-at d endpoint rows entries few k)))
+module _ (d : DeviceId) (endpoint : ℕ) (m : Memory) (entries : List Entry) (few : count isHeld (m .store .rows) ≤ 128) (k : Led (m .store .rows) entries) where
+  abbrev rows : List Row
+  rows = m .store .rows
+
+  pub recovered-kept : (whole : Bool) (z : Size) (l : ReplyLists) → inScope whole (ownTokens d endpoint rows) (l .tokens ++ l .aborted) ≡ true
+      → Kept rows entries (applyAll z (rowsMeant (placeMeant d endpoint rows) l) m .lent .store .rows) (releasesAll (meantView (affectedViews d endpoint entries)) l entries)
+      × LateBy (applyAll z (rowsMeant (placeMeant d endpoint rows) l) m .result)
+  recovered-kept whole z l s =
+      let ts = returned-tokens (l .tokens) (l .completions) in
+      let v : ℕ → View = view d endpoint rows entries few k in
+      apply-kept (placeMeant d endpoint rows) v z l m entries k
+      (rw ts (scope-distinct (ownTokens d endpoint rows) whole (l .tokens ++ l .aborted) s))
+      (rw ts (scope-each (ownTokens d endpoint rows) whole (l .tokens ++ l .aborted) s (Ready (placeMeant d endpoint rows) v rows) (ready-at d endpoint rows entries few k)))

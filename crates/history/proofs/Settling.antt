@@ -1,5 +1,5 @@
 -- What a recovery that succeeded leaves of each row. Assumes nothing.
-use Prim.Native.Nat.{ℕ, _*_, _≤_, _<_}
+use Prim.Native.Nat.{ℕ, _≤_, _<_}
 use mathlib.Core.Path.{_≡_, refl, sym, ap, _∙_, subst}
 use mathlib.Core.Bool.{Bool, true, false, cond, not, _&&_, _||_, false≢true}
 use mathlib.Core.List.{List, [], _∷_, _++_, map}
@@ -10,6 +10,7 @@ use lib.ListN.{length, getD, set, take, drop, length-set, length-map, List·getD
 use lib.Seq.{getD-set-same, getD-set-other, ext-getD}
 use Rattle.chain.specs.Chain.{_if_else_}
 use Rattle.chain.specs.Lists.{sumBy, count}
+use Rattle.chain.specs.After.{After}
 use Rattle.chain.proofs.Chain.{caseB, if-by, both}
 use Rattle.chain.proofs.Lists.{sum-part, find-hit, getD-any}
 use Rattle.words.specs.declared.OptionU32.{OptionU32}
@@ -33,31 +34,32 @@ use Rattle.checks.specs.Completion.{hasError, codeTested, testCode, testLength,
 use Rattle.checks.specs.declared.completion.CompletionTest.{CompletionTest}
 use Rattle.checks.specs.declared.completion.CompletionTest.the-variants as test
 use Rattle.session.specs.Session.{withFlight}
+use Rattle.session.specs.Lent.{Memory, memory}
 use Rattle.session.specs.declared.InFlight.{InFlight}
 use Rattle.session.specs.declared.InFlight.the-variants as flight
-use Rattle.session.specs.declared.RecoveryKind.{RecoveryKind}
 use Rattle.session.specs.declared.Session.{Session}
 use Rattle.scope.specs.Affected.{isAffected, affectedOf, tokensOf}
-use Rattle.scope.specs.Scope.{isAmong, slotOf, meant, eachOnce, allIn, inScope}
+use Rattle.scope.specs.Scope.{isAmong, slotOf, eachOnce, allIn, inScope}
 use Rattle.scope.specs.Returned.{Returned, readReturned}
 use Rattle.scope.proofs.tokens.Laws.{in-cons, in-append}
-use Rattle.recovery.specs.Entries.{WalkTo, rowCompletedBy, testedBy, completeOne, abortedBy, abortOne}
-use Rattle.recovery.specs.Reports.{idLists}
-use Rattle.recovery.specs.Reply.{RecoveredTo, isWhole, applyAll, abortReport, concludedBy, scopedOf, recoveryReplyOf}
+use Rattle.session.specs.declared.Size.{Size}
+use Rattle.session.specs.declared.Recovery.{Recovery}
+use Rattle.recovery.specs.Entries.{rowCompletedBy, testedBy, completeOne, abortedBy, abortOne, applyAll}
+use Rattle.recovery.specs.RecoveryReply.{ReplyLists, rowsMeant, ended, isWhole, abortReport, concludedBy, settledOf, recoveryReplyOf}
 use Rattle.recovery.specs.declared.AbortReport.{AbortReport}
 use Rattle.recovery.specs.declared.Ids.{Ids}
 use Rattle.recovery.specs.declared.Outcome.{Outcome}
-use Rattle.recovery.specs.declared.Recovery.{Recovery}
+use Rattle.recovery.specs.declared.Recovered as recovery
 use Rattle.recovery.specs.declared.RecoveryReply.{RecoveryReply}
 use Rattle.calls.specs.Answers.{ofRecovery}
 use Rattle.calls.specs.declared.Answer.the-variants as answer
-use Rattle.runs.proofs.Affected.{meant-affected, meant-below, returned-tokens}
+use Rattle.runs.proofs.Affected.{meant-affected, meant-below, returned-tokens, ownTokens, placeMeant}
 use Rattle.runs.proofs.Held.{or-false, or-right}
 use Rattle.runs.proofs.Ways.{recovery-all}
 use Rattle.runs.proofs.Entries.{Onward, entries-all}
 use Rattle.runs.proofs.Tokens.{tokensIn, Each, Distinct, each-last, scope-each, scope-distinct}
 use Rattle.history.specs.Journal.{View}
-use Rattle.history.specs.Claim.{rowView, lengthIn, codeIn, cancelledIn, completedAs, namedAs, recoveredAs, isSettled, Different, Recovered}
+use Rattle.history.specs.Claim.{rowView, lengthIn, codeIn, cancelledIn, completedAs, namedAs, recoveredAs, isSettled, Different, Recovered, ReportOf}
 use Rattle.history.proofs.Led.{rowW}
 use Rattle.history.proofs.Affects.{seen, scoped, affected-cond, affected-weighs}
 use Rattle.history.proofs.Sparing.{Spares, scope-spares}
@@ -94,36 +96,37 @@ SetBy (verdict.Refused r) l m = Unit {0}
 SetBy verdict.Pass l m = m ≡ l
 
 module _ (store : Store) (i : ℕ) where
-  row-set : (st : RequestState) (actual n at room : ℕ) (bytes area : List ℕ)
-      → SetBy (rowCompletedBy (whilePending st (λ cancel late. withState (rowIn (store .rows) i) (Completed actual n cancel))) i at room bytes store area .verdict)
-      (set (store .rows) i (withState (rowIn (store .rows) i) (Completed actual n (cancelledIn st))))
-      (rowCompletedBy (whilePending st (λ cancel late. withState (rowIn (store .rows) i) (Completed actual n cancel))) i at room bytes store area .store .rows)
-  unfolding rowCompletedBy whilePending moved putIn
-  row-set (Pending cancel late) actual n at room bytes area = refl
-  row-set (Completed a b c) actual n at room bytes area = tt
-  row-set (Failed a b c) actual n at room bytes area = tt
-  row-set Aborted actual n at room bytes area = tt
+  abbrev Sets : After Verdict Memory → Row → Type 0
+  Sets o r = SetBy (o .result) (set (store .rows) i r) (o .lent .store .rows)
 
-  test-set : (c : BackendCompletion) (p : CompletionTest) → Says (lengthIn (c .«actual_length»)) (codeIn (c .«completion_code»)) p → (at room : ℕ) (bytes area : List ℕ)
-      → SetBy (testedBy p (c .«completion_code») i at room bytes store area .verdict) (set (store .rows) i (asCompleted c (rowIn (store .rows) i)))
-      (testedBy p (c .«completion_code») i at room bytes store area .store .rows)
-  unfolding testedBy changeRow completed
-  test-set c test.MissingLength s at room bytes area = tt
-  test-set c test.Invalid s at room bytes area = tt
-  test-set c (test.Valid a n) s at room bytes area =
-      let ea = s .0 in
-      let en = s .1 in
-      rw (sym ea, sym en) (row-set (rowIn (store .rows) i .state) a n at room bytes area)
+  module _ (z : Size) (bytes area : List ℕ) where
+    row-set : (st : RequestState) (actual n : ℕ)
+        → Sets (rowCompletedBy (whilePending st (λ cancel late. withState (rowIn (store .rows) i) (Completed actual n cancel))) z i bytes (memory store area))
+        (withState (rowIn (store .rows) i) (Completed actual n (cancelledIn st)))
+    unfolding rowCompletedBy whilePending moved putIn
+    row-set (Pending cancel late) actual n = refl
+    row-set (Completed a b c) actual n = tt
+    row-set (Failed a b c) actual n = tt
+    row-set Aborted actual n = tt
 
-  complete-set : (c : BackendCompletion) (at room : ℕ) (bytes area : List ℕ)
-      → SetBy (completeOne i at room c bytes store area .verdict) (set (store .rows) i (asCompleted c (rowIn (store .rows) i))) (completeOne i at room c bytes store area .store .rows)
-  unfolding completeOne
-  complete-set c at room bytes area = test-set c _ (test-says c (length bytes) (rowIn (store .rows) i .metadata .«requested_length»)) at room bytes area
+    test-set : (c : BackendCompletion) (p : CompletionTest) → Says (lengthIn (c .«actual_length»)) (codeIn (c .«completion_code»)) p
+        → Sets (testedBy p (c .«completion_code») z i bytes (memory store area)) (asCompleted c (rowIn (store .rows) i))
+    unfolding testedBy changeRow completed
+    test-set c test.MissingLength s = tt
+    test-set c test.Invalid s = tt
+    test-set c (test.Valid a n) s =
+        let ea = s .0 in
+        let en = s .1 in
+        rw (sym ea, sym en) (row-set (rowIn (store .rows) i .state) a n)
 
-  abort-set : SetBy (abortOne i store .verdict) (set (store .rows) i (withState (rowIn (store .rows) i) Aborted)) (abortOne i store .store .rows)
+    complete-set : (c : BackendCompletion) → Sets (completeOne z i c bytes (memory store area)) (asCompleted c (rowIn (store .rows) i))
+    unfolding completeOne
+    complete-set c = test-set c _ (test-says c (length bytes) (rowIn (store .rows) i .metadata .«requested_length»))
+
+  abort-set : SetBy (abortOne i store .result) (set (store .rows) i (withState (rowIn (store .rows) i) Aborted)) (abortOne i store .lent .rows)
   unfolding abortOne abortedBy changeRow abortConfirmed moved putIn
   abort-set =
-      if-by (λ (m : Step). SetBy (abortedBy m i store .verdict) (set (store .rows) i (withState (rowIn (store .rows) i) Aborted)) (abortedBy m i store .store .rows))
+      if-by (λ (m : Step). SetBy (abortedBy m i store .result) (set (store .rows) i (withState (rowIn (store .rows) i) Aborted)) (abortedBy m i store .lent .rows))
       (refusedBy 43) (not (deviceMayAccess (rowIn (store .rows) i .state))) _ (λ e. tt) (λ e. refl)
 
 turned : (a b : ℕ) → eqb a b ≡ eqb b a
@@ -237,31 +240,34 @@ module _ (place : ℕ → ℕ) where
         (λ y. rw y (ap (byAborts ts i) (other old p h Aborted new q i y))) in
         record { each = λ i. one i ∙ k .each i; size = same-size old p h Aborted new q ∙ k .size; named = here; distinct = k .distinct .1 }
 
-  applied-rows : (room : ℕ) (es : List Returned) (aborted bytes : List ℕ) (store : Store) (area : List ℕ) → Each (Named (store .rows)) (tokensIn es ++ aborted)
-      → Distinct (tokensIn es ++ aborted) → applyAll place room es aborted bytes store area .verdict ≡ verdict.Pass
-      → Applied (store .rows) (applyAll place room es aborted bytes store area .store .rows) es aborted
-  applied-rows room es aborted bytes store area a d =
-      entries-all place room J P (λ bytes s x k e. record { each = k .each; size = k .size })
-      (λ e rest ts bytes s x k.
+  applied-rows : (z : Size) (l : ReplyLists) (m : Memory) → Each (Named (m .store .rows)) (tokensIn (readReturned (l .tokens) (l .completions)) ++ l .aborted)
+      → Distinct (tokensIn (readReturned (l .tokens) (l .completions)) ++ l .aborted) → applyAll z (rowsMeant place l) m .result ≡ verdict.Pass
+      → Applied (m .store .rows) (applyAll z (rowsMeant place l) m .lent .store .rows) (readReturned (l .tokens) (l .completions)) (l .aborted)
+  applied-rows z l m a d =
+      entries-all place z J P (λ bytes n k e. record { each = k .each; size = k .size })
+      (λ e rest ts bytes n k.
       let p : ℕ = place (e .token) in
-      let one : WalkTo = completeOne p (p * room) room (e .brought .completion) (take (e .brought .given) bytes) s x in
-      on (one .verdict) rest ts (drop (e .brought .given) bytes) (set (s .rows) p (completedAs e (rowIn (s .rows) p))) (one .store) (one .area)
-      (complete-set s p (e .brought .completion) (p * room) room (take (e .brought .given) bytes) x) (completed-left (store .rows) es aborted e rest ts (s .rows) (one .store .rows) k))
-      (λ t ts bytes s x k.
-      on (abortOne (place t) s .verdict) [] ts bytes (set (s .rows) (place t) (withState (rowIn (s .rows) (place t)) Aborted)) (abortOne (place t) s .store) x
-      (abort-set s (place t)) (aborted-left (store .rows) es aborted t ts (s .rows) (abortOne (place t) s .store .rows) k))
-      es aborted bytes store area (record { each = λ i. refl; size = refl; named = a; distinct = d })
+      let one : After Verdict Memory = completeOne z p (e .brought .completion) (take (e .brought .given) bytes) n in
+      on (one .result) rest ts (drop (e .brought .given) bytes) (set (n .store .rows) p (completedAs e (rowIn (n .store .rows) p))) (one .lent)
+      (complete-set (n .store) p z (take (e .brought .given) bytes) (n .area) (e .brought .completion)) (completed-left (m .store .rows) es (l .aborted) e rest ts (n .store .rows) (one .lent .store .rows) k))
+      (λ t ts bytes n k.
+      on (abortOne (place t) (n .store) .result) [] ts bytes (set (n .store .rows) (place t) (withState (rowIn (n .store .rows) (place t)) Aborted)) (memory (abortOne (place t) (n .store) .lent) (n .area))
+      (abort-set (n .store) (place t)) (aborted-left (m .store .rows) es (l .aborted) t ts (n .store .rows) (abortOne (place t) (n .store) .lent .rows) k))
+      l m (record { each = λ i. refl; size = refl; named = a; distinct = d })
     where
-      J : List Returned → List ℕ → List ℕ → Store → List ℕ → Type 0
-      J rest ts bytes s x = Left (store .rows) es aborted rest ts (s .rows)
+      es : List Returned
+      es = readReturned (l .tokens) (l .completions)
 
-      P : Verdict → Store → List ℕ → Type 0
-      P v s x = v ≡ verdict.Pass → Applied (store .rows) (s .rows) es aborted
+      J : List Returned → List ℕ → List ℕ → Memory → Type 0
+      J rest ts bytes n = Left (m .store .rows) es (l .aborted) rest ts (n .store .rows)
 
-      on : (v : Verdict) (rest : List Returned) (ts bytes : List ℕ) (l : List Row) (s : Store) (x : List ℕ) → SetBy v l (s .rows)
-          → (s .rows ≡ l → Left (store .rows) es aborted rest ts (s .rows)) → Onward place room J P v rest ts bytes s x
-      on (verdict.Refused r) rest ts bytes l s x q k = λ e. let z : _≡_ {A = ℕ} 0 1 = cc in absurd (omega arith)
-      on verdict.Pass rest ts bytes l s x q k = k q
+      P : Verdict → Memory → Type 0
+      P v n = v ≡ verdict.Pass → Applied (m .store .rows) (n .store .rows) es (l .aborted)
+
+      on : (v : Verdict) (rest : List Returned) (ts bytes : List ℕ) (rows : List Row) (n : Memory) → SetBy v rows (n .store .rows)
+          → (n .store .rows ≡ rows → Left (m .store .rows) es (l .aborted) rest ts (n .store .rows)) → Onward place z J P v rest ts bytes n
+      on (verdict.Refused r) rest ts bytes rows n q k = λ e. let z : _≡_ {A = ℕ} 0 1 = cc in absurd (omega arith)
+      on verdict.Pass rest ts bytes rows n q k = k q
 
   -- ---- by the row's own token
   module _ (rows : List Row) (i : ℕ) where
@@ -316,10 +322,10 @@ settled-named (c ∷ cs) aborted r e =
 -- ---- the affected rows
 module _ (d : DeviceId) (endpoint : ℕ) (rows : List Row) (few : count isHeld rows ≤ 128) where
   abbrev own : List ℕ
-  own = tokensOf rows (affectedOf d endpoint rows)
+  own = ownTokens d endpoint rows
 
   abbrev place : ℕ → ℕ
-  place t = meant (affectedOf d endpoint rows) own t
+  place = placeMeant d endpoint rows
 
   -- an affected row's token is expected
   abbrev isToken : ℕ → View → ℕ
@@ -358,28 +364,28 @@ module _ (d : DeviceId) (endpoint : ℕ) (rows : List Row) (few : count isHeld r
   named-row t e = (meant-below d endpoint rows t e, own-token t e)
 
   -- ---- every row, after a reply in scope
-  module _ (different : Different d endpoint rows) (tokens words aborted : List ℕ) (scope : inScope true own (tokens ++ aborted) ≡ true) where
+  module _ (different : Different d endpoint rows) (l : ReplyLists) (scope : inScope true own (l .tokens ++ l .aborted) ≡ true) where
     abbrev es : List Returned
-    es = readReturned tokens words
+    es = readReturned (l .tokens) (l .completions)
 
-    all-of-them : allIn own (tokens ++ aborted) ≡ true
+    all-of-them : allIn own (l .tokens ++ l .aborted) ≡ true
     unfolding inScope
-    all-of-them = both (eachOnce own [] (tokens ++ aborted)) (allIn own (tokens ++ aborted)) scope .1
+    all-of-them = both (eachOnce own [] (l .tokens ++ l .aborted)) (allIn own (l .tokens ++ l .aborted)) scope .1
 
-    same-tokens : tokensIn es ++ aborted ≡ tokens ++ aborted
-    same-tokens = ap (λ (l : List ℕ). l ++ aborted) (returned-tokens tokens words)
+    same-tokens : tokensIn es ++ l .aborted ≡ l .tokens ++ l .aborted
+    same-tokens = ap (λ (ts : List ℕ). ts ++ l .aborted) (returned-tokens (l .tokens) (l .completions))
 
-    distinct : Distinct (tokensIn es ++ aborted)
-    distinct = subst Distinct (sym same-tokens) (scope-distinct own true (tokens ++ aborted) scope)
+    distinct : Distinct (tokensIn es ++ l .aborted)
+    distinct = subst Distinct (sym same-tokens) (scope-distinct own true (l .tokens ++ l .aborted) scope)
 
-    each-token : (P : ℕ → Type 0) → ((t : ℕ) → isAmong t own ≡ true → P t) → Each P (tokensIn es ++ aborted)
-    each-token P h = subst (Each P) (sym same-tokens) (scope-each own true (tokens ++ aborted) scope P h)
+    each-token : (P : ℕ → Type 0) → ((t : ℕ) → isAmong t own ≡ true → P t) → Each P (tokensIn es ++ l .aborted)
+    each-token P h = subst (Each P) (sym same-tokens) (scope-each own true (l .tokens ++ l .aborted) scope P h)
 
     -- an affected row, by the tokens that mean it and by its own
     by-row : (i : ℕ) → i < length rows → isAffected d endpoint (rowIn rows i) ≡ true
-        → byAborts place aborted i (byCompletions place es i (rowIn rows i)) ≡ namedAs es aborted (rowIn rows i)
+        → byAborts place (l .aborted) i (byCompletions place es i (rowIn rows i)) ≡ namedAs es (l .aborted) (rowIn rows i)
     by-row i h a =
-        row-named place rows i es aborted
+        row-named place rows i es (l .aborted)
         (each-token (Meets place rows i)
         (λ t e. (
           λ z. sym (own-token t e) ∙ ap (tokenIn rows) z,
@@ -387,21 +393,21 @@ module _ (d : DeviceId) (endpoint : ℕ) (rows : List Row) (few : count isHeld r
         )))
         distinct
 
-    recovered-rows : (rows′ : List Row) → Applied place rows rows′ es aborted → Spares (λ (i : ℕ). isAffected d endpoint (rowIn rows i)) rows rows′
-        → Recovered d endpoint tokens words aborted rows rows′
+    recovered-rows : (rows′ : List Row) → Applied place rows rows′ es (l .aborted) → Spares (λ (i : ℕ). isAffected d endpoint (rowIn rows i)) rows rows′
+        → Recovered d endpoint l rows rows′
     recovered-rows rows′ k spares =
-        let f : Row → Row = recoveredAs d endpoint es aborted in
+        let f : Row → Row = recoveredAs d endpoint es (l .aborted) in
         let each : (i : ℕ) → i < length rows → rowIn rows′ i ≡ f (rowIn rows i) = λ i h.
         caseB (isAffected d endpoint (rowIn rows i)) (λ e. rw e (k .each i ∙ by-row i h e)) (λ e. rw e (spares .row i e)) in
         record {
           rows-are = ext-getD emptyRow rows′ (map f rows) (k .size ∙ sym (length-map rows f))
               (λ i h. each i (omega (arith, h, k .size))
               ∙ sym (getD-any (map f rows) i emptyRow (f emptyRow) (omega (arith, h, k .size, length-map rows f)) ∙ List·getD-map f rows i emptyRow));
-          named = λ i h e. all-in own (tokens ++ aborted) (tokenIn rows i) all-of-them (expected i h e);
+          named = λ i h e. all-in own (l .tokens ++ l .aborted) (tokenIn rows i) all-of-them (expected i h e);
           settled = λ i h e.
               ap (λ (r : Row). isSettled (r .state)) (each i h)
-              ∙ rw e (settled-named es aborted (rowIn rows i)
-              (ap (isAmong (tokenIn rows i)) same-tokens ∙ all-in own (tokens ++ aborted) (tokenIn rows i) all-of-them (expected i h e)));
+              ∙ rw e (settled-named es (l .aborted) (rowIn rows i)
+              (ap (isAmong (tokenIn rows i)) same-tokens ∙ all-in own (l .tokens ++ l .aborted) (tokenIn rows i) all-of-them (expected i h e)));
         }
 
 -- ---- the reply
@@ -409,89 +415,63 @@ pub no-report : (f : Refusal) (x : AbortReport) (A : Type 0) → answer.Refused 
 no-report f x A e = let z : _≡_ {A = ℕ} 0 1 = cc in absurd (omega arith)
 
 -- what the claim says of a report
-abbrev pub Settles : List Row → List ℕ → List ℕ → List ℕ → List Row → AbortReport → Type 0
-Settles rows tokens words aborted rows′ x =
-    x .«restart_ready» ≡ true → hasError (x .error) ≡ false → Different (x .device) (x .endpoint) rows → Recovered (x .device) (x .endpoint) tokens words aborted rows rows′
+abbrev pub Settles : ReplyLists → List Row → List Row → AbortReport → Type 0
+Settles l rows rows′ x =
+    x .«restart_ready» ≡ true → hasError (x .error) ≡ false → Different (x .device) (x .endpoint) rows → Recovered (x .device) (x .endpoint) l rows rows′
 
-module _ (s : Session) (store : Store) (few : count isHeld (store .rows) ≤ 128) (tokens words aborted bytes area : List ℕ) (x : AbortReport) where
-  abbrev Goal : List Row → AbortReport → Type 0
-  Goal rows′ y = Settles (store .rows) tokens words aborted rows′ y
-
-  abbrev Told : RecoveredTo → Type 0
-  Told o = ofRecovery (o .result .answer) ≡ answer.Recovered x → Goal (o .store .rows) x
-
-  refuses : (f : Refusal) (rows′ : List Row) → answer.Refused f ≡ answer.Recovered x → Goal rows′ x
-  refuses f rows′ e = no-report f x (Goal rows′ x) e
-
+module _ (l : ReplyLists) (s : Session) (m : Memory) (x : AbortReport) where
   abbrev quiet : Session
   quiet = withFlight s flight.Nothing
 
-  abbrev mine : Recovery → List ℕ
-  mine y = tokensOf (store .rows) (affectedOf (y .device) (y .endpoint) (store .rows))
+  abbrev rows : List Row
+  rows = m .store .rows
 
-  abbrev means : Recovery → ℕ → ℕ
-  means y = meant (affectedOf (y .device) (y .endpoint) (store .rows)) (mine y)
+  module _ (few : count isHeld rows ≤ 128) where
+    abbrev Told : After recovery.Recovered Memory → Type 0
+    Told o = ofRecovery (o .result .answer) ≡ answer.Recovered x → Settles l rows (o .lent .store .rows) x
 
-  whole-is : (a b : Bool) → a ≡ true → b ≡ false → (a && not b) ≡ true
-  whole-is a b e f = rw (e, f)
+    whole-is : (a b : Bool) → a ≡ true → b ≡ false → (a && not b) ≡ true
+    whole-is a b e f = rw (e, f)
 
-  concluded-told : (y : Recovery) (o : Outcome) → inScope (isWhole o) (mine y) (tokens ++ aborted) ≡ true → (v : Verdict) (w : WalkTo)
-      → w ≡ applyAll (means y) (quiet .«row_bytes») (readReturned tokens words) aborted bytes store area → w .verdict ≡ v → (ids : Ids)
-      → ofRecovery (concludedBy v quiet y o (abortReport y o (length tokens) (length aborted)) ids (w .store .rows) .answer) ≡ answer.Recovered x → Goal (w .store .rows) x
+    concluded-told : (y : Recovery) (o : Outcome) → inScope (isWhole o) (ownTokens (y .device) (y .endpoint) rows) (l .tokens ++ l .aborted) ≡ true → (v : Verdict)
+        (done : After Verdict Memory) → done ≡ applyAll (s .size) (rowsMeant (placeMeant (y .device) (y .endpoint) rows) l) m → done .result ≡ v → (a b : ℕ) (ids : Ids)
+        → ofRecovery (concludedBy v (ended quiet y o) (abortReport (ended quiet y o) a b) ids (done .lent .store .rows) .answer) ≡ answer.Recovered x
+        → Settles l rows (done .lent .store .rows) x
+    unfolding concludedBy
+    concluded-told y o sc (verdict.Refused r) done ew ev a b ids e = no-report r x _ e
+    concluded-told y o sc verdict.Pass done ew ev a b ids e =
+        let q : abortReport (ended quiet y o) a b ≡ x = cc in
+        subst (Settles l rows (done .lent .store .rows)) q
+        (λ ready fine different.
+        let whole = whole-is (o .«restart_ready») (hasError (o .error)) ready fine in
+        let own : List ℕ = ownTokens (y .device) (y .endpoint) rows in
+        let place : ℕ → ℕ = placeMeant (y .device) (y .endpoint) rows in
+        let scope : inScope true own (l .tokens ++ l .aborted) ≡ true = subst (λ (c : Bool). inScope c own (l .tokens ++ l .aborted) ≡ true) whole sc in
+        let k = applied-rows place (s .size) l m
+        (each-token (y .device) (y .endpoint) rows few different l scope (Named place rows) (named-row (y .device) (y .endpoint) rows few))
+        (distinct (y .device) (y .endpoint) rows few different l scope)
+        (ap (λ (z : After Verdict Memory). z .result) (sym ew) ∙ ev) in
+        subst (λ (z : After Verdict Memory). Recovered (y .device) (y .endpoint) l rows (z .lent .store .rows)) (sym ew)
+        (recovered-rows (y .device) (y .endpoint) rows few different l scope _ k (scope-spares (y .device) (y .endpoint) m true (s .size) l scope)))
+
+    pub recovered-told : (r : RecoveryReply) → Told (recoveryReplyOf r l s m)
+    unfolding settledOf
+    recovered-told r =
+        recovery-all l s m Told (no-report _ x _) (no-report _ x _) (no-report _ x _) (λ e. no-report _ x _) (no-report _ x _)
+        (λ y own o n. concluded-told y o n _ (applyAll (s .size) (rowsMeant (placeMeant (y .device) (y .endpoint) rows) l) m) refl refl _ _ _) r
+
+  -- ---- the report is of the operation that waited
+  concluded-same : (y : Recovery) (o : Outcome) (v : Verdict) (a b : ℕ) (ids : Ids) (rows′ : List Row)
+      → ofRecovery (concludedBy v (ended quiet y o) (abortReport (ended quiet y o) a b) ids rows′ .answer) ≡ answer.Recovered x → ReportOf (flight.Recovery y) x
   unfolding concludedBy
-  concluded-told y o sc (verdict.Refused r) w ew ev ids e = refuses r (w .store .rows) e
-  concluded-told y o sc verdict.Pass w ew ev ids e =
-      let q : abortReport y o (length tokens) (length aborted) ≡ x = cc in
-      subst (Goal (w .store .rows)) q
-      (λ ready fine different.
-      let whole = whole-is (o .«restart_ready») (hasError (o .error)) ready fine in
-      let scope : inScope true (mine y) (tokens ++ aborted) ≡ true = subst (λ (b : Bool). inScope b (mine y) (tokens ++ aborted) ≡ true) whole sc in
-      let rows : List Row = store .rows in
-      let a = applied-rows (means y) (quiet .«row_bytes») (readReturned tokens words) aborted bytes store area
-      (each-token (y .device) (y .endpoint) rows few different tokens words aborted scope (Named (means y) rows) (named-row (y .device) (y .endpoint) rows few))
-      (distinct (y .device) (y .endpoint) rows few different tokens words aborted scope)
-      (ap (λ (z : WalkTo). z .verdict) (sym ew) ∙ ev) in
-      subst (λ (z : WalkTo). Recovered (y .device) (y .endpoint) tokens words aborted rows (z .store .rows)) (sym ew)
-      (recovered-rows (y .device) (y .endpoint) rows few different tokens words aborted scope _ a
-      (scope-spares (y .device) (y .endpoint) store true (quiet .«row_bytes») tokens words aborted bytes area scope)))
+  concluded-same y o (verdict.Refused r) a b ids rows′ e = no-report r x _ e
+  concluded-same y o verdict.Pass a b ids rows′ e =
+      let q : abortReport (ended quiet y o) a b ≡ x = cc in
+      subst (ReportOf (flight.Recovery y)) q (y .kind, refl)
 
-  pub recovered-told : (fits : Bool) (r : RecoveryReply) → Told (recoveryReplyOf s fits r tokens words aborted bytes store area)
-  unfolding scopedOf
-  recovered-told fits r =
-      recovery-all s tokens words aborted bytes store area Told (refuses _ (store .rows)) (refuses _ (store .rows)) (refuses _ (store .rows)) (λ e. refuses _ (store .rows)) (refuses _ (store .rows))
-      (λ y own o n. concluded-told y o n _ (applyAll (means y) (quiet .«row_bytes») (readReturned tokens words) aborted bytes store area) refl refl (idLists (store .rows) (means y) tokens aborted))
-      fits r
-
--- ---- the report is of the operation that waited
-module _ (s : Session) (store : Store) (tokens words aborted bytes area : List ℕ) (x : AbortReport) where
-  abbrev idle : Session
-  idle = withFlight s flight.Nothing
-
-  abbrev Same : Recovery → Type 0
-  Same y = (y .target ≡ x .target) × (y .device ≡ x .device) × (y .endpoint ≡ x .endpoint)
-
-  concluded-same : (y : Recovery) (o : Outcome) (v : Verdict) (n m : ℕ) (ids : Ids) (rows : List Row)
-      → ofRecovery (concludedBy v idle y o (abortReport y o n m) ids rows .answer) ≡ answer.Recovered x → Same y
-  unfolding concludedBy
-  concluded-same y o (verdict.Refused r) n m ids rows e = no-report r x (Same y) e
-  concluded-same y o verdict.Pass n m ids rows e =
-      let q : abortReport y o n m ≡ x = cc in
-      (ap (λ (z : AbortReport). z .target) q, ap (λ (z : AbortReport). z .device) q, ap (λ (z : AbortReport). z .endpoint) q)
-
-  abbrev Waited : InFlight → Type 0
-  Waited f = (q : RecoveryKind) × (f ≡ flight.Recovery (x .target) (x .device) (x .endpoint) q)
-
-  same-flight : (y : Recovery) (q : RecoveryKind) → Same y → Waited (flight.Recovery (y .target) (y .device) (y .endpoint) q)
-  same-flight y q e = let a = e .0 in let b = e .1 in let c = e .2 in (q, rw (a, b, c))
-
-  abbrev WaitedTo : RecoveredTo → Type 0
-  WaitedTo o = ofRecovery (o .result .answer) ≡ answer.Recovered x → Waited (s .«in_flight»)
-
-  refuses-too : (f : Refusal) → answer.Refused f ≡ answer.Recovered x → Waited (s .«in_flight»)
-  refuses-too f = no-report f x (Waited (s .«in_flight»))
-
-  pub waited-told : (fits : Bool) (r : RecoveryReply) → WaitedTo (recoveryReplyOf s fits r tokens words aborted bytes store area)
-  unfolding scopedOf
-  waited-told fits r =
-      recovery-all s tokens words aborted bytes store area WaitedTo (refuses-too _) (refuses-too _) (refuses-too _) (λ e. refuses-too _) (refuses-too _)
-      (λ y own o n e. subst Waited (sym own) (same-flight y (y .kind) (concluded-same y o _ (length tokens) (length aborted) _ _ e))) fits r
+  pub waited-told : (r : RecoveryReply) → ofRecovery (recoveryReplyOf r l s m .result .answer) ≡ answer.Recovered x → ReportOf (s .«in_flight») x
+  unfolding settledOf
+  waited-told r =
+      recovery-all l s m (λ (o : After recovery.Recovered Memory). ofRecovery (o .result .answer) ≡ answer.Recovered x → ReportOf (s .«in_flight») x)
+      (no-report _ x _) (no-report _ x _) (no-report _ x _) (λ e. no-report _ x _) (no-report _ x _)
+      (λ y own o n e. subst (λ (f : InFlight). ReportOf f x) (sym own) (concluded-same y o _ _ _ _ _ e)) r

@@ -1,15 +1,15 @@
 -- What a recovery's reply leaves of the rows that it does not affect, whatever it is answered. Assumes nothing.
-use Prim.Native.Nat.{ℕ, _*_}
+use Prim.Native.Nat.{ℕ}
 use mathlib.Core.Path.{_≡_, refl, sym, ap, _∙_, subst}
 use mathlib.Core.Bool.{Bool, true, false, true≢false}
 use mathlib.Core.List.{List, [], _∷_, _++_}
 use lib.ListN.{length, set, take, drop, length-set}
 use lib.Seq.{getD-set-other}
+use Rattle.chain.specs.After.{After}
 use Rattle.words.specs.declared.OptionU32.{OptionU32}
 use Rattle.models.specs.declared.DeviceId.{DeviceId}
 use Rattle.models.specs.declared.Verdict.{Verdict}
 use Rattle.models.specs.declared.Verdict.the-variants as verdict
-use Rattle.models.specs.Refusals.{refusalOf}
 use Rattle.rows.specs.Store.{Store, putIn}
 use Rattle.rows.specs.Table.{emptyRow, rowIn}
 use Rattle.rows.specs.declared.Row.{Row}
@@ -19,17 +19,19 @@ use Rattle.rules.specs.declared.Step.{Step}
 use Rattle.rules.specs.declared.Step.the-variants as step
 use Rattle.checks.specs.declared.completion.CompletionTest.{CompletionTest}
 use Rattle.checks.specs.declared.completion.CompletionTest.the-variants as test
+use Rattle.session.specs.Lent.{Memory, memory}
 use Rattle.session.specs.declared.InFlight.{InFlight}
 use Rattle.session.specs.declared.InFlight.the-variants as flight
 use Rattle.session.specs.declared.Session.{Session}
-use Rattle.scope.specs.Affected.{isAffected, affectedOf, tokensOf}
-use Rattle.scope.specs.Scope.{meant, inScope}
+use Rattle.scope.specs.Affected.{isAffected}
+use Rattle.scope.specs.Scope.{inScope}
 use Rattle.scope.specs.Returned.{Returned, readReturned}
-use Rattle.recovery.specs.Entries.{WalkTo, rowCompletedBy, testedBy, completeOne, abortedBy, abortOne}
-use Rattle.recovery.specs.Reply.{RecoveredTo, isWhole, applyAll, scopedOf, recoveryReplyOf, recoveredTo, recoveryRefused}
-use Rattle.recovery.specs.declared.Recovery.{Recovery}
+use Rattle.session.specs.declared.Size.{Size}
+use Rattle.recovery.specs.Entries.{rowCompletedBy, testedBy, completeOne, abortedBy, abortOne, applyAll}
+use Rattle.recovery.specs.RecoveryReply.{ReplyLists, rowsMeant, isWhole, settledOf, recoveryReplyOf}
 use Rattle.recovery.specs.declared.RecoveryReply.{RecoveryReply}
-use Rattle.runs.proofs.Affected.{meant-affected, returned-tokens}
+use Rattle.recovery.specs.declared.Recovered.{Recovered}
+use Rattle.runs.proofs.Affected.{meant-affected, returned-tokens, ownTokens, placeMeant}
 use Rattle.runs.proofs.Ways.{recovery-all}
 use Rattle.runs.proofs.Entries.{Onward, entries-all}
 use Rattle.runs.proofs.Tokens.{tokensIn, Each, scope-each}
@@ -54,18 +56,18 @@ module _ (marks : ℕ → Bool) where
       row = λ i e. getD-set-other (store .rows) p i r emptyRow (λ z. true≢false (sym on ∙ ap marks (sym z) ∙ e));
     }
 
-    completed-row : (m : Step) (at room : ℕ) (bytes area : List ℕ) → Spares (store .rows) (rowCompletedBy m p at room bytes store area .store .rows)
+    completed-row : (n : Step) (z : Size) (bytes area : List ℕ) → Spares (store .rows) (rowCompletedBy n z p bytes (memory store area) .lent .store .rows)
     unfolding rowCompletedBy putIn
-    completed-row (step.Refused r) at room bytes area = none (store .rows)
-    completed-row (step.To next report) at room bytes area = one-put next
+    completed-row (step.Refused r) z bytes area = none (store .rows)
+    completed-row (step.To next report) z bytes area = one-put next
 
-    tested-row : (t : CompletionTest) (code : OptionU32) (at room : ℕ) (bytes area : List ℕ) → Spares (store .rows) (testedBy t code p at room bytes store area .store .rows)
+    tested-row : (t : CompletionTest) (code : OptionU32) (z : Size) (bytes area : List ℕ) → Spares (store .rows) (testedBy t code z p bytes (memory store area) .lent .store .rows)
     unfolding testedBy
-    tested-row test.MissingLength code at room bytes area = none (store .rows)
-    tested-row test.Invalid code at room bytes area = none (store .rows)
-    tested-row (test.Valid actual n) code at room bytes area = completed-row (changeRow (rowIn (store .rows) p) (change.Complete actual n)) at room bytes area
+    tested-row test.MissingLength code z bytes area = none (store .rows)
+    tested-row test.Invalid code z bytes area = none (store .rows)
+    tested-row (test.Valid actual n) code z bytes area = completed-row (changeRow (rowIn (store .rows) p) (change.Complete actual n)) z bytes area
 
-    aborted-row : (m : Step) → Spares (store .rows) (abortedBy m p store .store .rows)
+    aborted-row : (n : Step) → Spares (store .rows) (abortedBy n p store .lent .rows)
     unfolding abortedBy putIn
     aborted-row (step.Refused r) = none (store .rows)
     aborted-row (step.To next report) = one-put next
@@ -75,65 +77,57 @@ module _ (marks : ℕ → Bool) where
     abbrev pub Marked : ℕ → Type 0
     Marked t = marks (place t) ≡ true
 
-    apply-spares : (room : ℕ) (es : List Returned) (aborted bytes : List ℕ) (store : Store) (area : List ℕ) → Each Marked (tokensIn es ++ aborted)
-        → Spares (store .rows) (applyAll place room es aborted bytes store area .store .rows)
+    apply-spares : (z : Size) (l : ReplyLists) (m : Memory) → Each Marked (tokensIn (readReturned (l .tokens) (l .completions)) ++ l .aborted)
+        → Spares (m .store .rows) (applyAll z (rowsMeant place l) m .lent .store .rows)
     unfolding completeOne abortOne
-    apply-spares room es aborted bytes store area a =
-        entries-all place room J P (λ bytes s x h. h .0)
-        (λ e es ts bytes s x h.
-        let one : WalkTo = completeOne (place (e .token)) (place (e .token) * room) room (e .brought .completion) (take (e .brought .given) bytes) s x in
-        on (one .verdict) es ts (drop (e .brought .given) bytes) s (one .store) (one .area) h (tested-row (place (e .token)) (h .1 .0) s _ (e .brought .completion .«completion_code») (place (e .token) * room) room (take (e .brought .given) bytes) x))
-        (λ t ts bytes s x h. on (abortOne (place t) s .verdict) [] ts bytes s (abortOne (place t) s .store) x h (aborted-row (place t) (h .1 .0) s _))
-        es aborted bytes store area (none (store .rows), a)
+    apply-spares z l m a =
+        entries-all place z J P (λ bytes n h. h .0)
+        (λ e es ts bytes n h.
+        let one : After Verdict Memory = completeOne z (place (e .token)) (e .brought .completion) (take (e .brought .given) bytes) n in
+        on (one .result) es ts (drop (e .brought .given) bytes) n (one .lent) h (tested-row (place (e .token)) (h .1 .0) (n .store) _ (e .brought .completion .«completion_code») z (take (e .brought .given) bytes) (n .area)))
+        (λ t ts bytes n h.
+        on (abortOne (place t) (n .store) .result) [] ts bytes n (memory (abortOne (place t) (n .store) .lent) (n .area)) h (aborted-row (place t) (h .1 .0) (n .store) _))
+        l m (none (m .store .rows), a)
       where
-        J : List Returned → List ℕ → List ℕ → Store → List ℕ → Type 0
-        J es ts bytes s x = Spares (store .rows) (s .rows) × Each Marked (tokensIn es ++ ts)
+        J : List Returned → List ℕ → List ℕ → Memory → Type 0
+        J es ts bytes n = Spares (m .store .rows) (n .store .rows) × Each Marked (tokensIn es ++ ts)
 
-        P : Verdict → Store → List ℕ → Type 0
-        P v s x = Spares (store .rows) (s .rows)
+        P : Verdict → Memory → Type 0
+        P v n = Spares (m .store .rows) (n .store .rows)
 
-        on : (v : Verdict) (es : List Returned) (ts bytes : List ℕ) (s s′ : Store) (x : List ℕ) {t : ℕ} → Spares (store .rows) (s .rows) × Each Marked (t ∷ (tokensIn es ++ ts))
-            → Spares (s .rows) (s′ .rows) → Onward place room J P v es ts bytes s′ x
-        on (verdict.Refused r) es ts bytes s s′ x h o = further (store .rows) (s .rows) (s′ .rows) (h .0) o
-        on verdict.Pass es ts bytes s s′ x h o = (further (store .rows) (s .rows) (s′ .rows) (h .0) o, h .1 .1)
+        on : (v : Verdict) (es : List Returned) (ts bytes : List ℕ) (n n′ : Memory) {t : ℕ} → Spares (m .store .rows) (n .store .rows) × Each Marked (t ∷ (tokensIn es ++ ts))
+            → Spares (n .store .rows) (n′ .store .rows) → Onward place z J P v es ts bytes n′
+        on (verdict.Refused r) es ts bytes n n′ h o = further (m .store .rows) (n .store .rows) (n′ .store .rows) (h .0) o
+        on verdict.Pass es ts bytes n n′ h o = (further (m .store .rows) (n .store .rows) (n′ .store .rows) (h .0) o, h .1 .1)
 
 -- ---- in scope, the tokens mean affected rows
-module _ (d : DeviceId) (endpoint : ℕ) (store : Store) where
-  abbrev own : List ℕ
-  own = tokensOf (store .rows) (affectedOf d endpoint (store .rows))
-
-  abbrev place : ℕ → ℕ
-  place t = meant (affectedOf d endpoint (store .rows)) own t
-
+module _ (d : DeviceId) (endpoint : ℕ) (m : Memory) where
   abbrev affects : ℕ → Bool
-  affects i = isAffected d endpoint (rowIn (store .rows) i)
+  affects i = isAffected d endpoint (rowIn (m .store .rows) i)
 
-  pub scope-spares : (whole : Bool) (room : ℕ) (tokens words aborted bytes area : List ℕ) → inScope whole own (tokens ++ aborted) ≡ true
-      → Spares affects (store .rows) (applyAll place room (readReturned tokens words) aborted bytes store area .store .rows)
-  scope-spares whole room tokens words aborted bytes area s =
-      let ts = returned-tokens tokens words in
-      apply-spares affects place room (readReturned tokens words) aborted bytes store area
-      (rw ts (scope-each own whole (tokens ++ aborted) s (Marked affects place) (meant-affected d endpoint (store .rows))))
+  pub scope-spares : (whole : Bool) (z : Size) (l : ReplyLists) → inScope whole (ownTokens d endpoint (m .store .rows)) (l .tokens ++ l .aborted) ≡ true
+      → Spares affects (m .store .rows) (applyAll z (rowsMeant (placeMeant d endpoint (m .store .rows)) l) m .lent .store .rows)
+  scope-spares whole z l s =
+      let ts = returned-tokens (l .tokens) (l .completions) in
+      let place : ℕ → ℕ = placeMeant d endpoint (m .store .rows) in
+      apply-spares affects place z l m
+      (rw ts (scope-each (ownTokens d endpoint (m .store .rows)) whole (l .tokens ++ l .aborted) s (Marked affects place) (meant-affected d endpoint (m .store .rows))))
 
 -- ---- the reply
 pub all-spared : (f : InFlight) (rows : List Row) → Spared f rows rows
 all-spared flight.Nothing rows = refl
 all-spared (flight.Submission id) rows = refl
 all-spared (flight.Poll id) rows = refl
-all-spared (flight.Recovery target d endpoint q) rows = record { number = refl; equal = λ i h e. refl }
+all-spared (flight.Recovery x) rows = record { number = refl; equal = λ i h e. refl }
 
-module _ (s : Session) (store : Store) (tokens words aborted bytes area : List ℕ) where
-  abbrev To : RecoveredTo → Type 0
-  To o = Spared (s .«in_flight») (store .rows) (o .store .rows)
-
-  same : To (recoveredTo (recoveryRefused s (refusalOf 2)) store area)
-  same = all-spared (s .«in_flight») (store .rows)
-
-  pub reply-spares : (fits : Bool) (r : RecoveryReply) → To (recoveryReplyOf s fits r tokens words aborted bytes store area)
-  unfolding scopedOf
-  reply-spares fits r =
-      recovery-all s tokens words aborted bytes store area To same same same (λ e. same) same
-      (λ x own o n.
-      let k = scope-spares (x .device) (x .endpoint) store (isWhole o) (s .«row_bytes») tokens words aborted bytes area n in
-      subst (λ (f : InFlight). Spared f (store .rows) (applyAll (place (x .device) (x .endpoint) store) (s .«row_bytes») (readReturned tokens words) aborted bytes store area .store .rows)) (sym own) (record { number = k .size; equal = λ i h e. k .row i e }))
-      fits r
+pub reply-spares : (r : RecoveryReply) (l : ReplyLists) (s : Session) (m : Memory)
+    → Spared (s .«in_flight») (m .store .rows) (recoveryReplyOf r l s m .lent .store .rows)
+unfolding settledOf
+reply-spares r l s m =
+    let same = all-spared (s .«in_flight») (m .store .rows) in
+    recovery-all l s m (λ (o : After Recovered Memory). Spared (s .«in_flight») (m .store .rows) (o .lent .store .rows)) same same same (λ e. same) same
+    (λ x own o n.
+    let k = scope-spares (x .device) (x .endpoint) m (isWhole o) (s .size) l n in
+    subst (λ (f : InFlight). Spared f (m .store .rows) (applyAll (s .size) (rowsMeant (placeMeant (x .device) (x .endpoint) (m .store .rows)) l) m .lent .store .rows)) (sym own)
+    (record { number = k .size; equal = λ i h e. k .row i e }))
+    r

@@ -1,11 +1,12 @@
 -- Every call keeps the invariant. Assumes nothing.
 use Prim.Native.Nat.{ℕ, _<_}
 use mathlib.Core.Path.{_≡_, refl, ap}
-use mathlib.Core.Bool.{Bool, true, false, not, cond, _&&_, true≢false}
+use mathlib.Core.Bool.{true, false, cond, true≢false}
 use mathlib.Core.List.{List}
 use borrow.Author.Tests.{not-true}
 use lib.ListN.{length}
 use Rattle.chain.specs.Lists.{count}
+use Rattle.chain.specs.After.{After, after}
 use Rattle.chain.proofs.Chain.{if-all, if-by}
 use Rattle.words.specs.declared.OptionU64.{OptionU64}
 use Rattle.words.specs.declared.OptionU64.the-variants as u64
@@ -24,18 +25,20 @@ use Rattle.rules.specs.declared.Change as rules
 use Rattle.rules.specs.declared.Step.{Step}
 use Rattle.rules.specs.declared.Step.the-variants as step
 use Rattle.session.specs.Session.{isClosed, isBusy, marked}
-use Rattle.session.specs.Lifecycle.{CalledTo, acquiredBy, acquireOf, initializedBy, initializeOf, closedBy, freshBy, closeOf}
+use Rattle.session.specs.Lifecycle.{acquiredBy, acquireOf, initializedBy, initializeOf, closedBy, freshBy, closeOf}
 use Rattle.session.specs.Start.{guarded}
+use Rattle.session.specs.Lent.{Lent}
 use Rattle.session.specs.declared.Called.{Called}
 use Rattle.session.specs.declared.Session.{Session}
 use Rattle.session.specs.declared.lifecycle.AcquireReply.{AcquireReply}
 use Rattle.session.specs.declared.lifecycle.AcquireReply.the-variants as acquire
-use Rattle.reports.specs.Answers.{ReportedTo, reportedTo}
 use Rattle.reports.specs.Change.{reportedBy, changeOf}
 use Rattle.scope.specs.Scope.{isAmong}
+use Rattle.reports.specs.declared.Reported.{Reported}
 use Rattle.calls.specs.Answers.{ofVerdict}
 use Rattle.calls.specs.Calls.{Changing, Cancel, Timeout, Reclaim, Call, Open, Place, Move, Acquire, Initialize, Close, Begin, Submit, SubmitPlan, Poll, Recover, Reply, ToSubmit, ToPoll, ToRecovery, Change, Read}
-use Rattle.calls.specs.Step.{World, After, rowsMatch, areaMatches, storeMatches, movedOf, begunOf, repliedOf, changeBy, stepOf}
+use Rattle.calls.specs.Step.{World, movedOf, begunOf, repliedOf, changeBy, stepOf, worldStore}
+use Rattle.calls.specs.declared.Outcome.{Outcome}
 use Rattle.runs.specs.Run.{isOpening, numberOf, isNew, noted}
 use Rattle.runs.specs.Sound.{Sound}
 use Rattle.runs.proofs.Held.{unheld-row}
@@ -74,16 +77,16 @@ change-stays Timeout r = go (r .state) refl
 change-stays Reclaim r = if-by (Stays r) _ (deviceMayAccess (r .state)) _ (λ e. tt) (λ e. empty-alike r (unheld-row r e))
 
 module _ (s : Session) (j : Journal) (seen : List ℕ) (store : Store) (k : Inv s (store .rows) j seen) where
-  abbrev Change-kept : ReportedTo → Type 0
-  Change-kept o = Inv (o .result .session) (o .store .rows) j seen
+  abbrev Change-kept : After Reported Store → Type 0
+  Change-kept o = Inv (o .result .session) (o .lent .rows) j seen
 
-  change-kept : (fits : Bool) (id : RequestId) (c : rules.Change) → ((r : Row) → Stays r (changeRow r c)) → Change-kept (changeOf s fits id c store)
+  change-kept : (id : RequestId) (c : rules.Change) → ((r : Row) → Stays r (changeRow r c)) → Change-kept (changeOf id c s store)
   unfolding reportedBy applyBy putIn
-  change-kept fits id c stays =
-      change-all s id c store Change-kept (λ x. k) (λ idle i lt hit. by-step i lt (changeRow (rowIn (store .rows) i) c) (stays (rowIn (store .rows) i))) fits
+  change-kept id c stays =
+      change-all id c s store Change-kept (λ x. k) (λ idle i lt hit. by-step i lt (changeRow (rowIn (store .rows) i) c) (stays (rowIn (store .rows) i)))
     where
       by-step : (i : ℕ) → i < length (store .rows) → (t : Step) → Stays (rowIn (store .rows) i) t
-          → Change-kept (reportedTo (reportedBy (applyBy t i store .answer) s) (applyBy t i store .store))
+          → Change-kept (after (reportedBy (applyBy t i store .result) s) (applyBy t i store .lent))
       by-step i lt (step.Refused x) h = k
       by-step i lt (step.To next x) h = quietly s (store .rows) j seen k i lt next h
 
@@ -91,7 +94,7 @@ module _ (s : Session) (j : Journal) (seen : List ℕ) (store : Store) (k : Inv 
   abbrev Called-kept : Called → Type 0
   Called-kept c = Inv (c .session) (store .rows) j seen
 
-  acquire-kept : (x : AcquireReply) → Called-kept (acquireOf s x)
+  acquire-kept : (x : AcquireReply) → Called-kept (acquireOf x s)
   unfolding acquireOf acquiredBy
   acquire-kept x = if-all Called-kept _ _ _ k (if-all Called-kept _ _ _ k (go x))
     where
@@ -99,7 +102,7 @@ module _ (s : Session) (j : Journal) (seen : List ℕ) (store : Store) (k : Inv 
       go acquire.Acquired = k
       go (acquire.Failed e retained) = if-all Called-kept _ _ _ k k
 
-  initialize-kept : (x : OptionError) → Called-kept (initializeOf s x)
+  initialize-kept : (x : OptionError) → Called-kept (initializeOf x s)
   unfolding initializeOf initializedBy
   initialize-kept x = if-all Called-kept _ _ _ k (if-all Called-kept _ _ _ k (go x))
     where
@@ -107,44 +110,42 @@ module _ (s : Session) (j : Journal) (seen : List ℕ) (store : Store) (k : Inv 
       go error.None = k
       go (error.Some e) = marks s (store .rows) j seen k
 
-  abbrev Close-kept : OptionU64 → CalledTo → Type 0
-  Close-kept n o = Inv (o .result .session) (o .store .rows) (cond (isPass (ofVerdict (o .result .answer))) (releasedAll j) j) (noted n seen)
+  abbrev Close-kept : OptionU64 → After Called Store → Type 0
+  Close-kept n o = Inv (o .result .session) (o .lent .rows) (cond (isPass (ofVerdict (o .result .answer))) (releasedAll j) j) (noted n seen)
 
-  close-kept : (isClosed (s .state) ≡ true → count isHeld (store .rows) ≡ 0) → (fits : Bool) (n : OptionU64) (x : OptionError) → isNew n seen ≡ true
-      → Close-kept n (closeOf s fits n x store)
+  close-kept : (isClosed (s .state) ≡ true → count isHeld (store .rows) ≡ 0) → (n : OptionU64) (x : OptionError) → isNew n seen ≡ true
+      → Close-kept n (closeOf n x s store)
   unfolding closeOf guarded freshBy closedBy emptied
-  close-kept none fits n x new =
+  close-kept none n x new =
       if-by (Close-kept n) _ (isBusy (s .«in_flight»)) _ (λ y. seen-more s (store .rows) j seen k n)
-      (λ y. if-all (Close-kept n) _ (not fits) _ (seen-more s (store .rows) j seen k n)
+      (λ y. if-all (Close-kept n) _ _ _ (seen-more s (store .rows) j seen k n)
       (if-by (Close-kept n) _ (isClosed (s .state)) _
       (λ c. seen-more s (store .rows) (releasedAll j) seen (closed-again s (store .rows) j seen k (none c)) n)
       (λ c. go y n new x)))
     where
-      go : isBusy (s .«in_flight») ≡ false → (n : OptionU64) → isNew n seen ≡ true → (x : OptionError) → Close-kept n (freshBy n s x store)
+      go : isBusy (s .«in_flight») ≡ false → (n : OptionU64) → isNew n seen ≡ true → (x : OptionError) → Close-kept n (freshBy n x s store)
       go y u64.None new x = k
       go y (u64.Some n) new (error.Some e) = seen-more (marked s) (store .rows) j seen (marks s (store .rows) j seen k) (u64.Some n)
       go y (u64.Some n) new error.None = closed-anew s (store .rows) j seen k n (length (store .rows)) (not-true (isAmong n seen) new) y
 
 -- ---- any call
-abbrev pub Kept : Call → Journal → List ℕ → After → Type 0
-Kept c j seen a = Inv (a .result .session) (a .store .rows) (journalStep c (a .result .answer) j) (noted (numberOf c) seen)
+abbrev pub Kept : Call → Journal → List ℕ → After Outcome Lent → Type 0
+Kept c j seen a = Inv (a .result .session) (a .lent .memory .store .rows) (journalStep c (a .result .answer) j) (noted (numberOf c) seen)
 
-pub step-kept : (c : Call) (w : World) → Sound w → (j : Journal) (seen : List ℕ) → Inv (w .session) (w .store .rows) j seen → isOpening c ≡ false
-    → isNew (numberOf c) seen ≡ true → Kept c j seen (stepOf c w)
-unfolding stepOf movedOf begunOf repliedOf journalStep
-step-kept (Open o) w sound j seen k first new = absurd (true≢false first)
-step-kept (Place p) w sound j seen k first new = k
-step-kept (Move (Acquire reply)) w sound j seen k first new = acquire-kept (w .session) j seen (w .store) k reply
-step-kept (Move (Initialize reply)) w sound j seen k first new = initialize-kept (w .session) j seen (w .store) k reply
-step-kept (Move (Close fresh reply)) w sound j seen k first new = close-kept (w .session) j seen (w .store) k (closed-unheld w sound) (rowsMatch w) fresh reply new
-step-kept (Begin (Submit q bytes packed packets one two)) w sound j seen k first new =
-    submit-kept (w .session) j seen (w .store) k (w .bus) (w .area) (storeMatches w) q bytes packed packets one two
-step-kept (Begin (SubmitPlan q bytes one)) w sound j seen k first new = plan-kept (w .session) j seen (w .store) k (w .bus) (w .area) (storeMatches w) q bytes one
-step-kept (Begin (Poll id)) w sound j seen k first new = poll-kept w sound j seen k (rowsMatch w) id
-step-kept (Begin (Recover id kind)) w sound j seen k first new = begin-kept (w .session) j seen (w .store) k (rowsMatch w) id kind
-step-kept (Reply (ToSubmit reply)) w sound j seen k first new = reply-kept w sound j seen k (rowsMatch w) reply
-step-kept (Reply (ToPoll reply bytes)) w sound j seen k first new = finish-kept w sound j seen k (rowsMatch w && areaMatches w) reply bytes (w .area)
-step-kept (Reply (ToRecovery reply tokens words aborted bytes)) w sound j seen k first new =
-    recovery-kept (w .session) j seen (w .store) k (sound .held) tokens words aborted bytes (w .area) (rowsMatch w && areaMatches w) reply
-step-kept (Change id c) w sound j seen k first new = change-kept (w .session) j seen (w .store) k (rowsMatch w) id (changeBy c) (change-stays c)
-step-kept (Read r) w sound j seen k first new = k
+module _ (w : World) (sound : Sound (w .session) (worldStore w)) (j : Journal) (seen : List ℕ) (k : Inv (w .session) (worldStore w .rows) j seen) where
+  pub step-kept : (c : Call) → isOpening c ≡ false → isNew (numberOf c) seen ≡ true → Kept c j seen (stepOf c w)
+  unfolding stepOf movedOf begunOf repliedOf journalStep
+  step-kept (Open o) first new = absurd (true≢false first)
+  step-kept (Place p) first new = k
+  step-kept (Move (Acquire reply)) first new = acquire-kept (w .session) j seen (worldStore w) k reply
+  step-kept (Move (Initialize reply)) first new = initialize-kept (w .session) j seen (worldStore w) k reply
+  step-kept (Move (Close fresh reply)) first new = close-kept (w .session) j seen (worldStore w) k (closed-unheld sound) fresh reply new
+  step-kept (Begin (Submit packets q)) first new = submit-kept (w .session) j seen (w .lent) k packets q
+  step-kept (Begin (SubmitPlan q bytes one)) first new = plan-kept (w .session) j seen (w .lent) k q bytes one
+  step-kept (Begin (Poll id)) first new = poll-kept (w .session) (worldStore w) sound j seen k id
+  step-kept (Begin (Recover id kind)) first new = begin-kept (w .session) j seen (worldStore w) k id kind
+  step-kept (Reply (ToSubmit reply)) first new = reply-kept (w .session) (worldStore w) sound j seen k reply
+  step-kept (Reply (ToPoll reply bytes)) first new = finish-kept (w .session) (worldStore w) sound j seen k reply bytes (w .lent .memory .area)
+  step-kept (Reply (ToRecovery reply lists)) first new = recovery-kept (w .session) j seen (w .lent .memory) k (sound .held) lists reply
+  step-kept (Change id c) first new = change-kept (w .session) j seen (worldStore w) k id (changeBy c) (change-stays c)
+  step-kept (Read r) first new = k

@@ -1,14 +1,14 @@
 -- Demand 3: the claim of every list of calls that follows an opening which passed. Assumes nothing.
 use Prim.Native.Nat.{ℕ, zero, suc, _≤_, _<_}
 use mathlib.Core.Path.{_≡_, refl, sym, ap, _∙_, subst}
-use mathlib.Core.Bool.{Bool, true, false, not, cond, _&&_}
+use mathlib.Core.Bool.{Bool, true, false, cond, _&&_}
 use mathlib.Core.List.{List, [], _∷_, _++_}
 use native.Mathlib.Omega.{arith}
 use borrow.Author.Tests.{eq-eqb, ltb-true, ltb-false}
 use lib.Dec.{ltb}
 use lib.ListN.{length, getD, replicate}
-use Rattle.chain.specs.Chain.{_if_else_}
 use Rattle.chain.specs.Lists.{sumBy, only, count, find}
+use Rattle.chain.specs.After.{After, after}
 use Rattle.chain.proofs.Chain.{caseB, if-by}
 use Rattle.chain.proofs.Lists.{sum-eq, sum-le, sum-one, sum-none, count-pos, find-hit, find-some}
 use Rattle.models.specs.Refusals.{refusalOf}
@@ -16,7 +16,7 @@ use Rattle.models.specs.Requests.{deviceMayAccess, sameRequest}
 use Rattle.models.specs.declared.Refusal.{Refusal}
 use Rattle.models.specs.declared.RequestId.{RequestId}
 use Rattle.models.specs.declared.RequestReport.{RequestReport}
-use Rattle.rows.specs.Store.{storeOf, emptied}
+use Rattle.rows.specs.Store.{storeOf, emptied, Store}
 use Rattle.rows.specs.Table.{emptyRow, isHeld, rowIn}
 use Rattle.rows.specs.declared.Row.{Row}
 use Rattle.ledger.specs.Apply.{applyBy}
@@ -25,33 +25,33 @@ use Rattle.ledger.specs.Search.{isAt}
 use Rattle.rules.specs.declared.Change.the-variants as change
 use Rattle.rules.specs.declared.Step.{Step}
 use Rattle.bus.specs.Tables.{Bus, busOf}
-use Rattle.session.specs.Lifecycle.{OpenedTo, newSession, openOf}
-use Rattle.session.specs.Sizes.{openFits}
+use Rattle.session.specs.Lifecycle.{newSession, openOf}
+use Rattle.session.specs.Lent.{Lent, lent, memory}
 use Rattle.session.specs.declared.InFlight.{InFlight}
 use Rattle.session.specs.declared.InFlight.the-variants as flight
 use Rattle.session.specs.declared.RecoveryKind.{RecoveryKind}
 use Rattle.session.specs.declared.Session.{Session}
 use Rattle.session.specs.declared.lifecycle.Opening.{Opening}
-use Rattle.reports.specs.Answers.{ReportedTo, reportedTo}
-use Rattle.reports.specs.Change.{reportedBy}
+use Rattle.session.specs.declared.Recovery.{Recovery}
+use Rattle.session.specs.declared.lifecycle.Opened.{Opened}
+use Rattle.reports.specs.Change.{reportedBy, changeOf}
+use Rattle.reports.specs.declared.Reported.{Reported}
+use Rattle.recovery.specs.RecoveryReply.{ReplyLists}
 use Rattle.recovery.specs.declared.AbortReport.{AbortReport}
-use Rattle.recovery.specs.declared.Recovery.{Recovery}
 use Rattle.recovery.specs.declared.RecoveryReply.{RecoveryReply}
-use Rattle.calls.specs.Answers.{ofOpened, ofReport}
+use Rattle.calls.specs.Answers.{ofReport, ofTally}
 use Rattle.calls.specs.Calls.{Call, Open, Begin, Recover, Change, Reclaim}
-use Rattle.calls.specs.Step.{World, world, rowsMatch, begunOf, repliedOf, stepOf}
+use Rattle.calls.specs.Step.{World, world, begunOf, repliedOf, stepOf, opens, readOf, worldStore}
 use Rattle.calls.specs.declared.Answer.{Answer}
 use Rattle.calls.specs.declared.Answer.the-variants as answer
-use Rattle.runs.specs.Run.{Handed, Event, next, answerTo, leftBy, endOf, historyOf, Handing, Follows, numberOf, isNew, noted, Fresh}
-use Rattle.runs.specs.Sound.{Sound}
+use Rattle.runs.specs.Run.{Handed, Event, next, answerTo, leftBy, endOf, historyOf, Handing, Follows, numberOf, isNew, noted, Fresh, beside}
 use Rattle.runs.proofs.Held.{and-less, any-count, unheld-row}
 use Rattle.runs.proofs.Handings.{by-handed, follows-at, follows-front, fresh-front}
-use Rattle.runs.proofs.Rows.{same}
 use Rattle.runs.proofs.Ways.{change-all}
-use Rattle.runs.proofs.Run.{Whole, lent-rows, sound-open, left-leads, sound-run, fitted-run}
+use Rattle.runs.proofs.Run.{Whole, lent-rows, sound-open, left-leads, sound-run, fitted-run, SoundIn}
 use Rattle.runs.proofs.Tally.{count-answer, bytes-answer}
 use Rattle.history.specs.Journal.{Entry, Journal, blank, isNone, isOpen, isEntry, noEntry, entryOf, recoveryWaits, journalStep, journalOf, View, entryView}
-use Rattle.history.specs.Claim.{rowView, heldAs, openAs, Agrees, releasesOf, rowsBy, entriesAfter, reclaims, starts, returns, Recovered, Spared, Claim}
+use Rattle.history.specs.Claim.{rowView, heldAs, openAs, Agrees, releasesOf, rowsBy, entriesAfter, reclaims, starts, returns, Spared, Claim, ReportOf}
 use Rattle.history.proofs.Led.{cond-and, rowW, entryW, each, lengthOf, at, twice, Led, row-none, known-in, entry-is}
 use Rattle.history.proofs.Changes.{none-held, none-at}
 use Rattle.history.proofs.Inv.{Inv, seen-more}
@@ -128,16 +128,16 @@ module _ (rows : List Row) (entries : List Entry) (k : Led rows entries) where
 
 -- ---- a list of calls
 abbrev pub Holds : World → Journal → List ℕ → Type 0
-Holds w j seen = Inv (w .session) (w .store .rows) j seen
+Holds w j seen = Inv (w .session) (worldStore w .rows) j seen
 
-event-kept : (h : Handed) (c : Call) (w : World) → Sound w → (j : Journal) (seen : List ℕ) → Holds w j seen → Handing h c → isNew (numberOf c) seen ≡ true
+event-kept : (h : Handed) (c : Call) (w : World) → SoundIn w → (j : Journal) (seen : List ℕ) → Holds w j seen → Handing h c → isNew (numberOf c) seen ≡ true
     → Holds (leftBy h c w) (journalStep c (answerTo w (record { call = c; handed = h })) j) (noted (numberOf c) seen)
 event-kept h c w sound j seen k f n =
     by-handed h c w (λ a v. Holds v (journalStep c a j) (noted (numberOf c) seen)) f
-    (λ first bus area. step-kept c (world (w .session) bus (w .store) area) (same w sound bus area .sound) j seen k first n)
-    (subst (λ (x : Journal). Holds w x (noted (numberOf c) seen)) (sym (refused-3 c j)) (seen-more (w .session) (w .store .rows) j seen k (numberOf c)))
+    (λ first bus area. step-kept (beside bus area w) sound j seen k c first n)
+    (subst (λ (x : Journal). Holds w x (noted (numberOf c) seen)) (sym (refused-3 c j)) (seen-more (w .session) (worldStore w .rows) j seen k (numberOf c)))
 
-pub run-kept : (es : List Event) (w : World) (j : Journal) (seen : List ℕ) → Sound w → Holds w j seen → Follows es → Fresh seen es
+pub run-kept : (es : List Event) (w : World) (j : Journal) (seen : List ℕ) → SoundIn w → Holds w j seen → Follows es → Fresh seen es
     → (seen′ : List ℕ) × Holds (endOf w es) (journalOf (historyOf w es) j) seen′
 run-kept [] w j seen sound k f n = (seen, k)
 run-kept (e ∷ es) w j seen sound k f n =
@@ -148,15 +148,14 @@ run-kept (e ∷ es) w j seen sound k f n =
 pub opened-holds : (o : Opening) (w : World) → stepOf (Open o) w .result .answer ≡ answer.Pass → Holds (next (stepOf (Open o) w)) blank (o .session ∷ [])
 unfolding stepOf openOf emptied
 opened-holds o w =
-    if-by (λ (x : OpenedTo). ofOpened (x .answer) (w .session) .answer ≡ answer.Pass → Inv (ofOpened (x .answer) (w .session) .session) (x .store .rows) blank (o .session ∷ []))
-    _ (not (openFits o (length (w .store .words)) (length (w .area)) (length (w .bus .words)))) _
+    if-by (λ (x : After Opened Lent). opens x w .result .answer ≡ answer.Pass → Holds (next (opens x w)) blank (o .session ∷ [])) _ _ _
     (λ y e. let z : _≡_ {A = ℕ} 0 1 = cc in absurd (omega arith)) (λ y e. begins)
   where
-    begins : Inv (newSession o) (replicate (length (w .store .rows)) emptyRow) blank (o .session ∷ [])
+    begins : Inv (newSession o) (replicate (length (worldStore w .rows)) emptyRow) blank (o .session ∷ [])
     begins = record {
       led = record {
-        same = λ v. none-held v (length (w .store .rows));
-        known = λ x. omega (arith, none-at x (length (w .store .rows)));
+        same = λ v. none-held v (length (worldStore w .rows));
+        known = λ x. omega (arith, none-at x (length (worldStore w .rows)));
         once = λ x. omega arith;
         single = refl;
       };
@@ -167,17 +166,16 @@ opened-holds o w =
     }
 
 -- ---- what a reclaim that passed tells
-reclaim-told : (w : World) (x : RequestId) (r : RequestReport) (entries : List Entry) → Led (w .store .rows) entries
-    → stepOf (Change x Reclaim) w .result .answer ≡ answer.Report r → releasesOf x entries ≡ 1
-unfolding stepOf reportedBy applyBy changeRow reclaimed
-reclaim-told w x r entries k =
-    change-all (w .session) x change.Reclaim (w .store) Told (λ f e. refuses e)
+reclaim-told : (s : Session) (store : Store) (x : RequestId) (r : RequestReport) (entries : List Entry) → Led (store .rows) entries
+    → ofReport (changeOf x change.Reclaim s store .result .answer) ≡ answer.Report r → releasesOf x entries ≡ 1
+unfolding reportedBy applyBy changeRow reclaimed
+reclaim-told s store x r entries k =
+    change-all x change.Reclaim s store Told (λ f e. refuses e)
     (λ idle i lt hit.
-    if-by (λ (t : Step). Told (reportedTo (reportedBy (applyBy t i (w .store) .answer) (w .session)) (applyBy t i (w .store) .store))) _ _ _ (λ y e. refuses e)
-    (λ y e. unheld-once (w .store .rows) entries k x i lt hit (unheld-row (rowIn (w .store .rows) i) y)))
-    (rowsMatch w)
+    if-by (λ (t : Step). Told (after (reportedBy (applyBy t i store .result) s) (applyBy t i store .lent))) _ _ _ (λ y e. refuses e)
+    (λ y e. unheld-once (store .rows) entries k x i lt hit (unheld-row (rowIn (store .rows) i) y)))
   where
-    Told : ReportedTo → Type 0
+    Told : After Reported Store → Type 0
     Told o = ofReport (o .result .answer) ≡ answer.Report r → releasesOf x entries ≡ 1
 
     refuses : {f : Refusal} → answer.Refused f ≡ answer.Report r → releasesOf x entries ≡ 1
@@ -204,70 +202,70 @@ module _ (o : Opening) (w : World) (es : List Event) (pass : stepOf (Open o) w .
 
   reclaim-at : (before after : List Event) (h : Handed) (x : RequestId) (r : RequestReport) → es ≡ before ++ (reclaims x h ∷ after)
       → answerTo (endOf start before) (reclaims x h) ≡ answer.Report r → releasesOf x (entriesAfter start before) ≡ 1
+  unfolding stepOf
   reclaim-at before after h x r is =
       let at = endOf start before in
       let k = holds before after (reclaims x h) is .1 .led in
       by-handed h (Change x Reclaim) at (λ a v. a ≡ answer.Report r → releasesOf x (entriesAfter start before) ≡ 1) (handing before after (reclaims x h) is)
-      (λ first bus area. reclaim-told (world (at .session) bus (at .store) area) x r _ k)
+      (λ first bus area. reclaim-told (at .session) (worldStore at) x r _ k)
       (λ e. let z : _≡_ {A = ℕ} 0 1 = cc in absurd (omega arith))
 
   started-at : (before after : List Event) (h : Handed) (q : RecoveryKind) (id : RequestId) → es ≡ before ++ (starts q id h ∷ after) → (x : Recovery)
       → answerTo (endOf start before) (starts q id h) ≡ answer.Recovering x
-      → flight.Recovery (x .target) (x .device) (x .endpoint) (x .kind) ≡ recoveryWaits id q (journalOf (historyOf start before) blank) .waiting
+      → flight.Recovery x ≡ recoveryWaits id q (journalOf (historyOf start before) blank) .waiting
   unfolding stepOf begunOf
   started-at before after h q id is x =
       let mid = endOf start before in
       let k = holds before after (starts q id h) is in
       by-handed h (Begin (Recover id q)) mid
-      (λ a v. a ≡ answer.Recovering x → flight.Recovery (x .target) (x .device) (x .endpoint) (x .kind) ≡ recoveryWaits id q (journalOf (historyOf start before) blank) .waiting)
+      (λ a v. a ≡ answer.Recovering x → flight.Recovery x ≡ recoveryWaits id q (journalOf (historyOf start before) blank) .waiting)
       (handing before after (starts q id h) is)
-      (λ first bus area a. begin-names (mid .session) (journalOf (historyOf start before) blank) (k .0) (mid .store) (k .1) x _ id q a)
+      (λ first bus area a. begin-names (mid .session) (journalOf (historyOf start before) blank) (k .0) (worldStore mid) (k .1) x id q a)
       (λ a. let z : _≡_ {A = ℕ} 0 1 = cc in absurd (omega arith))
 
-  module _ (before after : List Event) (h : Handed) (reply : RecoveryReply) (tokens words aborted bytes : List ℕ)
-      (is : es ≡ before ++ (returns reply tokens words aborted bytes h ∷ after)) where
+  module _ (before after : List Event) (h : Handed) (reply : RecoveryReply) (l : ReplyLists) (is : es ≡ before ++ (returns reply l h ∷ after)) where
     abbrev mid : World
     mid = endOf start before
 
     abbrev ending : Event
-    ending = returns reply tokens words aborted bytes h
+    ending = returns reply l h
 
     by-reply : (P : Answer → World → Type 0)
-        → ((bus : Bus) (area : List ℕ) → P (stepOf (ending .call) (world (mid .session) bus (mid .store) area) .result .answer) (next (stepOf (ending .call) (world (mid .session) bus (mid .store) area))))
+        → ((bus : Bus) (area : List ℕ) → P (stepOf (ending .call) (beside bus area mid) .result .answer) (next (stepOf (ending .call) (beside bus area mid))))
         → P (answer.Refused (refusalOf 3)) mid → P (answerTo mid ending) (leftBy h (ending .call) mid)
     by-reply P ours = by-handed h (ending .call) mid P (handing before after ending is) (λ first. ours)
 
-    recovered-at : (x : AbortReport) → answerTo mid ending ≡ answer.Recovered x → Settles (mid .store .rows) tokens words aborted (rowsBy mid ending) x
+    recovered-at : (x : AbortReport) → answerTo mid ending ≡ answer.Recovered x → Settles l (worldStore mid .rows) (rowsBy mid ending) x
     unfolding stepOf repliedOf
     recovered-at x =
-        by-reply (λ a v. a ≡ answer.Recovered x → Settles (mid .store .rows) tokens words aborted (v .store .rows) x)
-        (λ bus area. recovered-told (mid .session) (mid .store) (sound-run o w before pass (follows-front before (ending ∷ after) (subst Follows is follows)) .held) tokens words aborted bytes area x _ reply)
+        by-reply (λ a v. a ≡ answer.Recovered x → Settles l (worldStore mid .rows) (worldStore v .rows) x)
+        (λ bus area. recovered-told l (mid .session) (memory (worldStore mid) area) x (sound-run o w before pass (follows-front before (ending ∷ after) (subst Follows is follows)) .held) reply)
         (no-report (refusalOf 3) x _)
 
-    reported-at : (x : AbortReport) → answerTo mid ending ≡ answer.Recovered x
-        → (q : RecoveryKind) × (journalOf (historyOf start before) blank .waiting ≡ flight.Recovery (x .target) (x .device) (x .endpoint) q)
+    reported-at : (x : AbortReport) → answerTo mid ending ≡ answer.Recovered x → ReportOf (journalOf (historyOf start before) blank .waiting) x
     unfolding stepOf repliedOf
     reported-at x e =
-        let q = by-reply (λ a v. a ≡ answer.Recovered x → (q : RecoveryKind) × (mid .session .«in_flight» ≡ flight.Recovery (x .target) (x .device) (x .endpoint) q))
-        (λ bus area. waited-told (mid .session) (mid .store) tokens words aborted bytes area x _ reply) (no-report (refusalOf 3) x _) e in
+        let q = by-reply (λ a v. a ≡ answer.Recovered x → ReportOf (mid .session .«in_flight») x)
+        (λ bus area. waited-told l (mid .session) (memory (worldStore mid) area) x reply) (no-report (refusalOf 3) x _) e in
         (q .0, holds before after ending is .1 .agree ∙ q .1)
 
-    spared-at : Spared (journalOf (historyOf start before) blank .waiting) (mid .store .rows) (rowsBy mid ending)
+    spared-at : Spared (journalOf (historyOf start before) blank .waiting) (worldStore mid .rows) (rowsBy mid ending)
     unfolding stepOf repliedOf
     spared-at =
-        subst (λ (f : InFlight). Spared f (mid .store .rows) (rowsBy mid ending)) (sym (holds before after ending is .1 .agree))
-        (by-reply (λ a v. Spared (mid .session .«in_flight») (mid .store .rows) (v .store .rows))
-        (λ bus area. reply-spares (mid .session) (mid .store) tokens words aborted bytes area _ reply) (all-spared (mid .session .«in_flight») (mid .store .rows)))
+        subst (λ (f : InFlight). Spared f (worldStore mid .rows) (rowsBy mid ending)) (sym (holds before after ending is .1 .agree))
+        (by-reply (λ a v. Spared (mid .session .«in_flight») (worldStore mid .rows) (worldStore v .rows))
+        (λ bus area. reply-spares reply l (mid .session) (memory (worldStore mid) area)) (all-spared (mid .session .«in_flight») (worldStore mid .rows)))
 
   pub whole-claim : Whole w → Claim start es
+  unfolding stepOf readOf
   whole-claim whole =
       let sound = sound-run o w es pass follows in
       let fitted = fitted-run o w es pass follows whole in
       let k = run-kept es start blank seen (sound-open o w pass) (opened-holds o w pass) follows fresh .1 .led in
       record {
         agrees = agreed _ _ k (sound .held);
-        count-is = count-answer (endOf start es) sound fitted ∙ ap (λ (n : ℕ). answer.Number n) (k .same each);
-        bytes-is = bytes-answer (endOf start es) sound fitted ∙ ap (λ (n : ℕ). answer.Number n) (k .same lengthOf);
+        count-is = ap ofTally (count-answer sound fitted) ∙ ap (λ (n : ℕ). answer.Number n) (k .same each);
+        bytes-is = ap ofTally (bytes-answer sound fitted) ∙ ap (λ (n : ℕ). answer.Number n) (k .same lengthOf);
         one-entry = k .once;
         one-release = release-once _ _ k;
         reclaimed = reclaim-at;
@@ -279,8 +277,12 @@ module _ (o : Opening) (w : World) (es : List Event) (pass : stepOf (Open o) w .
         untouched = refused-untouched;
       }
 
--- the theorem: over lent slices, which always have as many rows as their words say
+-- what lent slices say
+abbrev pub worldOf : Session → List ℕ → List ℕ → List ℕ → World
+worldOf s bus rows area = world s (lent (busOf bus) (memory (storeOf rows) area))
+
+-- the theorem: lent slices always have as many rows as their words say
 pub history-claim : (o : Opening) (s : Session) (bus rows area : List ℕ) (es : List Event)
-    → stepOf (Open o) (world s (busOf bus) (storeOf rows) area) .result .answer ≡ answer.Pass → Follows es → Fresh (o .session ∷ []) es
-    → Claim (next (stepOf (Open o) (world s (busOf bus) (storeOf rows) area))) es
-history-claim o s bus rows area es pass follows fresh = whole-claim o (world s (busOf bus) (storeOf rows) area) es pass follows fresh (lent-rows rows)
+    → stepOf (Open o) (worldOf s bus rows area) .result .answer ≡ answer.Pass → Follows es → Fresh (o .session ∷ []) es
+    → Claim (next (stepOf (Open o) (worldOf s bus rows area))) es
+history-claim o s bus rows area es pass follows fresh = whole-claim o (worldOf s bus rows area) es pass follows fresh (lent-rows rows)

@@ -1,5 +1,5 @@
 -- A reply's entries, applied to rows and to entries of the journal alike: by induction over them. Assumes nothing.
-use Prim.Native.Nat.{ℕ, _+_, _*_, _<_}
+use Prim.Native.Nat.{ℕ, _+_, _<_}
 use mathlib.Core.Path.{_≡_, refl, sym, ap, _∙_, subst}
 use mathlib.Core.Bool.{Bool, true, false, cond, not, _&&_, _||_, true≢false, false≢true}
 use mathlib.Core.List.{List, [], _∷_, _++_}
@@ -10,6 +10,7 @@ use lib.ListN.{length, set, take, drop, length-set}
 use lib.Seq.{getD-set-other}
 use Rattle.chain.specs.Chain.{_if_else_}
 use Rattle.chain.specs.Lists.{count}
+use Rattle.chain.specs.After.{After}
 use Rattle.chain.proofs.Chain.{both}
 use Rattle.models.specs.Requests.{deviceMayAccess, isUncertainFailure}
 use Rattle.models.specs.declared.BackendCompletion.{BackendCompletion}
@@ -18,7 +19,7 @@ use Rattle.models.specs.declared.RequestState.{RequestState}
 use Rattle.models.specs.declared.RequestState.the-variants.{Pending, Completed, Failed, Aborted}
 use Rattle.models.specs.declared.Verdict.{Verdict}
 use Rattle.models.specs.declared.Verdict.the-variants as verdict
-use Rattle.rows.specs.Store.{Store, putIn}
+use Rattle.rows.specs.Store.{putIn}
 use Rattle.rows.specs.Table.{emptyRow, isHeld, rowIn}
 use Rattle.rows.specs.declared.Row.{Row}
 use Rattle.ledger.specs.Search.{isAt}
@@ -27,10 +28,12 @@ use Rattle.checks.specs.Completion.{testCompletion}
 use Rattle.checks.specs.declared.completion.CompletionTest.{CompletionTest}
 use Rattle.checks.specs.declared.completion.CompletionTest.the-variants as test
 use Rattle.scope.specs.Scope.{isAmong}
-use Rattle.scope.specs.Returned.{Returned}
+use Rattle.scope.specs.Returned.{Returned, readReturned}
 use Rattle.scope.proofs.tokens.Laws.{in-cons}
-use Rattle.recovery.specs.Entries.{WalkTo, rowCompletedBy, testedBy, completeOne, abortedBy, abortOne}
-use Rattle.recovery.specs.Reply.{applyAll}
+use Rattle.session.specs.Lent.{Memory, memory}
+use Rattle.session.specs.declared.Size.{Size}
+use Rattle.recovery.specs.Entries.{rowCompletedBy, testedBy, completeOne, abortedBy, abortOne, applyAll}
+use Rattle.recovery.specs.RecoveryReply.{ReplyLists, rowsMeant}
 use Rattle.runs.proofs.Held.{or-false}
 use Rattle.runs.proofs.Ids.{same-self}
 use Rattle.runs.proofs.Entries.{Onward, entries-all}
@@ -115,47 +118,45 @@ module _ (place : ℕ → ℕ) (view : ℕ → View) where
   Together rows entries t verdict.Pass rows′ q =
       (s : RequestState) × (deviceMayAccess s ≡ false) × (rows′ ≡ set rows (place t) (withState (rowIn rows (place t)) s)) × (q ≡ releasedTo false (atEntry (view t .id) release entries))
 
-  abbrev TogetherTo : List Row → List Entry → ℕ → WalkTo → ReleasedTo → Type 0
-  TogetherTo rows entries t w q = Together rows entries t (w .verdict) (w .store .rows) q
-
-  module _ (store : Store) (entries : List Entry) (t : ℕ) (a : Ready (store .rows) t) (at room : ℕ) (bytes area : List ℕ) where
+  module _ (m : Memory) (entries : List Entry) (t : ℕ) (a : Ready (m .store .rows) t) (z : Size) (bytes : List ℕ) where
     abbrev row : Row
-    row = rowIn (store .rows) (place t)
+    row = rowIn (m .store .rows) (place t)
+
+    abbrev Both : After Verdict Memory → ReleasedTo → Type 0
+    Both o q = Together (m .store .rows) entries t (o .result) (o .lent .store .rows) q
 
     valid-both : (actual n : ℕ) (st : RequestState) → deviceMayAccess st ≡ true
-        → TogetherTo (store .rows) entries t (rowCompletedBy (whilePending st (λ cancel late. withState row (Completed actual n cancel))) (place t) at room bytes store area)
+        → Both (rowCompletedBy (whilePending st (λ cancel late. withState row (Completed actual n cancel))) z (place t) bytes m)
         (cond (isUncertainFailure st) (releasedTo true entries) (releasedTo false (atEntry (view t .id) release entries)))
     unfolding rowCompletedBy whilePending moved putIn
     valid-both actual n (Pending cancel late) h = (Completed actual n cancel, refl, refl, refl)
-    valid-both actual n (Completed x y z) h = absurd (false≢true h)
+    valid-both actual n (Completed x y c) h = absurd (false≢true h)
     valid-both actual n (Failed x y true) h = absurd (false≢true h)
     valid-both actual n (Failed x y false) h = (refl, refl, refl)
     valid-both actual n Aborted h = absurd (false≢true h)
 
-    tested-both : (c : BackendCompletion) (p : CompletionTest)
-        → TogetherTo (store .rows) entries t (testedBy p (c .«completion_code») (place t) at room bytes store area) (completesBy p (view t) entries)
+    tested-both : (c : BackendCompletion) (p : CompletionTest) → Both (testedBy p (c .«completion_code») z (place t) bytes m) (completesBy p (view t) entries)
     unfolding testedBy changeRow completed isHeld
     tested-both c test.MissingLength = (refl, refl, refl)
     tested-both c test.Invalid = (refl, refl, refl)
     tested-both c (test.Valid actual n) =
         let f : isUncertainFailure (row .state) ≡ view t .failed = ap (λ (v : View). v .failed) (a .is) in
-        subst (λ (b : Bool). TogetherTo (store .rows) entries t (testedBy (test.Valid actual n) (c .«completion_code») (place t) at room bytes store area)
+        subst (λ (b : Bool). Both (testedBy (test.Valid actual n) (c .«completion_code») z (place t) bytes m)
         (cond b (releasedTo true entries) (releasedTo false (atEntry (view t .id) release entries)))) f
         (valid-both actual n (row .state) access)
       where
         access : deviceMayAccess (row .state) ≡ true
         access = both (row .used) (deviceMayAccess (row .state)) (a .held) .1
 
-    complete-both : (c : BackendCompletion)
-        → TogetherTo (store .rows) entries t (completeOne (place t) at room c bytes store area) (completesBy (testCompletion c (length bytes) (view t .requested)) (view t) entries)
+    complete-both : (c : BackendCompletion) → Both (completeOne z (place t) c bytes m) (completesBy (testCompletion c (length bytes) (view t .requested)) (view t) entries)
     unfolding completeOne
     complete-both c =
         let f : row .metadata .«requested_length» ≡ view t .requested = ap (λ (v : View). v .requested) (a .is) in
-        subst (λ (n : ℕ). TogetherTo (store .rows) entries t (completeOne (place t) at room c bytes store area) (completesBy (testCompletion c (length bytes) n) (view t) entries)) f
+        subst (λ (n : ℕ). Both (completeOne z (place t) c bytes m) (completesBy (testCompletion c (length bytes) n) (view t) entries)) f
         (tested-both c (testCompletion c (length bytes) (row .metadata .«requested_length»)))
 
   -- ---- the completions, then the aborts
-  module _ (room : ℕ) (rows : List Row) (entries whole : List Entry) where
+  module _ (z : Size) (rows : List Row) (entries whole : List Entry) where
     -- rows and entries are in step where the walk has come, and what is left of the journal's own leads to the whole
     record Along (es : List Returned) (ts bytes : List ℕ) (now : List Row) : Type 0 where
       pub so-far : List Entry
@@ -164,61 +165,60 @@ module _ (place : ℕ → ℕ) (view : ℕ → View) where
       pub ready : AllReady now (tokensIn es ++ ts)
       pub leads : abortedAfter (completesAll view es bytes so-far) view ts ≡ whole
 
-    abbrev To : List Returned → List ℕ → List ℕ → Store → List ℕ → Type 0
-    To es ts bytes store area = Along es ts bytes (store .rows)
+    abbrev To : List Returned → List ℕ → List ℕ → Memory → Type 0
+    To es ts bytes m = Along es ts bytes (m .store .rows)
 
-    abbrev End : Verdict → Store → List ℕ → Type 0
-    End v store area = Kept rows entries (store .rows) whole × LateBy v
+    abbrev End : Verdict → Memory → Type 0
+    End v m = Kept rows entries (m .store .rows) whole × LateBy v
 
-    ends : (bytes : List ℕ) (store : Store) (area : List ℕ) → To [] [] bytes store area → End verdict.Pass store area
-    ends bytes store area k = (subst (λ (l : List Entry). Kept rows entries (store .rows) l) (k .leads) (k .kept), tt)
+    ends : (bytes : List ℕ) (m : Memory) → To [] [] bytes m → End verdict.Pass m
+    ends bytes m k = (subst (λ (l : List Entry). Kept rows entries (m .store .rows) l) (k .leads) (k .kept), tt)
 
-    completes : (e : Returned) (es : List Returned) (ts bytes : List ℕ) (store : Store) (area : List ℕ) (k : Along (e ∷ es) ts bytes (store .rows)) (v : Verdict) (w : WalkTo) (q : ReleasedTo)
-        → Together (store .rows) (k .so-far) (e .token) v (w .store .rows) q
+    completes : (e : Returned) (es : List Returned) (ts bytes : List ℕ) (m : Memory) (k : To (e ∷ es) ts bytes m) (v : Verdict) (n : Memory) (q : ReleasedTo)
+        → Together (m .store .rows) (k .so-far) (e .token) v (n .store .rows) q
         → abortedAfter (goesOn q (λ (l : List Entry). completesAll view es (drop (e .brought .given) bytes) l)) view ts ≡ whole
-        → Onward place room To End v es ts (drop (e .brought .given) bytes) (w .store) (w .area)
-    completes e es ts bytes store area k (verdict.Refused r) w q (er, eq, late) leads =
+        → Onward place z To End v es ts (drop (e .brought .given) bytes) n
+    completes e es ts bytes m k (verdict.Refused r) n q (er, eq, late) leads =
         let is : k .so-far ≡ whole = subst (λ (z : ReleasedTo). abortedAfter (goesOn z (λ (l : List Entry). completesAll view es (drop (e .brought .given) bytes) l)) view ts ≡ whole) eq leads in
-        (subst (λ (l : List Row). Kept rows entries l whole) (sym er) (subst (λ (l : List Entry). Kept rows entries (store .rows) l) is (k .kept)), late)
-    completes e es ts bytes store area k verdict.Pass w q (s, h, er, eq) leads =
+        (subst (λ (l : List Row). Kept rows entries l whole) (sym er) (subst (λ (l : List Entry). Kept rows entries (m .store .rows) l) is (k .kept)), late)
+    completes e es ts bytes m k verdict.Pass n q (s, h, er, eq) leads =
         let next : List Entry = atEntry (view (e .token) .id) release (k .so-far) in
         record {
           so-far = next;
           kept = subst (λ (l : List Row). Kept rows entries l next) (sym er)
-              (kept-on rows entries (store .rows) (k .so-far) _ next (k .kept) (release-kept (store .rows) (k .so-far) (k .kept .led) (e .token) (k .ready .0) s h));
+              (kept-on rows entries (m .store .rows) (k .so-far) _ next (k .kept) (release-kept (m .store .rows) (k .so-far) (k .kept .led) (e .token) (k .ready .0) s h));
           distinct = k .distinct .1;
           ready = subst (λ (l : List Row). AllReady l (tokensIn es ++ ts)) (sym er)
-              (ready-after (store .rows) (e .token) _ (k .ready .0) (tokensIn es ++ ts) (k .distinct .0) (k .ready .1));
+              (ready-after (m .store .rows) (e .token) _ (k .ready .0) (tokensIn es ++ ts) (k .distinct .0) (k .ready .1));
           leads = subst (λ (z : ReleasedTo). abortedAfter (goesOn z (λ (l : List Entry). completesAll view es (drop (e .brought .given) bytes) l)) view ts ≡ whole) eq leads;
         }
 
-    aborts : (t : ℕ) (ts bytes : List ℕ) (store : Store) (area : List ℕ) → To [] (t ∷ ts) bytes store area
-        → Onward place room To End (abortOne (place t) store .verdict) [] ts bytes (abortOne (place t) store .store) area
+    aborts : (t : ℕ) (ts bytes : List ℕ) (m : Memory) → To [] (t ∷ ts) bytes m
+        → Onward place z To End (abortOne (place t) (m .store) .result) [] ts bytes (memory (abortOne (place t) (m .store) .lent) (m .area))
     unfolding abortOne abortedBy changeRow abortConfirmed moved putIn _if_else_ isHeld
-    aborts t ts bytes store area k =
-        let row : Row = rowIn (store .rows) (place t) in
+    aborts t ts bytes m k =
+        let row : Row = rowIn (m .store .rows) (place t) in
         let h : deviceMayAccess (row .state) ≡ true = both (row .used) (deviceMayAccess (row .state)) (k .ready .0 .held) .1 in
         rw h (record {
           so-far = atEntry (view t .id) release (k .so-far);
-          kept = kept-on rows entries (store .rows) (k .so-far) _ _ (k .kept) (release-kept (store .rows) (k .so-far) (k .kept .led) t (k .ready .0) Aborted refl);
+          kept = kept-on rows entries (m .store .rows) (k .so-far) _ _ (k .kept) (release-kept (m .store .rows) (k .so-far) (k .kept .led) t (k .ready .0) Aborted refl);
           distinct = k .distinct .1;
-          ready = ready-after (store .rows) t (withState row Aborted) (k .ready .0) ts (k .distinct .0) (k .ready .1);
+          ready = ready-after (m .store .rows) t (withState row Aborted) (k .ready .0) ts (k .distinct .0) (k .ready .1);
           leads = k .leads;
         })
 
   -- the lemma: every list of entries keeps rows and journal in step
-  pub apply-kept : (room : ℕ) (es : List Returned) (aborted bytes : List ℕ) (store : Store) (area : List ℕ) (entries : List Entry) → Led (store .rows) entries
-      → Distinct (tokensIn es ++ aborted) → AllReady (store .rows) (tokensIn es ++ aborted)
-      → Kept (store .rows) entries (applyAll place room es aborted bytes store area .store .rows) (releasesAll view es aborted bytes entries)
-      × LateBy (applyAll place room es aborted bytes store area .verdict)
-  apply-kept room es aborted bytes store area entries k d a =
-      let whole : List Entry = releasesAll view es aborted bytes entries in
-      entries-all place room (To room (store .rows) entries whole) (End room (store .rows) entries whole) (ends room (store .rows) entries whole)
-      (λ e es ts bytes s x h.
+  pub apply-kept : (z : Size) (l : ReplyLists) (m : Memory) (entries : List Entry) → Led (m .store .rows) entries
+      → Distinct (tokensIn (readReturned (l .tokens) (l .completions)) ++ l .aborted) → AllReady (m .store .rows) (tokensIn (readReturned (l .tokens) (l .completions)) ++ l .aborted)
+      → Kept (m .store .rows) entries (applyAll z (rowsMeant place l) m .lent .store .rows) (releasesAll view l entries) × LateBy (applyAll z (rowsMeant place l) m .result)
+  apply-kept z l m entries k d a =
+      let whole : List Entry = releasesAll view l entries in
+      entries-all place z (To z (m .store .rows) entries whole) (End z (m .store .rows) entries whole) (ends z (m .store .rows) entries whole)
+      (λ e es ts bytes n h.
       let given : List ℕ = take (e .brought .given) bytes in
-      let one : WalkTo = completeOne (place (e .token)) (place (e .token) * room) room (e .brought .completion) given s x in
-      completes room (store .rows) entries whole e es ts bytes s x h (one .verdict) one
+      let one : After Verdict Memory = completeOne z (place (e .token)) (e .brought .completion) given n in
+      completes z (m .store .rows) entries whole e es ts bytes n h (one .result) (one .lent)
       (completesBy (testCompletion (e .brought .completion) (length given) (view (e .token) .requested)) (view (e .token)) (h .so-far))
-      (complete-both s (h .so-far) (e .token) (h .ready .0) (place (e .token) * room) room given x (e .brought .completion)) (h .leads))
-      (aborts room (store .rows) entries whole) es aborted bytes store area
+      (complete-both n (h .so-far) (e .token) (h .ready .0) z given (e .brought .completion)) (h .leads))
+      (aborts z (m .store .rows) entries whole) l m
       (record { so-far = entries; kept = record { led = k; ids = λ x. refl }; distinct = d; ready = a; leads = refl })

@@ -25,16 +25,17 @@ use Rattle.checks.specs.Completion.{hasError}
 use Rattle.session.specs.declared.InFlight.{InFlight}
 use Rattle.session.specs.declared.InFlight.the-variants as flight
 use Rattle.session.specs.declared.RecoveryKind.{RecoveryKind}
+use Rattle.session.specs.declared.Recovery.{Recovery}
 use Rattle.reports.specs.declared.OptionId.{OptionId}
 use Rattle.reports.specs.declared.OptionId.the-variants as option
 use Rattle.scope.specs.Affected.{isAffected}
 use Rattle.scope.specs.Returned.{Returned, readReturned}
 use Rattle.scope.specs.Scope.{isAmong}
+use Rattle.recovery.specs.RecoveryReply.{ReplyLists}
 use Rattle.recovery.specs.declared.AbortReport.{AbortReport}
-use Rattle.recovery.specs.declared.Recovery.{Recovery}
 use Rattle.recovery.specs.declared.RecoveryReply.{RecoveryReply}
 use Rattle.calls.specs.Calls.{Call, Begin, Recover, Reply, ToRecovery, Change, Reclaim, Read, HeldCount, HeldBytes}
-use Rattle.calls.specs.Step.{World, stepOf}
+use Rattle.calls.specs.Step.{World, stepOf, worldStore}
 use Rattle.calls.specs.declared.Answer.the-variants as answer
 use Rattle.runs.specs.Run.{Handed, own, Event, Answered, next, leftBy, endOf, historyOf, answerTo}
 use Rattle.history.specs.Journal.{Entry, View, entryView, blank, isOpen, isEntry, begunId, recoveryWaits, journalOf}
@@ -72,14 +73,14 @@ abbrev pub releasesOf : RequestId → List Entry → ℕ
 releasesOf x l = sumBy (only (isEntry x) (λ e. e .releases)) l
 
 abbrev pub rowsAfter : World → List Event → List Row
-rowsAfter w es = endOf w es .store .rows
+rowsAfter w es = worldStore (endOf w es) .rows
 
 abbrev pub entriesAfter : World → List Event → List Entry
 entriesAfter w es = journalOf (historyOf w es) blank .entries
 
 -- the rows that a call leaves
 abbrev pub rowsBy : World → Event → List Row
-rowsBy w e = leftBy (e .handed) (e .call) w .store .rows
+rowsBy w e = worldStore (leftBy (e .handed) (e .call) w) .rows
 
 -- a call that is handed what the calls before it left
 abbrev pub calls : Call → Event
@@ -139,11 +140,11 @@ abbrev pub Different : DeviceId → ℕ → List Row → Type 0
 Different d endpoint rows = (i j : ℕ) → i < length rows → j < length rows → isAffected d endpoint (rowIn rows i) ≡ true → isAffected d endpoint (rowIn rows j) ≡ true
     → tokenIn rows i ≡ tokenIn rows j → i ≡ j
 
-pub record Recovered (d : DeviceId) (endpoint : ℕ) (tokens words aborted : List ℕ) (rows rows′ : List Row) : Type 0 where
+pub record Recovered (d : DeviceId) (endpoint : ℕ) (l : ReplyLists) (rows rows′ : List Row) : Type 0 where
   -- every row, whole
-  pub rows-are : rows′ ≡ map (recoveredAs d endpoint (readReturned tokens words) aborted) rows
+  pub rows-are : rows′ ≡ map (recoveredAs d endpoint (readReturned (l .tokens) (l .completions)) (l .aborted)) rows
   -- the reply names each affected token
-  pub named : (i : ℕ) → i < length rows → isAffected d endpoint (rowIn rows i) ≡ true → isAmong (tokenIn rows i) (tokens ++ aborted) ≡ true
+  pub named : (i : ℕ) → i < length rows → isAffected d endpoint (rowIn rows i) ≡ true → isAmong (tokenIn rows i) (l .tokens ++ l .aborted) ≡ true
   -- so each affected request is Completed or Aborted
   pub settled : (i : ℕ) → i < length rows → isAffected d endpoint (rowIn rows i) ≡ true → isSettled (rowIn rows′ i .state) ≡ true
 
@@ -159,15 +160,19 @@ abbrev pub Spared : InFlight → List Row → List Row → Type 0
 Spared flight.Nothing rows rows′ = rows′ ≡ rows
 Spared (flight.Submission id) rows rows′ = rows′ ≡ rows
 Spared (flight.Poll id) rows rows′ = rows′ ≡ rows
-Spared (flight.Recovery target device endpoint kind) rows rows′ = Unaffected device endpoint rows rows′
+Spared (flight.Recovery x) rows rows′ = Unaffected (x .device) (x .endpoint) rows rows′
 
 -- a recovery's start
 abbrev pub starts : RecoveryKind → RequestId → Handed → Event
 starts q id h = record { call = Begin (Recover id q); handed = h }
 
 -- a recovery's reply
-abbrev pub returns : RecoveryReply → List ℕ → List ℕ → List ℕ → List ℕ → Handed → Event
-returns reply tokens words aborted bytes h = record { call = Reply (ToRecovery reply tokens words aborted bytes); handed = h }
+abbrev pub returns : RecoveryReply → ReplyLists → Handed → Event
+returns reply l h = record { call = Reply (ToRecovery reply l); handed = h }
+
+-- a report is of the operation
+abbrev pub ReportOf : InFlight → AbortReport → Type 0
+ReportOf f x = (q : RecoveryKind) × (f ≡ flight.Recovery (record { target = x .target; device = x .device; endpoint = x .endpoint; kind = q }))
 
 pub record Claim (w : World) (es : List Event) : Type 0 where
   pub agrees : (p : View → Bool) → Agrees p (rowsAfter w es) (entriesAfter w es)
@@ -184,21 +189,17 @@ pub record Claim (w : World) (es : List Event) : Type 0 where
   -- a recovery's start that opened its operation named the call's target and kind, and the device and the endpoint of the target's entry
   pub started : (before after : List Event) (h : Handed) (q : RecoveryKind) (id : RequestId) → es ≡ before ++ (starts q id h ∷ after) → (x : Recovery)
       → answerTo (endOf w before) (starts q id h) ≡ answer.Recovering x
-      → flight.Recovery (x .target) (x .device) (x .endpoint) (x .kind) ≡ recoveryWaits id q (journalOf (historyOf w before) blank) .waiting
+      → flight.Recovery x ≡ recoveryWaits id q (journalOf (historyOf w before) blank) .waiting
   -- each recovery that succeeded, ready and without an error, the affected tokens all different
-  pub recovered : (before after : List Event) (h : Handed) (reply : RecoveryReply) (tokens words aborted bytes : List ℕ)
-      → es ≡ before ++ (returns reply tokens words aborted bytes h ∷ after) → (x : AbortReport)
-      → answerTo (endOf w before) (returns reply tokens words aborted bytes h) ≡ answer.Recovered x → x .«restart_ready» ≡ true → hasError (x .error) ≡ false
+  pub recovered : (before after : List Event) (h : Handed) (reply : RecoveryReply) (l : ReplyLists) → es ≡ before ++ (returns reply l h ∷ after) → (x : AbortReport)
+      → answerTo (endOf w before) (returns reply l h) ≡ answer.Recovered x → x .«restart_ready» ≡ true → hasError (x .error) ≡ false
       → Different (x .device) (x .endpoint) (rowsAfter w before)
-      → Recovered (x .device) (x .endpoint) tokens words aborted (rowsAfter w before) (rowsBy (endOf w before) (returns reply tokens words aborted bytes h))
+      → Recovered (x .device) (x .endpoint) l (rowsAfter w before) (rowsBy (endOf w before) (returns reply l h))
   -- whatever a recovery's reply is answered, it changes no row but those that are affected by the operation that, by the history, waits
-  pub spared : (before after : List Event) (h : Handed) (reply : RecoveryReply) (tokens words aborted bytes : List ℕ)
-      → es ≡ before ++ (returns reply tokens words aborted bytes h ∷ after)
-      → Spared (journalOf (historyOf w before) blank .waiting) (rowsAfter w before) (rowsBy (endOf w before) (returns reply tokens words aborted bytes h))
+  pub spared : (before after : List Event) (h : Handed) (reply : RecoveryReply) (l : ReplyLists) → es ≡ before ++ (returns reply l h ∷ after)
+      → Spared (journalOf (historyOf w before) blank .waiting) (rowsAfter w before) (rowsBy (endOf w before) (returns reply l h))
   -- the report of any recovery is of the operation that, by the history, waited
-  pub reported : (before after : List Event) (h : Handed) (reply : RecoveryReply) (tokens words aborted bytes : List ℕ)
-      → es ≡ before ++ (returns reply tokens words aborted bytes h ∷ after) → (x : AbortReport)
-      → answerTo (endOf w before) (returns reply tokens words aborted bytes h) ≡ answer.Recovered x
-      → (q : RecoveryKind) × (journalOf (historyOf w before) blank .waiting ≡ flight.Recovery (x .target) (x .device) (x .endpoint) q)
+  pub reported : (before after : List Event) (h : Handed) (reply : RecoveryReply) (l : ReplyLists) → es ≡ before ++ (returns reply l h ∷ after) → (x : AbortReport)
+      → answerTo (endOf w before) (returns reply l h) ≡ answer.Recovered x → ReportOf (journalOf (historyOf w before) blank .waiting) x
   -- a refusal by 3 leaves whatever the call was handed as it was
   pub untouched : (c : Call) (v : World) → stepOf c v .result .answer ≡ answer.Refused (refusalOf 3) → next (stepOf c v) ≡ v

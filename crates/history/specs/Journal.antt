@@ -20,6 +20,7 @@ use Rattle.checks.specs.declared.completion.CompletionTest.the-variants as test
 use Rattle.session.specs.declared.InFlight.{InFlight}
 use Rattle.session.specs.declared.InFlight.the-variants as flight
 use Rattle.session.specs.declared.RecoveryKind.{RecoveryKind}
+use Rattle.session.specs.declared.Recovery.{Recovery}
 use Rattle.reports.specs.declared.OptionId.{OptionId}
 use Rattle.reports.specs.declared.OptionId.the-variants as option
 use Rattle.polls.specs.declared.PollReply.{PollReply}
@@ -27,6 +28,7 @@ use Rattle.polls.specs.declared.PollReply.the-variants as poll
 use Rattle.submissions.specs.declared.SubmitReply.{SubmitReply}
 use Rattle.submissions.specs.declared.SubmitReply.the-variants as submit
 use Rattle.scope.specs.Returned.{Returned, readReturned}
+use Rattle.recovery.specs.RecoveryReply.{ReplyLists}
 use Rattle.calls.specs.Calls.{Call, Open, Place, Move, Acquire, Initialize, Close, Begin, Submit, SubmitPlan, Poll, Recover, Reply, ToSubmit, ToPoll, ToRecovery, Change, Read}
 use Rattle.calls.specs.declared.Answer.{Answer}
 use Rattle.calls.specs.declared.Answer.the-variants as answer
@@ -236,7 +238,7 @@ abbrev pub atWaiting : InFlight → (Entry → Entry) → List Entry → List En
 atWaiting flight.Nothing f l = l
 atWaiting (flight.Submission id) f l = atEntry id f l
 atWaiting (flight.Poll id) f l = atEntry id f l
-atWaiting (flight.Recovery target device endpoint kind) f l = l
+atWaiting (flight.Recovery x) f l = l
 
 abbrev pub endedWith : (Entry → Entry) → Journal → Journal
 endedWith f j = record { entries = atWaiting (j .waiting) f (j .entries); waiting = flight.Nothing }
@@ -329,23 +331,25 @@ abortsAll view (t ∷ ts) es = abortsAll view ts (atEntry (view t .id) release e
 abbrev pub abortedAfter : ReleasedTo → (ℕ → View) → List ℕ → List Entry
 abortedAfter q view aborted = cond (q .refused) (q .entries) (abortsAll view aborted (q .entries))
 
-abbrev pub releasesAll : (ℕ → View) → List Returned → List ℕ → List ℕ → List Entry → List Entry
-releasesAll view rs aborted bytes es = abortedAfter (completesAll view rs bytes es) view aborted
+abbrev pub releasesAll : (ℕ → View) → ReplyLists → List Entry → List Entry
+releasesAll view l es = abortedAfter (completesAll view (readReturned (l .tokens) (l .completions)) (l .bytes) es) view (l .aborted)
 
 -- a recovery is of the device and the endpoint that its target's own entry says
+abbrev pub recoveryAs : RequestId → RecoveryKind → View → Recovery
+recoveryAs id kind v = record { target = id; device = v .device; endpoint = v .endpoint; kind = kind }
+
 abbrev pub recoveryWaits : RequestId → RecoveryKind → Journal → Journal
-recoveryWaits id kind j =
-    record { entries = j .entries; waiting = flight.Recovery id (entryOf id (j .entries) .device) (entryOf id (j .entries) .endpoint) kind }
+recoveryWaits id kind j = record { entries = j .entries; waiting = flight.Recovery (recoveryAs id kind (entryView (entryOf id (j .entries)))) }
 
-abbrev pub releasedIn : InFlight → List Returned → List ℕ → List ℕ → List Entry → List Entry
-releasedIn flight.Nothing rs aborted bytes es = es
-releasedIn (flight.Submission id) rs aborted bytes es = es
-releasedIn (flight.Poll id) rs aborted bytes es = es
-releasedIn (flight.Recovery target device endpoint kind) rs aborted bytes es = releasesAll (meantView (affectedViews device endpoint es)) rs aborted bytes es
+abbrev pub releasedIn : InFlight → ReplyLists → List Entry → List Entry
+releasedIn flight.Nothing l es = es
+releasedIn (flight.Submission id) l es = es
+releasedIn (flight.Poll id) l es = es
+releasedIn (flight.Recovery x) l es = releasesAll (meantView (affectedViews (x .device) (x .endpoint) es)) l es
 
-abbrev pub recoveredJournal : Answer → List Returned → List ℕ → List ℕ → Journal → Journal
-recoveredJournal a rs aborted bytes j =
-    cond (endsBy a) (record { entries = cond (countsBy a) (releasedIn (j .waiting) rs aborted bytes (j .entries)) (j .entries); waiting = flight.Nothing }) j
+abbrev pub recoveredJournal : Answer → ReplyLists → Journal → Journal
+recoveredJournal a l j =
+    cond (endsBy a) (record { entries = cond (countsBy a) (releasedIn (j .waiting) l (j .entries)) (j .entries); waiting = flight.Nothing }) j
 
 -- a close that passes adds a release to each entry without
 abbrev pub releasedAll : Journal → Journal
@@ -357,14 +361,14 @@ journalStep (Place p) a j = j
 journalStep (Move (Acquire reply)) a j = j
 journalStep (Move (Initialize reply)) a j = j
 journalStep (Move (Close fresh reply)) a j = cond (isPass a) (releasedAll j) j
-journalStep (Begin (Submit q bytes packed packets first second)) a j = begunBy (begunId a) (q .device) (q .endpoint) (q .length) j
+journalStep (Begin (Submit packets q)) a j = begunBy (begunId a) (q .spec .device) (q .spec .endpoint) (q .spec .length) j
 -- a plan is for endpoint 0, its length that of its data stage
 journalStep (Begin (SubmitPlan q bytes first)) a j = begunBy (begunId a) (q .device) 0 (stageOf (q .«data_stage») (q .setup .«request_type») .length) j
 journalStep (Begin (Poll id)) a j = cond (isAsked a) (pollWaits id j) j
 journalStep (Begin (Recover id kind)) a j = cond (isRecovering a) (recoveryWaits id kind j) j
 journalStep (Reply (ToSubmit reply)) a j = cond (endsBy a) (endedWith (acceptedAs reply) j) j
 journalStep (Reply (ToPoll reply bytes)) a j = cond (endsBy a) (polledBy reply (length bytes) j) j
-journalStep (Reply (ToRecovery reply tokens words aborted bytes)) a j = recoveredJournal a (readReturned tokens words) aborted bytes j
+journalStep (Reply (ToRecovery reply lists)) a j = recoveredJournal a lists j
 journalStep (Change id c) a j = j
 journalStep (Read r) a j = j
 

@@ -1,8 +1,10 @@
 -- Document 01's examples of a recovery's reply, computed. Assumes nothing.
-use Prim.Native.Nat.{ℕ}
+use Prim.Native.Nat.{ℕ, _*_}
 use mathlib.Core.Bool.{Bool, true, false}
 use mathlib.Core.List.{List, [], _∷_, map}
 use mathlib.Core.Path.{_≡_, refl}
+use lib.ListN.{replicate}
+use Rattle.chain.specs.After.{After}
 use Rattle.words.specs.declared.OptionU64.the-variants as u64
 use Rattle.models.specs.declared.ControllerState.{ControllerState}
 use Rattle.models.specs.declared.ControllerState.the-variants.{Initialized, RecoveryRequired}
@@ -16,22 +18,25 @@ use Rattle.models.specs.declared.RequestState.{RequestState}
 use Rattle.models.specs.declared.RequestState.the-variants.{Pending, Aborted}
 use Rattle.models.specs.declared.TransferType.the-variants as transfer
 use Rattle.rows.specs.Store.{Store, putIn}
-use Rattle.rows.specs.Table.{isHeld}
+use Rattle.rows.specs.Table.{rowWords, isHeld}
 use Rattle.rows.specs.declared.Row.{Row}
 use Rattle.rules.specs.Rules.{changeRow, abortConfirmed, moved}
 use Rattle.models.specs.Requests.{requestBefore}
 use Rattle.chain.specs.Chain.{_if_else_}
+use Rattle.session.specs.Lent.{Memory, memory}
 use Rattle.session.specs.Session.{raised, marked}
+use Rattle.session.specs.Sizes.{rowsFit, areaFits}
 use Rattle.session.specs.declared.InFlight.the-variants as flight
 use Rattle.session.specs.declared.OptionStall.the-variants as stall
 use Rattle.session.specs.declared.RecoveryKind.the-variants as kind
 use Rattle.session.specs.declared.Session.{Session}
 use Rattle.scope.specs.Affected.{isAffected, joined, affectedOf}
 use Rattle.scope.specs.Scope.{inScope}
-use Rattle.scope.specs.Returned.{readReturned, listsAgree}
-use Rattle.recovery.specs.Entries.{abortedBy, abortOne}
-use Rattle.recovery.specs.Reply.{RecoveredTo, resetBy, sessionAfter, abortsAfter, applyAll, concludedBy, scopedOf, doneOf, replyBy, replySized, replyIn, recoveryReplyOf}
+use Rattle.scope.specs.Returned.{listsAgree}
+use Rattle.recovery.specs.Entries.{abortedBy, abortOne, readEntries, applyAll}
+use Rattle.recovery.specs.RecoveryReply.{replyLists, resetBy, sessionAfter, concludedBy, settledOf, doneOf, replyBy, replySized, replyIn, recoveryReplyOf}
 use Rattle.recovery.specs.declared.Outcome.{Outcome}
+use Rattle.recovery.specs.declared.Recovered.{Recovered}
 use Rattle.recovery.specs.declared.RecoveryAnswer.{RecoveryAnswer}
 use Rattle.recovery.specs.declared.RecoveryAnswer.the-variants as answer
 use Rattle.recovery.specs.declared.RecoveryReply.the-variants as reply
@@ -69,13 +74,12 @@ session = record {
   state = Initialized;
   «recovery_revision» = u64.Some 0;
   «recoverable_stall» = stall.None;
-  «in_flight» = flight.Recovery (id 1) camera 129 kind.Abort;
-  «row_count» = 2;
-  «row_bytes» = 8;
+  «in_flight» = flight.Recovery (record { target = id 1; device = camera; endpoint = 129; kind = kind.Abort });
+  size = record { «row_count» = 2; «row_bytes» = 8 };
 }
 
 abbrev store : List Row → Store
-store rows = record { words = []; rows = rows }
+store rows = record { words = replicate (2 * rowWords) 0; rows = rows }
 
 abbrev outcome : Bool → Outcome
 outcome ready = record { «restart_ready» = ready; error = error.None }
@@ -93,12 +97,12 @@ abbrev numberOf : RecoveryAnswer → ℕ
 numberOf (answer.Refused r) = r .number
 numberOf (answer.Report x) = 0
 
-abbrev seenOf : RecoveredTo → Seen
-seenOf o = seen (numberOf (o .result .answer)) (o .result .session .state) (map (λ (r : Row). r .state) (o .store .rows))
+abbrev seenOf : After Recovered Memory → Seen
+seenOf o = seen (numberOf (o .result .answer)) (o .result .session .state) (map (λ (r : Row). r .state) (o .lent .store .rows))
 
 -- after the reply `aborted`, ready or not
 abbrev after : Bool → List ℕ → List Row → Seen
-after ready aborted rows = seenOf (recoveryReplyOf session true (reply.Done (outcome ready)) [] [] aborted [] (store rows) [])
+after ready aborted rows = seenOf (recoveryReplyOf (reply.Done (outcome ready)) (replyLists [] [] aborted []) session (memory (store rows) (replicate 16 0)))
 
 abbrev pending : RequestState
 pending = Pending false false
@@ -108,5 +112,5 @@ pending = Pending false false
 pub starred-shown :
     (after true (7 ∷ []) (row 2 9 ∷ row 1 7 ∷ []) ∷ after false (7 ∷ []) (row 2 9 ∷ row 1 7 ∷ []) ∷ after true (7 ∷ []) (row 2 7 ∷ row 1 7 ∷ []) ∷ [])
     ≡ (seen 46 RecoveryRequired (pending ∷ pending ∷ []) ∷ seen 0 RecoveryRequired (pending ∷ Aborted ∷ []) ∷ seen 0 Initialized (pending ∷ Aborted ∷ []) ∷ [])
-unfolding recoveryReplyOf replyIn replySized replyBy doneOf scopedOf concludedBy sessionAfter resetBy applyAll abortsAfter listsAgree readReturned inScope affectedOf joined isAffected isHeld requestBefore marked raised _if_else_ abortOne abortedBy changeRow abortConfirmed moved putIn
+unfolding recoveryReplyOf replyIn replySized rowsFit areaFits replyBy doneOf settledOf concludedBy sessionAfter resetBy applyAll listsAgree readEntries inScope affectedOf joined isAffected isHeld requestBefore marked raised _if_else_ abortOne abortedBy changeRow abortConfirmed moved putIn
 starred-shown = refl

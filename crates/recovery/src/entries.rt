@@ -11,18 +11,16 @@ use scope::tokens;
 use session::Size;
 use words::slices;
 ghost use mathlib.Core.Path.{_≡_};
-ghost use mathlib.Core.Bool.{true};
-ghost use Prim.Native.Nat.{_+_, _*_, _<_, _≤_};
+ghost use Prim.Native.Nat.{_<_, _≤_};
 ghost use mathlib.Core.List.{map};
 ghost use lib.ListN.{length, take};
 ghost use Rattle.chain.specs.After.{after};
 ghost use Rattle.chain.specs.Lists.{listed};
 ghost use Rattle.rows.specs.Table.{readRows};
 ghost use Rattle.scope.specs.Scope.{meant};
-ghost use Rattle.scope.specs.Returned.{listsAgree};
 ghost use Rattle.session.specs.Lent.{storeIn, storeOut, memoryIn, memoryOut};
 ghost use Rattle.recovery.specs.Entries.{rowCompletedBy, completeOne, abortOne, readEntries, completeAll, abortAll};
-ghost use Rattle.recovery.specs.Places.{Below, Places};
+ghost use Rattle.recovery.specs.Places.{Below, Fit, Places, Agree};
 
 // The one place where a completion changes rows and area. 41: the row is Failed.
 fn complete_row(
@@ -33,7 +31,7 @@ fn complete_row(
     i: usize,
     bytes: &[u8],
 ) -> Verdict
-    requires { ⌜ (i < length (readRows (now rows))) × (i * size .«row_bytes» + size .«row_bytes» ≤ length (now area)) ⌝ }
+    requires { ⌜ Fit size (now rows) (now area) × (i < length (readRows (now rows))) ⌝ }
     ensures { λ r. ⌜ after r (memoryOut rows area)
         ≡ rowCompletedBy step size i (now (bytes .entry)) (memoryIn rows area) ⌝ }
 {
@@ -57,7 +55,7 @@ fn complete_one(
     completion: BackendCompletion,
     bytes: &[u8],
 ) -> Verdict
-    requires { ⌜ (i < length (readRows (now rows))) × (i * size .«row_bytes» + size .«row_bytes» ≤ length (now area)) ⌝ }
+    requires { ⌜ Fit size (now rows) (now area) × (i < length (readRows (now rows))) ⌝ }
     ensures { λ r. ⌜ after r (memoryOut rows area)
         ≡ completeOne size i completion (now (bytes .entry)) (memoryIn rows area) ⌝ }
 {
@@ -113,7 +111,7 @@ fn complete_next(
     brought: Brought,
     left: &[u8],
 ) -> Verdict
-    requires { ⌜ (i < length (readRows (now rows))) × (i * size .«row_bytes» + size .«row_bytes» ≤ length (now area)) × (brought .given ≤ length (now left)) ⌝ }
+    requires { ⌜ Fit size (now rows) (now area) × (i < length (readRows (now rows))) × (brought .given ≤ length (now left)) ⌝ }
     ensures { λ r. ⌜ after r (memoryOut rows area)
         ≡ completeOne size i (brought .completion) (take (brought .given) (now (left .entry))) (memoryIn rows area) ⌝ }
 {
@@ -131,9 +129,10 @@ pub(crate) fn complete_all(
     completions: &[u64],
     bytes: &[u8],
 ) -> Verdict
-    requires { ⌜ Places size (now rows) (now area) (now places) × (listsAgree (length (now places)) (now completions) (length (now bytes)) ≡ true) ⌝ }
+    requires { ⌜ Places size (now rows) (now area) (now places) × Agree (now places) (now completions) (now bytes) ⌝ }
     ensures { λ r. ⌜ after r (memoryOut rows area)
-        ≡ completeAll size (readEntries (now (places .entry)) (now (completions .entry))) (now (bytes .entry)) (memoryIn rows area) ⌝ }
+        ≡ completeAll size (readEntries (now (places .entry)) (now (completions .entry))) (now (bytes .entry))
+        (memoryIn rows area) ⌝ }
 {
     let n = places.len();
     let mut at = 0;

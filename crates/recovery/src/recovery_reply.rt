@@ -27,18 +27,15 @@ use session::sizes;
 use words::OptionU64;
 use words::slices;
 ghost use mathlib.Core.Path.{_≡_};
-ghost use mathlib.Core.Bool.{true};
 ghost use Prim.Native.Nat.{_+_, _≤_};
 ghost use lib.ListN.{length};
 ghost use Rattle.chain.specs.After.{after};
 ghost use Rattle.chain.specs.Lists.{listed};
 ghost use Rattle.models.specs.Refusals.{refusalOf};
 ghost use Rattle.scope.specs.Scope.{meant};
-ghost use Rattle.scope.specs.Returned.{listsAgree};
 ghost use Rattle.session.specs.Lent.{rowsIn, memoryIn, memoryOut};
-ghost use Rattle.session.specs.Sizes.{memorySizes};
 ghost use Rattle.recovery.specs.Entries.{rowListsIn, applyAll};
-ghost use Rattle.recovery.specs.Places.{Below, Places};
+ghost use Rattle.recovery.specs.Places.{Below, Fit, Places, Agree};
 ghost use Rattle.recovery.specs.declared.RecoveryReply.the-variants as RecoveryReply;
 ghost use Rattle.recovery.specs.Reports.{noId, idsOf, idLists};
 ghost use Rattle.recovery.specs.RecoveryReply.{listsIn, rowsMeant, recoveryRefused, isWhole, isRevision, matching, restoredBy, resetBy, sessionAfter, refusedAfter, abortReport, concludedBy, settledOf, doneOf, replyBy, replySized, recoveryReplyOf};
@@ -218,7 +215,7 @@ fn apply_all(
     bytes: &[u8],
 ) -> Verdict
     requires { ⌜ Places size (now rows) (now area) (now completed) × Below (now rows) (now aborted)
-        × (listsAgree (length (now completed)) (now completions) (length (now bytes)) ≡ true) ⌝ }
+        × Agree (now completed) (now completions) (now bytes) ⌝ }
     ensures { λ r. ⌜ after r (memoryOut rows area)
         ≡ applyAll size (rowListsIn completed completions aborted bytes) (memoryIn rows area) ⌝ }
 {
@@ -261,7 +258,7 @@ fn settle(
     bytes: &[u8],
 ) -> Recovered
     requires { ⌜ Places (ended .idle .size) (now rows) (now area) (now completed) × Below (now rows) (now aborted)
-        × (listsAgree (length (now completed)) (now completions) (length (now bytes)) ≡ true) ⌝ }
+        × Agree (now completed) (now completions) (now bytes) ⌝ }
     ensures { λ r. ⌜ after r (memoryOut rows area)
         ≡ settledOf ended (rowListsIn completed completions aborted bytes) (memoryIn rows area) ⌝ }
 {
@@ -285,11 +282,11 @@ fn reply_scoped(
     aborted: &[u64],
     bytes: &[u8],
 ) -> Recovered
-    requires { ⌜ Places (ended .idle .size) (now rows) (now area) (now affected)
-        × (listsAgree (length (now tokens)) (now completions) (length (now bytes)) ≡ true) × (length (now tokens) + length (now aborted) ≤ 128) ⌝ }
+    requires { ⌜ Places (ended .idle .size) (now rows) (now area) (now affected) × Agree (now tokens) (now completions) (now bytes)
+        × (length (now tokens) + length (now aborted) ≤ 128) ⌝ }
     ensures { λ r. ⌜ after r (memoryOut rows area)
-        ≡ settledOf ended (rowsMeant (meant (now (affected .entry)) (now (own .entry))) (listsIn tokens completions aborted bytes))
-        (memoryIn rows area) ⌝ }
+        ≡ settledOf ended (rowsMeant (meant (now (affected .entry)) (now (own .entry)))
+        (listsIn tokens completions aborted bytes)) (memoryIn rows area) ⌝ }
 {
     let done = entries::places_of(affected, own, tokens);
     let gone = entries::places_of(affected, own, aborted);
@@ -318,10 +315,11 @@ fn reply_affected(
     aborted: &[u64],
     bytes: &[u8],
 ) -> Recovered
-    requires { ⌜ Places (ended .idle .size) (now rows) (now area) (now affected)
-        × (listsAgree (length (now tokens)) (now completions) (length (now bytes)) ≡ true) × (length (now own) ≤ 128) ⌝ }
+    requires { ⌜ Places (ended .idle .size) (now rows) (now area) (now affected) × Agree (now tokens) (now completions) (now bytes)
+        × (length (now own) ≤ 128) ⌝ }
     ensures { λ r. ⌜ after r (memoryOut rows area)
-        ≡ doneOf ended (now (affected .entry)) (now (own .entry)) (listsIn tokens completions aborted bytes) (memoryIn rows area) ⌝ }
+        ≡ doneOf ended (now (affected .entry)) (now (own .entry)) (listsIn tokens completions aborted bytes)
+        (memoryIn rows area) ⌝ }
 {
     let idle = ended.idle;
     let outcome = ended.outcome;
@@ -352,11 +350,10 @@ fn reply_done(
     aborted: &[u64],
     bytes: &[u8],
 ) -> Recovered
-    requires { ⌜ (memorySizes (ended .idle .size) (length (now rows)) (length (now area)) ≡ true)
-        × (listsAgree (length (now tokens)) (now completions) (length (now bytes)) ≡ true) ⌝ }
+    requires { ⌜ Fit (ended .idle .size) (now rows) (now area) × Agree (now tokens) (now completions) (now bytes) ⌝ }
     ensures { λ r. ⌜ after r (memoryOut rows area)
-        ≡ replyBy (RecoveryReply.Done (ended .outcome)) (ended .recovery) (listsIn tokens completions aborted bytes) (ended .idle)
-        (memoryIn rows area) ⌝ }
+        ≡ replyBy (RecoveryReply.Done (ended .outcome)) (ended .recovery) (listsIn tokens completions aborted bytes)
+        (ended .idle) (memoryIn rows area) ⌝ }
 {
     let recovery = ended.recovery;
     let device = recovery.device;
@@ -388,8 +385,7 @@ fn reply_to(
     aborted: &[u64],
     bytes: &[u8],
 ) -> Recovered
-    requires { ⌜ (memorySizes (idle .size) (length (now rows)) (length (now area)) ≡ true)
-        × (listsAgree (length (now tokens)) (now completions) (length (now bytes)) ≡ true) ⌝ }
+    requires { ⌜ Fit (idle .size) (now rows) (now area) × Agree (now tokens) (now completions) (now bytes) ⌝ }
     ensures { λ r. ⌜ after r (memoryOut rows area)
         ≡ replyBy reply recovery (listsIn tokens completions aborted bytes) idle (memoryIn rows area) ⌝ }
 {

@@ -21,7 +21,7 @@ use Rattle.runs.proofs.Ids.{at-used, at-own}
 use Rattle.runs.proofs.Rows.{one, held-less}
 use Rattle.runs.proofs.Lifecycle.{closed-bare}
 
-module _ (s : Session) (store : Store) (k : Sound s store) where
+module _ {s : Session} {store : Store} (k : Sound s store) where
   -- a submission or a poll that waits: the row that its id finds is Pending
   module _ (id : RequestId) (i : ℕ) (h : i < length (store .rows)) (hit : isAt id (rowIn (store .rows) i) ≡ true) where
     at-flight : (state : RequestState → Type 0) → InFlightAt (store .rows) id state → state (rowIn (store .rows) i .state)

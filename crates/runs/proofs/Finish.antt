@@ -118,7 +118,7 @@ abbrev pub FinishedSound : Session → Store → After Reported Memory → Type 
 FinishedSound s store o = Leads s store (o .result .session) (o .lent .store)
 
 -- the row that was polled; the controller is Initialized
-module _ (s : Session) (m : Memory) (k : Sound s (m .store)) (ready : isInitialized (s .state) ≡ true) (p : Place) (h : p .row < length (m .store .rows))
+module _ {s : Session} (m : Memory) (k : Sound s (m .store)) (ready : isInitialized (s .state) ≡ true) (p : Place) (h : p .row < length (m .store .rows))
     (u : rowIn (m .store .rows) (p .row) .used ≡ true) (bytes : List ℕ) where
   abbrev idle : Session
   idle = withFlight s flight.Nothing
@@ -129,21 +129,22 @@ module _ (s : Session) (m : Memory) (k : Sound s (m .store)) (ready : isInitiali
   settled-sound : (n : Step) (j : Judgement) → Moves s (j .session) → Idle (j .session)
       → StepCertain row n ⊎ (StepSound row n × (isInitialized (j .session .state) ≡ false)) → FinishedSound s (m .store) (settled n j p bytes idle m)
   unfolding settled
-  settled-sound (step.Refused x) j v d c = moved-idle s (m .store) k idle (stays s) refl
-  settled-sound (step.To q x) j v d (inl c) = changed-certain s (m .store) k (p .row) h u q (c .0) (j .session) v d (c .1)
-  settled-sound (step.To q x) j v d (inr c) = changed-uncertain s (m .store) k (p .row) h u q (c .0) (j .session) v d ready (c .1)
+  settled-sound (step.Refused x) j v d c = moved-idle k idle (stays s) refl
+  settled-sound (step.To q x) j v d (inl c) = changed-certain k (p .row) h u q (c .0) (j .session) v d (c .1)
+  settled-sound (step.To q x) j v d (inr c) = changed-uncertain k (p .row) h u q (c .0) (j .session) v d ready (c .1)
 
   by-reply : (x : PollReply) → FinishedSound s (m .store) (pollReplyAt x row p bytes idle m)
   unfolding pollReplyAt
-  by-reply reply.Nothing = moved-idle s (m .store) k idle (stays s) refl
-  by-reply (reply.Error e) = moved-idle s (m .store) k (effect e idle) (moves-on s idle (effect e idle) (stays s) (effect-moves e idle)) (effect-idle e idle refl)
+  by-reply reply.Nothing = moved-idle k idle (stays s) refl
+  by-reply (reply.Error e) = moved-idle k (effect e idle) (moves-on s idle (effect e idle) (stays s) (effect-moves e idle)) (effect-idle e idle refl)
   by-reply (reply.Completion c) =
       let j = judged idle row c (length bytes) in
       let d = judged-sound idle refl row c (length bytes) in
       settled-sound (changeRow row (j .change)) j (moves-on s idle (j .session) (stays s) (d .moves)) (d .idle) (d .step)
 
-pub finish-sound : (s : Session) (m : Memory) → Sound s (m .store) → (x : PollReply) (bytes : List ℕ) → FinishedSound s (m .store) (pollReplyOf x bytes s m)
-finish-sound s m k x bytes =
-    finish-all x bytes s m (FinishedSound s (m .store)) (kept s (m .store) k) (kept s (m .store) k)
-    (λ id own i h e.
-    by-reply s m k (subst (λ (g : InFlight). FlightReady g (s .state)) own (k .ready)) (placeOf (s .size) i) h (at-used id (rowIn (m .store .rows) i) e) bytes x)
+module _ {s : Session} (m : Memory) (k : Sound s (m .store)) where
+  pub finish-sound : (x : PollReply) (bytes : List ℕ) → FinishedSound s (m .store) (pollReplyOf x bytes s m)
+  finish-sound x bytes =
+      finish-all x bytes s m (FinishedSound s (m .store)) (kept k) (kept k)
+      (λ id own i h e.
+      by-reply m k (subst (λ (g : InFlight). FlightReady g (s .state)) own (k .ready)) (placeOf (s .size) i) h (at-used id (rowIn (m .store .rows) i) e) bytes x)

@@ -6,19 +6,16 @@ use Rattle.session.specs.Session.{withFlight}
 use Rattle.session.specs.declared.InFlight.the-variants as flight
 use Rattle.session.specs.declared.Session.{Session}
 use Rattle.polls.specs.Poll.{pollOf}
-use Rattle.polls.specs.declared.Polled.{Polled}
 use Rattle.runs.specs.Sound.{Sound}
 use Rattle.runs.proofs.Moves.{stays}
 use Rattle.runs.proofs.Rows.{Leads, kept, moved}
 use Rattle.runs.proofs.Ids.{at-own, at-used}
 use Rattle.runs.proofs.Ways.{poll-all}
 
-abbrev pub PolledSound : Session → Store → Polled → Type 0
-PolledSound s store o = Leads s store (o .session) store
-
-pub poll-sound : (s : Session) (store : Store) → Sound s store → (id : RequestId) → PolledSound s store (pollOf id s store)
-poll-sound s store k id =
-    poll-all id s store (PolledSound s store) (λ x. kept s store k) (λ i. kept s store k)
-    (λ i h e p r.
-    moved s store k (withFlight s (flight.Poll id)) (stays s)
-    (record { index = i; below = h; used = at-used id (rowIn (store .rows) i) e; own = at-own id (rowIn (store .rows) i) e; state-is = p }) r)
+module _ {s : Session} {store : Store} (k : Sound s store) where
+  pub poll-sound : (id : RequestId) → Leads s store (pollOf id s store .session) store
+  poll-sound id =
+      poll-all id s store (λ o. Leads s store (o .session) store) (λ x. kept k) (λ i. kept k)
+      (λ i h e p r.
+      moved k (withFlight s (flight.Poll id)) (stays s)
+      (record { index = i; below = h; used = at-used id (rowIn (store .rows) i) e; own = at-own id (rowIn (store .rows) i) e; state-is = p }) r)

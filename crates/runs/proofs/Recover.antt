@@ -46,7 +46,6 @@ use Rattle.recovery.specs.Entries.{rowCompletedBy, testedBy, completeOne, abort
 use Rattle.recovery.specs.Recover.{recoverOf, begunAs, recoveryOf}
 use Rattle.recovery.specs.RecoveryReply.{ReplyLists, rowsMeant, ended, isWhole, isRevision, restoredBy, resetBy, sessionAfter, refusedAfter, concludedBy, settledOf, recoveryReplyOf}
 use Rattle.recovery.specs.declared.AbortReport.{AbortReport}
-use Rattle.recovery.specs.declared.Begun.{Begun}
 use Rattle.recovery.specs.declared.Ids.{Ids}
 use Rattle.recovery.specs.declared.Outcome.{Outcome}
 use Rattle.recovery.specs.declared.RecoveryReply.{RecoveryReply}
@@ -63,28 +62,26 @@ use Rattle.runs.proofs.Ids.{access-held, at-own}
 use Rattle.runs.proofs.Ways.{begin-all, recovery-all}
 use Rattle.runs.proofs.Entries.{Onward, entries-all}
 
-module _ (s : Session) (a : Store) (t : Session) (b : Store) (u : Session) (c : Store) where
+module _ {s t u : Session} {a b c : Store} where
   leads-then : Leads s a t b → Leads t b u c → Leads s a u c
   leads-then p q = record { sound = q .sound; fitted = λ z. q .fitted (p .fitted z) }
 
 -- ---- the start
-abbrev pub BegunSound : Session → Store → Begun → Type 0
-BegunSound s store o = Leads s store (o .session) store
-
-pub begin-sound : (s : Session) (store : Store) → Sound s store → (id : RequestId) (q : RecoveryKind) → BegunSound s store (recoverOf id q s store)
-unfolding begunAs
-begin-sound s store k id q =
-    begin-all id q s store (BegunSound s store) (λ n e. kept s store k) (λ i h e m. kept s store k)
-    (λ i h e a m.
-    moved s store k (withFlight s (flight.Recovery (recoveryOf id q (rowIn (store .rows) i)))) (stays s)
-    (record {
-      index = i;
-      below = h;
-      held = access-held id (rowIn (store .rows) i) e a;
-      own = at-own id (rowIn (store .rows) i) e;
-      of-device = refl;
-      of-endpoint = refl;
-    }) m)
+module _ {s : Session} {store : Store} (k : Sound s store) where
+  pub begin-sound : (id : RequestId) (q : RecoveryKind) → Leads s store (recoverOf id q s store .session) store
+  unfolding begunAs
+  begin-sound id q =
+      begin-all id q s store (λ o. Leads s store (o .session) store) (λ n e. kept k) (λ i h e m. kept k)
+      (λ i h e a m.
+      moved k (withFlight s (flight.Recovery (recoveryOf id q (rowIn (store .rows) i)))) (stays s)
+      (record {
+        index = i;
+        below = h;
+        held = access-held id (rowIn (store .rows) i) e a;
+        own = at-own id (rowIn (store .rows) i) e;
+        of-device = refl;
+        of-endpoint = refl;
+      }) m)
 
 -- ---- the entries
 module _ (place : ℕ → ℕ) where
@@ -112,16 +109,16 @@ module _ (place : ℕ → ℕ) where
       pub leads : Leads s store s store′
       pub used : AllUsed (store′ .rows) us
 
-    module _ (store : Store) (k : Sound s store) (i : ℕ) (h : i < length (store .rows)) (u : rowIn (store .rows) i .used ≡ true) (us : List ℕ)
+    module _ {store : Store} (k : Sound s store) (i : ℕ) (h : i < length (store .rows)) (u : rowIn (store .rows) i .used ≡ true) (us : List ℕ)
         (a : AllUsed (store .rows) us) where
       stays-so : Walked store store us
-      stays-so = record { leads = kept s store k; used = a }
+      stays-so = record { leads = kept k; used = a }
 
       put-so : (q : Row) → RowChange (rowIn (store .rows) i) q → one isUncertain q ≤ one isUncertain (rowIn (store .rows) i) → q .used ≡ rowIn (store .rows) i .used
           → Walked store (putIn store i q) us
       unfolding putIn
       put-so q c d e = record {
-        leads = changed-certain s store k i h u q c s (stays s) idle d;
+        leads = changed-certain k i h u q c s (stays s) idle d;
         used = used-after (store .rows) i q h (e ∙ u) us a;
       }
 
@@ -159,11 +156,11 @@ module _ (place : ℕ → ℕ) where
         entries-all place z J P (λ bytes n h. h .leads)
         (λ e es ts bytes n h.
         let one : After Verdict Memory = completeOne z (place (e .token)) (e .brought .completion) (take (e .brought .given) bytes) n in
-        on (one .result) es ts (drop (e .brought .given) bytes) n (one .lent) h (completed-one (n .store) (h .leads .sound) (place (e .token)) (h .used .0 .0) (h .used .0 .1) (tokensIn es ++ ts) (h .used .1) z
+        on (one .result) es ts (drop (e .brought .given) bytes) n (one .lent) h (completed-one (h .leads .sound) (place (e .token)) (h .used .0 .0) (h .used .0 .1) (tokensIn es ++ ts) (h .used .1) z
         (take (e .brought .given) bytes) (n .area) (e .brought .completion)))
         (λ t ts bytes n h.
-        on (abortOne (place t) (n .store) .result) [] ts bytes n (memory (abortOne (place t) (n .store) .lent) (n .area)) h (aborted-one (n .store) (h .leads .sound) (place t) (h .used .0 .0) (h .used .0 .1) ts (h .used .1)))
-        l m (record { leads = kept s (m .store) k; used = a })
+        on (abortOne (place t) (n .store) .result) [] ts bytes n (memory (abortOne (place t) (n .store) .lent) (n .area)) h (aborted-one (h .leads .sound) (place t) (h .used .0 .0) (h .used .0 .1) ts (h .used .1)))
+        l m (record { leads = kept k; used = a })
       where
         J : List Returned → List ℕ → List ℕ → Memory → Type 0
         J es ts bytes n = Walked (m .store) (n .store) (tokensIn es ++ ts)
@@ -173,16 +170,16 @@ module _ (place : ℕ → ℕ) where
 
         on : (x : Verdict) (es : List Returned) (ts bytes : List ℕ) (n n′ : Memory) {us : List ℕ} → Walked (m .store) (n .store) us
             → Walked (n .store) (n′ .store) (tokensIn es ++ ts) → Onward place z J P x es ts bytes n′
-        on (verdict.Refused r) es ts bytes n n′ h o = leads-then s (m .store) s (n .store) s (n′ .store) (h .leads) (o .leads)
-        on verdict.Pass es ts bytes n n′ h o = record { leads = leads-then s (m .store) s (n .store) s (n′ .store) (h .leads) (o .leads); used = o .used }
+        on (verdict.Refused r) es ts bytes n n′ h o = leads-then (h .leads) (o .leads)
+        on verdict.Pass es ts bytes n n′ h o = record { leads = leads-then (h .leads) (o .leads); used = o .used }
 
 -- ---- the session after the entries
-module _ (s : Session) (store : Store) (k : Sound s store) (idle : Idle s) where
+module _ {s : Session} {store : Store} (k : Sound s store) (idle : Idle s) where
   abbrev To : Session → Type 0
   To t = Leads s store t store
 
   marked-after : To (marked s)
-  marked-after = moved-idle s store k (marked s) (marked-moves s) (marked-idle s idle)
+  marked-after = moved-idle k (marked s) (marked-moves s) (marked-idle s idle)
 
   -- Initialized again: no row is Failed and not quiescent
   restored-after : count isUncertain (store .rows) ≡ 0 → (revision : OptionU64) → To (withController (withStall s stall.None) Initialized revision)
@@ -214,20 +211,20 @@ module _ (s : Session) (store : Store) (k : Sound s store) (idle : Idle s) where
 
   restored-by : (q : OptionStall) (x : Recovery) → To (restoredBy q x (not (anyIn isUncertain (store .rows))) s)
   unfolding restoredBy
-  restored-by stall.None x = moved-idle s store k (withStall s stall.None) (stays s) idle
+  restored-by stall.None x = moved-idle k (withStall s stall.None) (stays s) idle
   restored-by (stall.Some note) x =
       if-by To _ _ _
       (λ e. restored-after (none-uncertain (and3 (sameDevice (note .device) (x .device) && eqb (note .endpoint) (x .endpoint)) (not (anyIn isUncertain (store .rows))) (isRevision (s .«recovery_revision») (note .revision)) e .1)) (s .«recovery_revision»))
-      (λ e. moved-idle s store k (withStall s stall.None) (stays s) idle)
+      (λ e. moved-idle k (withStall s stall.None) (stays s) idle)
 
   reset-after : (q : RecoveryKind) (x : Recovery) → To (resetBy q x (store .rows) s)
   unfolding resetBy
-  reset-after kind.Abort x = kept s store k
+  reset-after kind.Abort x = kept k
   reset-after (kind.Reset preserve) x = restored-by (s .«recoverable_stall») x
 
   concluded-after : (y : Verdict) (x : Recovery) (o : Outcome) (report : AbortReport) (ids : Ids) → To (concludedBy y (ended s x o) report ids (store .rows) .session)
   unfolding concludedBy refusedAfter sessionAfter
-  concluded-after (verdict.Refused r) x o report ids = if-by To _ _ _ (λ e. marked-after) (λ e. kept s store k)
+  concluded-after (verdict.Refused r) x o report ids = if-by To _ _ _ (λ e. marked-after) (λ e. kept k)
   concluded-after verdict.Pass x o report ids = if-by To _ _ _ (λ e. marked-after) (λ e. reset-after (x .kind) x)
 
 -- ---- the reply
@@ -237,7 +234,7 @@ meant-used d endpoint rows t e = (
   held-used (rowIn rows (placeMeant d endpoint rows t)) (affected-is-held d endpoint rows _ (meant-affected d endpoint rows t e)),
 )
 
-module _ (s : Session) (m : Memory) (k : Sound s (m .store)) (l : ReplyLists) where
+module _ {s : Session} (m : Memory) (k : Sound s (m .store)) (l : ReplyLists) where
   abbrev RecoveredSound : After Recovered Memory → Type 0
   RecoveredSound o = Leads s (m .store) (o .result .session) (o .lent .store)
 
@@ -245,10 +242,10 @@ module _ (s : Session) (m : Memory) (k : Sound s (m .store)) (l : ReplyLists) wh
   quiet = withFlight s flight.Nothing
 
   stilled : Leads s (m .store) quiet (m .store)
-  stilled = moved-idle s (m .store) k quiet (stays s) refl
+  stilled = moved-idle k quiet (stays s) refl
 
   marks : Leads s (m .store) (marked quiet) (m .store)
-  marks = leads-then s (m .store) quiet (m .store) (marked quiet) (m .store) stilled (marked-after quiet (m .store) (stilled .sound) refl)
+  marks = leads-then stilled (marked-after (stilled .sound) refl)
 
   settled-sound : (x : Recovery) (o : Outcome) → inScope (isWhole o) (ownTokens (x .device) (x .endpoint) (m .store .rows)) (l .tokens ++ l .aborted) ≡ true
       → RecoveredSound (settledOf (ended quiet x o) (rowsMeant (placeMeant (x .device) (x .endpoint) (m .store .rows)) l) m)
@@ -260,9 +257,8 @@ module _ (s : Session) (m : Memory) (k : Sound s (m .store)) (l : ReplyLists) wh
       rw ts (scope-each (ownTokens (x .device) (x .endpoint) (m .store .rows)) (isWhole o) (l .tokens ++ l .aborted) n (Used place (m .store .rows)) (meant-used (x .device) (x .endpoint) (m .store .rows))) in
       let a = applied-all place quiet refl (quiet .size) l m (stilled .sound) used in
       let done : After Verdict Memory = applyAll (quiet .size) (rowsMeant place l) m in
-      leads-then s (m .store) quiet (m .store) _ (done .lent .store) stilled
-      (leads-then quiet (m .store) quiet (done .lent .store) _ (done .lent .store) a (concluded-after quiet (done .lent .store) (a .sound) refl (done .result) x o _ _))
+      leads-then stilled (leads-then a (concluded-after (a .sound) refl (done .result) x o _ _))
 
   pub recovery-sound : (r : RecoveryReply) → RecoveredSound (recoveryReplyOf r l s m)
   recovery-sound r =
-      recovery-all l s m RecoveredSound (kept s (m .store) k) (kept s (m .store) k) (kept s (m .store) k) (λ e. marks) marks (λ x own o n. settled-sound x o n) r
+      recovery-all l s m RecoveredSound (kept k) (kept k) (kept k) (λ e. marks) marks (λ x own o n. settled-sound x o n) r

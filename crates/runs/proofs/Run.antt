@@ -76,29 +76,30 @@ fitted-open o w n =
 abbrev LeadsTo : World → World → Type 0
 LeadsTo w v = Leads (w .session) (worldStore w) (v .session) (worldStore v)
 
-leads : (c : Call) (w : World) → SoundIn w → isOpening c ≡ false → LeadsTo w (next (stepOf c w))
-unfolding stepOf movedOf begunOf repliedOf
-leads (Open o) w k e = absurd (true≢false e)
-leads (Place p) w k e = kept (w .session) (worldStore w) k
-leads (Move (Acquire reply)) w k e = acquire-sound (w .session) (worldStore w) k reply
-leads (Move (Initialize reply)) w k e = initialize-sound (w .session) (worldStore w) k reply
-leads (Move (Close fresh reply)) w k e = close-sound (w .session) (worldStore w) k fresh reply
-leads (Begin (Submit packets q)) w k e = submit-sound (w .session) (w .lent) k packets q
-leads (Begin (SubmitPlan q bytes first)) w k e = plan-sound (w .session) (w .lent) k q bytes first
-leads (Begin (Poll id)) w k e = poll-sound (w .session) (worldStore w) k id
-leads (Begin (Recover id kind)) w k e = begin-sound (w .session) (worldStore w) k id kind
-leads (Reply (ToSubmit reply)) w k e = reply-sound (w .session) (worldStore w) k reply
-leads (Reply (ToPoll reply bytes)) w k e = finish-sound (w .session) (w .lent .memory) k reply bytes
-leads (Reply (ToRecovery reply lists)) w k e = recovery-sound (w .session) (w .lent .memory) k lists reply
-leads (Change id c) w k e = change-sound (w .session) (worldStore w) k id (changeBy c) (λ r. change-step r c)
-leads (Read r) w k e = kept (w .session) (worldStore w) k
+module _ (w : World) (k : SoundIn w) where
+  leads : (c : Call) → isOpening c ≡ false → LeadsTo w (next (stepOf c w))
+  unfolding stepOf movedOf begunOf repliedOf
+  leads (Open o) e = absurd (true≢false e)
+  leads (Place p) e = kept k
+  leads (Move (Acquire reply)) e = acquire-sound k reply
+  leads (Move (Initialize reply)) e = initialize-sound k reply
+  leads (Move (Close fresh reply)) e = close-sound k fresh reply
+  leads (Begin (Submit packets q)) e = submit-sound (w .lent) k packets q
+  leads (Begin (SubmitPlan q bytes first)) e = plan-sound (w .lent) k q bytes first
+  leads (Begin (Poll id)) e = poll-sound k id
+  leads (Begin (Recover id kind)) e = begin-sound k id kind
+  leads (Reply (ToSubmit reply)) e = reply-sound k reply
+  leads (Reply (ToPoll reply bytes)) e = finish-sound (w .lent .memory) k reply bytes
+  leads (Reply (ToRecovery reply lists)) e = recovery-sound (w .lent .memory) k lists reply
+  leads (Change id c) e = change-sound k id (changeBy c) (λ r. change-step r c)
+  leads (Read r) e = kept k
 
 pub left-leads : (h : Handed) (c : Call) (w : World) → SoundIn w → Handing h c → LeadsTo w (leftBy h c w)
-left-leads h c w k e = by-handed h c w (λ x v. LeadsTo w v) e (λ first bus area. leads c (beside bus area w) k first) (kept (w .session) (worldStore w) k)
+left-leads h c w k e = by-handed h c w (λ x v. LeadsTo w v) e (λ first bus area. leads (beside bus area w) k c first) (kept k)
 
 -- a list of calls from a sound session
 leads-on : (es : List Event) (w : World) → SoundIn w → Follows es → LeadsTo w (endOf w es)
-leads-on [] w k f = kept (w .session) (worldStore w) k
+leads-on [] w k f = kept k
 leads-on (e ∷ es) w k f =
     let a = left-leads (e .handed) (e .call) w k (f .0) in
     let b = leads-on es (leftBy (e .handed) (e .call) w) (a .sound) (f .1) in

@@ -84,21 +84,23 @@ target-ready false ports m x b =
     let z = device-no (m .device) b in
     let q = z .1 in rw q λ e. absurd (refused-no (z .0) e)
 
--- 26 to 39
+-- 39
+pub spend-all : (d : Draft) (s : Session) (m : Memory) (P : After Started Memory → Type 0) → P (after (startRefused s (refusalOf 39)) m)
+    → ((next : ℕ) → s .«next_sequence» < next → P (begun next d s m)) → P (beginOf d s m)
+unfolding beginOf spendSequence
+spend-all d s m P over go =
+    if-by
+    (λ (x : Spent).
+    P (elim x [
+      | spent.Refused r ↦ after (startRefused s r) m
+      | spent.Next next ↦ begun next d s m
+    ]))
+    _ _ _ (λ y. over) (λ y. go (s .«next_sequence» + 1) (omega arith))
+
+-- 26 to 38
 module _ (d : Draft) (s : Session) (m : Memory) (P : After Started Lent → Type 0)
     (no : (x : Refusal) (b : Bus) → P (after (startRefused s x) (lent b m)))
     (go : isInitialized (s .state) ≡ true → (next : ℕ) → s .«next_sequence» < next → (b : Bus) → P (withBus b (begun next d s m))) where
-  by-spent : isInitialized (s .state) ≡ true → (b : Bus) → P (withBus b (beginOf d s m))
-  unfolding beginOf spendSequence
-  by-spent ready b =
-      if-by
-      (λ (x : Spent).
-      P (withBus b (elim x [
-        | spent.Refused r ↦ after (startRefused s r) m
-        | spent.Next next ↦ begun next d s m
-      ])))
-      _ _ _ (λ y. no (refusalOf 39) b) (λ y. go ready (s .«next_sequence» + 1) (omega arith) b)
-
   pub target-all : (x : Readings) (b : Bus) → P (targetOf d x s (lent b m))
   unfolding targetOf targetBy
   target-all x b = by-verdict _ refl
@@ -108,7 +110,9 @@ module _ (d : Draft) (s : Session) (m : Memory) (P : After Started Lent → Type
 
       by-verdict : (v : Verdict) → seen .result ≡ v → P (targetBy v d s (lent (seen .lent) m))
       by-verdict (verdict.Refused r) e = no r _
-      by-verdict verdict.Pass e = by-spent (target-ready (isInitialized (s .state)) (s .ports) (d .metadata) x b e) _
+      by-verdict verdict.Pass e =
+          let ready = target-ready (isInitialized (s .state)) (s .ports) (d .metadata) x b e in
+          spend-all d s m (λ o. P (withBus (seen .lent) o)) (no (refusalOf 39) _) (λ next later. go ready next later _)
 
 -- 5: a row that is free, and fewer than 128 held
 pub record Room (rows : List Row) (i : ℕ) : Type 0 where

@@ -41,7 +41,7 @@ ready-full Closing e = absurd (false≢true e)
 ready-full RecoveryRequired e = absurd (false≢true e)
 
 -- a new request
-module _ (s : Session) (store : Store) (k : Sound s store) (i : ℕ) (h : i < length (store .rows)) (room : count isHeld (store .rows) < 128) (m : RequestMetadata)
+module _ {s : Session} {store : Store} (k : Sound s store) (i : ℕ) (h : i < length (store .rows)) (room : count isHeld (store .rows) < 128) (m : RequestMetadata)
     (fits : m .«requested_length» ≤ s .size .«row_bytes») (ready : isInitialized (s .state) ≡ true) (next : ℕ) (later : s .«next_sequence» < next) where
   abbrev own : Row
   own = pendingRow (newId s) m
@@ -88,29 +88,29 @@ module _ (s : Session) (store : Store) (k : Sound s store) (i : ℕ) (h : i < le
   begun-sound =
       let x = sum-set (one isHeld) (store .rows) i own emptyRow h in
       let y = sum-set (one isUncertain) (store .rows) i own emptyRow h in
-      put s store k i h own begun begun-moves (λ e. row-own) alone (omega (arith, one-more)) (omega (arith, no-more, k .uncertain))
+      put k i h own begun begun-moves (λ e. row-own) alone (omega (arith, one-more)) (omega (arith, no-more, k .uncertain))
       (λ e. omega (arith, no-more, k .certain e)) (ready-full (s .state) ready) flies ready
 
 -- a submission, and one of a plan
-module _ (s : Session) (l : Lent) (k : Sound s (l .memory .store)) where
+module _ {s : Session} (l : Lent) (k : Sound s (l .memory .store)) where
   abbrev To : Session → Lent → Type 0
   To t m = Leads s (l .memory .store) t (m .memory .store)
 
   pub submit-sound : (packets : List ℕ) (q : Request) → To (submitOf packets q s l .result .session) (submitOf packets q s l .lent)
   unfolding submittedBy
   submit-sound packets q =
-      submit-all q s l (λ o. To (o .result .session) (o .lent)) (λ x early. kept s (l .memory .store) k)
+      submit-all q s l (λ o. To (o .result .session) (o .lent)) (λ x early. kept k)
       (λ i room size.
       target-all (draft (placeOf (s .size) i) (metadataOf (q .spec)) (q .bytes)) s (l .memory)
-      (λ o. To (submittedTo o (metadataOf (q .spec)) (q .given) .result .session) (o .lent)) (λ x b. kept s (l .memory .store) k)
-      (λ ready next later b. begun-sound s (l .memory .store) k i (room .below) (room .few) (metadataOf (q .spec)) size ready next later) (q .readings) (l .bus))
+      (λ o. To (submittedTo o (metadataOf (q .spec)) (q .given) .result .session) (o .lent)) (λ x b. kept k)
+      (λ ready next later b. begun-sound k i (room .below) (room .few) (metadataOf (q .spec)) size ready next later) (q .readings) (l .bus))
       packets
 
   pub plan-sound : (q : ControlPlan) (bytes : List ℕ) (first : PortReading) → To (submitPlanOf q bytes first s l .result .session) (submitPlanOf q bytes first s l .lent)
   unfolding planStarted
   plan-sound q bytes first =
-      plan-all q bytes first s l (λ o. To (o .result .session) (o .lent)) (λ x early. kept s (l .memory .store) k)
+      plan-all q bytes first s l (λ o. To (o .result .session) (o .lent)) (λ x early. kept k)
       (λ i room size.
       target-all (draft (placeOf (s .size) i) (planOf q .metadata) bytes) s (l .memory)
-      (λ o. To (plannedTo o (planOf q) .result .session) (o .lent)) (λ x b. kept s (l .memory .store) k)
-      (λ ready next later b. begun-sound s (l .memory .store) k i (room .below) (room .few) (planOf q .metadata) size ready next later) _ (l .bus))
+      (λ o. To (plannedTo o (planOf q) .result .session) (o .lent)) (λ x b. kept k)
+      (λ ready next later b. begun-sound k i (room .below) (room .few) (planOf q .metadata) size ready next later) _ (l .bus))

@@ -1,11 +1,9 @@
 // The scope of the tokens that a reply returns: 46.
 ghost use mathlib.Core.Path.{_≡_};
-ghost use Prim.Native.Nat.{_+_, _≤_};
-ghost use lib.Dec.{leb};
-ghost use mathlib.Core.List.{_++_};
-ghost use lib.ListN.{length};
-ghost use Rattle.chain.specs.After.{after};
-ghost use Rattle.scope.specs.Scope.{slotOf, isAmong, allIn, inScope, markOf};
+ghost use Prim.Native.Nat.{_+_, _<_, _≤_};
+ghost use mathlib.Core.List.{[], _++_};
+ghost use lib.ListN.{length, getD};
+ghost use Rattle.scope.specs.Scope.{slotOf, isAmong, eachOnce, allIn, inScope};
 
 // The place of the first that has the token; as many as there are where none has it.
 pub fn slot_of(own: &[u64], token: u64) -> usize
@@ -28,15 +26,29 @@ fn contains(list: &[u64], token: u64) -> bool
     slot_of(list, token) < list.len()
 }
 
-// Marks the first of each token of the list; false at one that none has or that is marked.
-fn mark_all(own: &[u64], list: &[u64], marks: &mut [bool]) -> bool
-    requires { ⌜ length (now own) ≤ length (now marks) ⌝ }
-    ensures { λ r. ⌜ after r (now (marks .exit)) ≡ markOf (now (own .entry)) (now (list .entry)) (now (marks .entry)) ⌝ }
+// The k-th of the tokens that came back: the completed ones, then the aborted ones.
+fn returned_at(tokens: &[u64], aborted: &[u64], k: usize) -> u64
+    requires { ⌜ k < length (now tokens) + length (now aborted) ⌝ }
+    ensures { λ r. ⌜ r ≡ getD (now (tokens .entry) ++ now (aborted .entry)) k 0 ⌝ }
 {
-    let n = list.len();
+    let n = tokens.len();
+    if k < n {
+        return tokens[k];
+    }
+    aborted[k - n]
+}
+
+// Each is expected and came not before: the first that has it is marked.
+fn each_once(own: &[u64], tokens: &[u64], aborted: &[u64]) -> bool
+    requires { ⌜ (length (now own) ≤ 128) × (length (now tokens) ≤ 128) × (length (now aborted) ≤ 128) ⌝ }
+    ensures { λ r. ⌜ r ≡ eachOnce (now (own .entry)) [] (now (tokens .entry) ++ now (aborted .entry)) ⌝ }
+{
+    let n = tokens.len() + aborted.len();
+    let mut marks = [false; 128];
     let mut k = 0;
     while k < n {
-        let j = slot_of(own, list[k]);
+        let token = returned_at(tokens, aborted, k);
+        let j = slot_of(own, token);
         if j >= own.len() {
             return false;
         }
@@ -74,32 +86,25 @@ fn all_in(own: &[u64], tokens: &[u64], aborted: &[u64]) -> bool
     true
 }
 
-// As many came back as there are: since they are distinct and expected, all did.
-fn is_full(own: usize, tokens: usize, aborted: usize) -> bool
-    ensures { λ r. ⌜ r ≡ leb own (tokens + aborted) ⌝ }
-{
-    if tokens >= own {
-        return true;
-    }
-    aborted >= own - tokens
-}
-
-// Distinct, all expected, and, where the whole is asked for, all of them.
+// Distinct, all expected, and, where the whole is asked for, all of them: as many as there are, since they are distinct, or each one.
 pub fn in_scope(whole: bool, own: &[u64], tokens: &[u64], aborted: &[u64]) -> bool
     requires { ⌜ length (now own) ≤ 128 ⌝ }
     ensures { λ r. ⌜ r ≡ inScope whole (now (own .entry)) (now (tokens .entry) ++ now (aborted .entry)) ⌝ }
 {
-    let mut marks = [false; 128];
-    if !mark_all(own, tokens, &mut marks) {
+    let most = own.len();
+    if tokens.len() > most {
         return false;
     }
-    if !mark_all(own, aborted, &mut marks) {
+    if aborted.len() > most {
+        return false;
+    }
+    if !each_once(own, tokens, aborted) {
         return false;
     }
     if !whole {
         return true;
     }
-    if is_full(own.len(), tokens.len(), aborted.len()) {
+    if tokens.len() + aborted.len() >= most {
         return true;
     }
     all_in(own, tokens, aborted)

@@ -16,59 +16,61 @@ use Rattle.models.specs.declared.RequestId.{RequestId}
 use Rattle.models.specs.declared.Verdict.{Verdict}
 use Rattle.models.specs.declared.Verdict.the-variants as verdict
 use Rattle.rows.specs.Table.{emptyRow, readRows}
+use Rattle.rows.specs.Store.{Store}
 use Rattle.rows.specs.declared.Row.{Row}
 use Rattle.ledger.specs.Search.{isAt}
+use Rattle.session.specs.Lent.{storeFits}
 use Rattle.session.specs.Session.{mayRecover, withFlight}
 use Rattle.session.specs.Start.{readyOf}
 use Rattle.session.specs.declared.InFlight.the-variants as flight
+use Rattle.session.specs.declared.Recovery.{Recovery}
 use Rattle.session.specs.declared.RecoveryKind.{RecoveryKind}
 use Rattle.session.specs.declared.Session.{Session}
 use Rattle.session.proofs.start.Laws.{guard-stop, guard-on}
 use Rattle.scope.specs.Affected.{affectedOf, tokensOf}
-use Rattle.recovery.specs.Begin.{beginRefused, recoveryOf, begunAs, beginRow, recoverBy, recoverOf}
-use Rattle.recovery.specs.declared.Recovery.{Recovery}
+use Rattle.recovery.specs.Recover.{beginRefused, recoveryOf, begunAs, beginRow, recoverBy, recoverOf}
 use Rattle.recovery.specs.declared.BeginAnswer.the-variants as begin
 use Rattle.recovery.specs.declared.Begun.{Begun}
 
 pub begun-is : (s : Session) (x : Recovery) (w list tokens : List ℕ) (count : ℕ) (next : Session)
-    → next ≡ withFlight s (flight.Recovery (x .target) (x .device) (x .endpoint) (x .kind)) → take count list ≡ affectedOf (x .device) (x .endpoint) (readRows w)
+    → next ≡ withFlight s (flight.Recovery x) → take count list ≡ affectedOf (x .device) (x .endpoint) (readRows w)
     → count ≤ 128 → length list ≡ 128 → tokens ≡ listed 128 0 (tokensOf (readRows w) (take count list))
-    → _≡_ {A = Begun} (record { answer = begin.Recover x; session = next; tokens = tokens; count = count }) (begunAs s x (readRows w))
+    → _≡_ {A = Begun} (record { answer = begin.Recover x; session = next; tokens = tokens; count = count }) (begunAs x s (readRows w))
 unfolding begunAs
 begun-is s x w list tokens count next en ea h el et =
     let len : length (take count list) ≡ count = simp length-take (omega arith) in
     let e : count ≡ length (affectedOf (x .device) (x .endpoint) (readRows w)) = sym len ∙ ap length ea in
     rw (en, et, ea) (ap (λ (n : ℕ). record {
       answer = begin.Recover x;
-      session = withFlight s (flight.Recovery (x .target) (x .device) (x .endpoint) (x .kind));
+      session = withFlight s (flight.Recovery x);
       tokens = listed 128 0 (tokensOf (readRows w) (affectedOf (x .device) (x .endpoint) (readRows w)));
       count = n;
     }) e)
 
 module _ (s : Session) (r : Row) (id : RequestId) (k : RecoveryKind) (rows : List Row) (x : Begun) (b : Bool) (eb : b ≡ deviceMayAccess (r .state)) where
-  pub row-43 : not b ≡ true → x ≡ beginRefused s (refusalOf 43) → x ≡ beginRow s r id k rows
+  pub row-43 : not b ≡ true → x ≡ beginRefused s (refusalOf 43) → x ≡ beginRow id k r s rows
   unfolding beginRow
   row-43 t e = takes Begun _ _ _ _ (rw eb at t) e
 
   module _ (t : not b ≡ false) (m : Bool) (em : m ≡ mayRecover (s .state)) where
-    pub row-44 : not m ≡ true → x ≡ beginRefused s (refusalOf 44) → x ≡ beginRow s r id k rows
+    pub row-44 : not m ≡ true → x ≡ beginRefused s (refusalOf 44) → x ≡ beginRow id k r s rows
     unfolding beginRow
     row-44 n e = passes Begun _ _ _ _ (rw eb at t) (takes Begun _ _ _ _ (rw em at n) e)
 
-    pub row-on : (q : Recovery) → not m ≡ false → q ≡ recoveryOf id r k → x ≡ begunAs s q rows → x ≡ beginRow s r id k rows
+    pub row-on : (q : Recovery) → not m ≡ false → q ≡ recoveryOf id k r → x ≡ begunAs q s rows → x ≡ beginRow id k r s rows
     unfolding beginRow
     row-on q n eq e = passes Begun _ _ _ _ (rw eb at t) (passes Begun _ _ _ _ (rw em at n) (rw eq at e))
 
-module _ (s : Session) (fits : Bool) (id : RequestId) (k : RecoveryKind) (rows : List Row) (x : Begun) (v : Verdict) (ev : v ≡ readyOf s fits) where
-  pub begin-stop : (r : Refusal) → v ≡ verdict.Refused r → x ≡ beginRefused s r → x ≡ recoverOf s fits id k rows
+module _ (id : RequestId) (k : RecoveryKind) (s : Session) (store : Store) (x : Begun) (v : Verdict) (ev : v ≡ readyOf s (storeFits (s .size) store)) where
+  pub begin-stop : (r : Refusal) → v ≡ verdict.Refused r → x ≡ beginRefused s r → x ≡ recoverOf id k s store
   unfolding recoverOf
-  begin-stop r e ex = guard-stop Begun (beginRefused s) _ s fits x v ev r e ex
+  begin-stop r e ex = guard-stop Begun (beginRefused s) _ s _ x v ev r e ex
 
-  module _ (np : v ≡ verdict.Pass) (g : Found) (eg : g ≡ foundIn (isAt id) rows) where
-    pub begin-40 : g ≡ found.Nothing → x ≡ beginRefused s (refusalOf 40) → x ≡ recoverOf s fits id k rows
+  module _ (np : v ≡ verdict.Pass) (g : Found) (eg : g ≡ foundIn (isAt id) (store .rows)) where
+    pub begin-40 : g ≡ found.Nothing → x ≡ beginRefused s (refusalOf 40) → x ≡ recoverOf id k s store
     unfolding recoverOf recoverBy
-    begin-40 h e = guard-on Begun _ _ s fits x v ev np (e ∙ rw (sym eg ∙ h))
+    begin-40 h e = guard-on Begun _ _ s _ x v ev np (e ∙ rw (sym eg ∙ h))
 
-    pub begin-on : (i : ℕ) (r : Row) → g ≡ found.At i → r ≡ getD rows i emptyRow → x ≡ beginRow s r id k rows → x ≡ recoverOf s fits id k rows
+    pub begin-on : (i : ℕ) (r : Row) → g ≡ found.At i → r ≡ getD (store .rows) i emptyRow → x ≡ beginRow id k r s (store .rows) → x ≡ recoverOf id k s store
     unfolding recoverOf recoverBy
-    begin-on i r h er e = guard-on Begun _ _ s fits x v ev np (e ∙ rw (sym eg ∙ h, er))
+    begin-on i r h er e = guard-on Begun _ _ s _ x v ev np (e ∙ rw (sym eg ∙ h, er))

@@ -7,14 +7,14 @@ use native.Mathlib.Omega.{arith}
 use lib.Dec.{eqb}
 use lib.ListN.{length, take, replicate, length-take, length-map}
 use borrow.Author.Tests.{eq-eqb, ne-eqb}
+use Rattle.chain.specs.After.{After, after}
 use Rattle.chain.specs.Lists.{anyIn, listed}
-use Rattle.chain.proofs.Chain.{takes, passes, both}
+use Rattle.chain.proofs.Chain.{takes, passes, both, fits-told}
 use Rattle.words.specs.declared.OptionU64.{OptionU64}
 use Rattle.words.specs.declared.OptionU64.the-variants as u64
 use Rattle.models.specs.Refusals.{refusalOf, fromBackend}
 use Rattle.models.specs.Requests.{sameDevice}
 use Rattle.models.specs.declared.ControllerState.the-variants.{Initialized}
-use Rattle.models.specs.declared.DeviceId.{DeviceId}
 use Rattle.models.specs.declared.OperationError.{OperationError}
 use Rattle.models.specs.declared.Refusal.{Refusal}
 use Rattle.models.specs.declared.RequestId.{RequestId}
@@ -30,29 +30,32 @@ use Rattle.session.specs.declared.InFlight.the-variants as flight
 use Rattle.session.specs.declared.OptionStall.{OptionStall}
 use Rattle.session.specs.declared.OptionStall.the-variants as stall
 use Rattle.session.specs.declared.RecoverableStall.{RecoverableStall}
+use Rattle.session.specs.declared.Recovery.{Recovery}
 use Rattle.session.specs.declared.RecoveryKind.{RecoveryKind}
 use Rattle.session.specs.declared.RecoveryKind.the-variants as kind
 use Rattle.session.specs.declared.Session.{Session}
 use Rattle.scope.specs.Affected.{affectedOf, tokensOf}
-use Rattle.scope.specs.Scope.{inScope}
-use Rattle.scope.specs.Returned.{Returned, readReturned, listsAgree}
-use Rattle.recovery.specs.Entries.{walkTo, completeAll, abortTo, abortAll}
+use Rattle.scope.specs.Scope.{meant, inScope}
+use Rattle.scope.specs.Returned.{listsAgree}
+use Rattle.recovery.specs.Entries.{RowLists, rowLists, readEntries, completeAll, abortAll, applyAll}
 use Rattle.recovery.specs.Reports.{noId, idsOf, idLists}
-use Rattle.recovery.specs.Places.{Sized, Places}
+use Rattle.recovery.specs.Places.{Fit, Places}
 use Rattle.scope.proofs.affected.Laws.{affected-bounded}
 use Rattle.chain.proofs.Listed.{listed-take}
-use Rattle.session.specs.Sizes.{rowsFit, areaFits}
-use Rattle.session.proofs.sizes.Laws.{rows-of-fit, fit-area}
+use Rattle.session.specs.Lent.{Memory, memory, memoryFits}
+use Rattle.session.specs.Sizes.{rowsFit, memorySizes}
+use Rattle.session.specs.declared.Size.{Size}
+use Rattle.session.proofs.sizes.Laws.{memory-rows, rows-sized}
 use borrow.Author.Tests.{not-false}
-use Rattle.recovery.specs.Reply.{RecoveredTo, recoveredTo, recoveryRefused, isWhole, isRevision, restoredBy, resetBy, sessionAfter, refusedAfter, abortsAfter, applyAll, abortReport, concludedBy, settledOf, scopedOf, doneOf, replyBy, replySized, replyIn, recoveryReplyOf}
+use Rattle.recovery.specs.RecoveryReply.{ReplyLists, replyLists, rowsMeant, recoveryRefused, ended, isWhole, isRevision, matching, restoredBy, resetBy, sessionAfter, refusedAfter, abortReport, concludedBy, settledOf, doneOf, replyBy, replySized, replyIn, recoveryReplyOf}
 use Rattle.recovery.specs.declared.AbortReport.{AbortReport}
 use Rattle.recovery.specs.declared.Ids.{Ids}
 use Rattle.recovery.specs.declared.Outcome.{Outcome}
 use Rattle.recovery.specs.declared.Recovered.{Recovered}
-use Rattle.recovery.specs.declared.Recovery.{Recovery}
 use Rattle.recovery.specs.declared.RecoveryAnswer.the-variants as answer
 use Rattle.recovery.specs.declared.RecoveryReply.{RecoveryReply}
 use Rattle.recovery.specs.declared.RecoveryReply.the-variants as reply
+use Rattle.recovery.specs.declared.recovery_reply.Ended.{Ended}
 
 -- ---- small answers
 pub refused-is : (s : Session) (r : Refusal) (n : RequestId) → n ≡ noId
@@ -66,100 +69,99 @@ pub revision-some : (o : OptionU64) (m n : ℕ) → o ≡ u64.Some m → eqb m n
 revision-some o m n e = rw e
 
 -- ---- the session after the entries
-module _ (s : Session) (note : RecoverableStall) (d : DeviceId) (endpoint : ℕ) (certain : Bool) where
-  abbrev pub matching : Bool
-  matching = sameDevice (note .device) d && eqb (note .endpoint) endpoint && certain && isRevision (s .«recovery_revision») (note .revision)
+pub matches-is : (note : RecoverableStall) (x : Recovery) (certain : Bool) (s : Session) (a c : Bool) → a ≡ sameDevice (note .device) (x .device)
+    → c ≡ isRevision (s .«recovery_revision») (note .revision) → (a && eqb (note .endpoint) (x .endpoint) && certain && c) ≡ matching note x certain s
+matches-is note x certain s a c ea ec = rw (ea, ec)
 
-  pub matches-is : (a c : Bool) → a ≡ sameDevice (note .device) d → c ≡ isRevision (s .«recovery_revision») (note .revision)
-      → (a && eqb (note .endpoint) endpoint && certain && c) ≡ matching
-  matches-is a c ea ec = rw (ea, ec)
-
-module _ (q : OptionStall) (s : Session) (d : DeviceId) (endpoint : ℕ) (certain : Bool) (t : Session) (et : t ≡ withStall s stall.None) where
-  pub restored-none : q ≡ stall.None → t ≡ restoredBy q s d endpoint certain
+module _ (q : OptionStall) (x : Recovery) (certain : Bool) (s t : Session) (et : t ≡ withStall s stall.None) where
+  pub restored-none : q ≡ stall.None → t ≡ restoredBy q x certain s
   unfolding restoredBy
   restored-none e = et ∙ rw e
 
-  module _ (note : RecoverableStall) (e : q ≡ stall.Some note) (b : Bool) (eb : b ≡ matching s note d endpoint certain) where
-    pub restored-on : (x : Session) → b ≡ true → x ≡ withController t Initialized (s .«recovery_revision») → x ≡ restoredBy q s d endpoint certain
+  module _ (note : RecoverableStall) (e : q ≡ stall.Some note) (b : Bool) (eb : b ≡ matching note x certain s) where
+    pub restored-on : (y : Session) → b ≡ true → y ≡ withController t Initialized (s .«recovery_revision») → y ≡ restoredBy q x certain s
     unfolding restoredBy
-    restored-on x y ex = rw e (takes Session _ (matching s note d endpoint certain) _ _ (sym eb ∙ y) (rw et at ex))
+    restored-on y h ey = rw e (takes Session _ (matching note x certain s) _ _ (sym eb ∙ h) (rw et at ey))
 
-    pub restored-off : b ≡ false → t ≡ restoredBy q s d endpoint certain
+    pub restored-off : b ≡ false → t ≡ restoredBy q x certain s
     unfolding restoredBy
-    restored-off y = rw e (passes Session _ (matching s note d endpoint certain) _ _ (sym eb ∙ y) et)
+    restored-off h = rw e (passes Session _ (matching note x certain s) _ _ (sym eb ∙ h) et)
 
-module _ (k : RecoveryKind) (s : Session) (x : Recovery) (rows : List Row) where
-  pub reset-abort : k ≡ kind.Abort → s ≡ resetBy k s x rows
+module _ (k : RecoveryKind) (x : Recovery) (rows : List Row) (s : Session) where
+  pub reset-abort : k ≡ kind.Abort → s ≡ resetBy k x rows s
   unfolding resetBy
   reset-abort e = rw e
 
   pub reset-on : (preserve u : Bool) (next : Session) → k ≡ kind.Reset preserve → u ≡ anyIn isUncertain rows
-      → next ≡ restoredBy (s .«recoverable_stall») s (x .device) (x .endpoint) (not u) → next ≡ resetBy k s x rows
+      → next ≡ restoredBy (s .«recoverable_stall») x (not u) s → next ≡ resetBy k x rows s
   unfolding resetBy
   reset-on preserve u next e eu en = en ∙ rw (e, eu)
 
-module _ (idle : Session) (x : Recovery) (o : Outcome) (rows : List Row) (b : Bool) (eb : b ≡ isWhole o) (next : Session) where
-  pub after-marked : not b ≡ true → next ≡ marked idle → next ≡ sessionAfter idle x o rows
+module _ (e : Ended) (rows : List Row) (b : Bool) (eb : b ≡ isWhole (e .outcome)) (next : Session) where
+  pub after-marked : not b ≡ true → next ≡ marked (e .idle) → next ≡ sessionAfter e rows
   unfolding sessionAfter
-  after-marked t e = takes Session _ _ _ _ (ap not (sym eb) ∙ t) e
+  after-marked t en = takes Session _ _ _ _ (ap not (sym eb) ∙ t) en
 
-  pub after-on : not b ≡ false → next ≡ resetBy (x .kind) idle x rows → next ≡ sessionAfter idle x o rows
+  pub after-on : not b ≡ false → next ≡ resetBy (e .recovery .kind) (e .recovery) rows (e .idle) → next ≡ sessionAfter e rows
   unfolding sessionAfter
-  after-on t e = passes Session _ _ _ _ (ap not (sym eb) ∙ t) e
+  after-on t en = passes Session _ _ _ _ (ap not (sym eb) ∙ t) en
 
-module _ (idle : Session) (r : Refusal) where
-  pub refused-marked : (next : Session) → r .number ≡ 48 → next ≡ marked idle → next ≡ refusedAfter idle r
+module _ (r : Refusal) (idle : Session) where
+  pub refused-marked : (next : Session) → r .number ≡ 48 → next ≡ marked idle → next ≡ refusedAfter r idle
   unfolding refusedAfter
   refused-marked next t e = takes Session _ _ _ _ (eq-eqb (r .number) 48 t) e
 
-  pub refused-idle : (r .number ≡ 48 → ⊥) → idle ≡ refusedAfter idle r
+  pub refused-idle : (r .number ≡ 48 → ⊥) → idle ≡ refusedAfter r idle
   unfolding refusedAfter
   refused-idle t = passes Session _ _ _ _ (ne-eqb (r .number) 48 t) refl
 
 -- ---- the entries and the report
-pub lists-are : (rows : List Row) (place : ℕ → ℕ) (tokens aborted : List ℕ) (a b : List RequestId) → a ≡ listed 128 noId (idsOf rows place tokens)
-    → b ≡ listed 128 noId (idsOf rows place aborted) → _≡_ {A = Ids} (record { completed = a; aborted = b }) (idLists rows place tokens aborted)
-lists-are rows place tokens aborted a b ea eb = rw (ea, eb)
+pub lists-are : (rows : List Row) (completed aborted : List ℕ) (a b : List RequestId) → a ≡ listed 128 noId (idsOf rows completed)
+    → b ≡ listed 128 noId (idsOf rows aborted) → _≡_ {A = Ids} (record { completed = a; aborted = b }) (idLists rows completed aborted)
+lists-are rows completed aborted a b ea eb = rw (ea, eb)
 
-module _ (place : ℕ → ℕ) (room : ℕ) (es : List Returned) (aborted bytes : List ℕ) (store : Store) (area : List ℕ) (v : Verdict) (w₁ area₁ : List ℕ)
-    (ev : walkTo v (storeOf w₁) area₁ ≡ completeAll place room es bytes store area) where
-  pub apply-stop : (r : Refusal) → v ≡ verdict.Refused r → walkTo v (storeOf w₁) area₁ ≡ applyAll place room es aborted bytes store area
-  unfolding applyAll abortsAfter
+module _ (z : Size) (l : RowLists) (m : Memory) (v : Verdict) (w₁ area₁ : List ℕ)
+    (ev : after v (memory (storeOf w₁) area₁) ≡ completeAll z (readEntries (l .completed) (l .completions)) (l .bytes) m) where
+  pub apply-stop : (r : Refusal) → v ≡ verdict.Refused r → after v (memory (storeOf w₁) area₁) ≡ applyAll z l m
+  unfolding applyAll
   apply-stop r e = rw (← ev, e)
 
-  pub apply-on : (u : Verdict) (w₂ : List ℕ) → v ≡ verdict.Pass → abortTo u (storeOf w₂) ≡ abortAll place aborted (storeOf w₁)
-      → walkTo u (storeOf w₂) area₁ ≡ applyAll place room es aborted bytes store area
-  unfolding applyAll abortsAfter
+  pub apply-on : (u : Verdict) (w₂ : List ℕ) → v ≡ verdict.Pass → after u (storeOf w₂) ≡ abortAll (l .aborted) (storeOf w₁)
+      → after u (memory (storeOf w₂) area₁) ≡ applyAll z l m
+  unfolding applyAll
   apply-on u w₂ e eu = rw (← ev, e, ← eu)
 
-module _ (v : Verdict) (idle : Session) (x : Recovery) (o : Outcome) (report : AbortReport) (ids : Ids) (rows : List Row) where
-  pub conclude-no : (r : Refusal) (next : Session) (y : Recovered) → v ≡ verdict.Refused r → next ≡ refusedAfter idle r → y ≡ recoveryRefused next r
-      → y ≡ concludedBy v idle x o report ids rows
+module _ (v : Verdict) (e : Ended) (report : AbortReport) (ids : Ids) (rows : List Row) where
+  pub conclude-no : (r : Refusal) (next : Session) (y : Recovered) → v ≡ verdict.Refused r → next ≡ refusedAfter r (e .idle) → y ≡ recoveryRefused next r
+      → y ≡ concludedBy v e report ids rows
   unfolding concludedBy
-  conclude-no r next y e en ey = ey ∙ rw (e, en)
+  conclude-no r next y ev en ey = ey ∙ rw (ev, en)
 
-  pub conclude-on : (next : Session) → v ≡ verdict.Pass → next ≡ sessionAfter idle x o rows
-      → _≡_ {A = Recovered} (record { answer = answer.Report report; session = next; ids = ids }) (concludedBy v idle x o report ids rows)
+  pub conclude-on : (next : Session) → v ≡ verdict.Pass → next ≡ sessionAfter e rows
+      → _≡_ {A = Recovered} (record { answer = answer.Report report; session = next; ids = ids }) (concludedBy v e report ids rows)
   unfolding concludedBy
-  conclude-on next e en = rw (e, en)
+  conclude-on next ev en = rw (ev, en)
 
-pub settled-is : (idle : Session) (x : Recovery) (o : Outcome) (place : ℕ → ℕ) (tokens words aborted bytes : List ℕ) (store : Store) (area : List ℕ) (ids : Ids) (report : AbortReport)
-    (v : Verdict) (w₁ area₁ : List ℕ) (y : Recovered) → ids ≡ idLists (store .rows) place tokens aborted → report ≡ abortReport x o (length tokens) (length aborted)
-    → walkTo v (storeOf w₁) area₁ ≡ applyAll place (idle .«row_bytes») (readReturned tokens words) aborted bytes store area
-    → y ≡ concludedBy v idle x o report ids (readRows w₁)
-    → recoveredTo y (storeOf w₁) area₁ ≡ settledOf idle x o place tokens words aborted bytes store area
-unfolding storeOf
-settled-is idle x o place tokens words aborted bytes store area ids report v w₁ area₁ y ei er ev ey = rw (← ev, ey, ei, er)
+pub settled-is : (e : Ended) (l : RowLists) (m : Memory) (ids : Ids) (report : AbortReport) (v : Verdict) (w₁ area₁ : List ℕ) (y : Recovered)
+    → ids ≡ idLists (m .store .rows) (l .completed) (l .aborted) → report ≡ abortReport e (length (l .completed)) (length (l .aborted))
+    → after v (memory (storeOf w₁) area₁) ≡ applyAll (e .idle .size) l m → y ≡ concludedBy v e report ids (readRows w₁)
+    → after y (memory (storeOf w₁) area₁) ≡ settledOf e l m
+unfolding storeOf settledOf
+settled-is e l m ids report v w₁ area₁ y ei er ev ey = rw (← ev, ey, ei, er)
 
 -- ---- the affected rows, collected in the first places of a list
+fit-some : (z : Size) (w area : List ℕ) → Fit z w area → 1 ≤ length (readRows w)
+fit-some z w area f =
+    omega (arith, memory-rows z w (length area) (f .sizes), rows-sized z (length w) (both (rowsFit z (length w)) _ (f .sizes) .0) .some-rows)
+
 module _ (x : Recovery) (w list : List ℕ) (count : ℕ) (ec : take count list ≡ affectedOf (x .device) (x .endpoint) (readRows w)) (h : count ≤ 128) (el : length list ≡ 128) where
-  pub count-is : count ≡ length (affectedOf (x .device) (x .endpoint) (readRows w))
+  count-is : count ≡ length (affectedOf (x .device) (x .endpoint) (readRows w))
   count-is = let len : length (take count list) ≡ count = simp length-take (omega arith) in sym len ∙ ap length ec
 
-  pub affected-places : (area : List ℕ) (room : ℕ) → Sized w area room → Places w area room (take count list)
-  affected-places area room z = record {
-    below = record { some = z .some; inside = rw ec (affected-bounded (x .device) (x .endpoint) (readRows w)) };
-    bytes = z .bytes;
+  pub affected-places : (z : Size) (area : List ℕ) → Fit z w area → Places z w area (take count list)
+  affected-places z area f = record {
+    fit = f;
+    below = record { some = fit-some z w area f; inside = rw ec (affected-bounded (x .device) (x .endpoint) (readRows w)) };
   }
 
   module _ (own : List ℕ) (eo : own ≡ listed 128 0 (tokensOf (readRows w) (take count list))) where
@@ -169,91 +171,77 @@ module _ (x : Recovery) (w list : List ℕ) (count : ℕ) (ec : take count list 
     pub own-few : length (take count own) ≤ 128
     own-few = simp length-take (omega arith)
 
-    pub done-is : (idle : Session) (o : Outcome) (tokens words aborted bytes area : List ℕ) (y : RecoveredTo)
-        → y ≡ doneOf idle x o (take count list) (take count own) tokens words aborted bytes (storeOf w) area
-        → y ≡ replyBy (reply.Done o) idle x tokens words aborted bytes (storeOf w) area
+    pub done-is : (idle : Session) (o : Outcome) (l : ReplyLists) (area : List ℕ) (y : After Recovered Memory)
+        → y ≡ doneOf (ended idle x o) (take count list) (take count own) l (memory (storeOf w) area)
+        → y ≡ replyBy (reply.Done o) x l idle (memory (storeOf w) area)
     unfolding replyBy storeOf
-    done-is idle o tokens words aborted bytes area y ey = ey ∙ rw (own-is, ec)
+    done-is idle o l area y ey = ey ∙ rw (own-is, ec)
 
 -- ---- the scope
-module _ (idle : Session) (x : Recovery) (o : Outcome) (affected own tokens words aborted bytes : List ℕ) (store : Store) (area : List ℕ) (whole b : Bool) (ew : whole ≡ isWhole o)
-    (eb : b ≡ inScope whole own (tokens ++ aborted)) where
-  scope-is : inScope (isWhole o) own (tokens ++ aborted) ≡ b
-  scope-is = sym (eb ∙ ap (λ (z : Bool). inScope z own (tokens ++ aborted)) ew)
+module _ (e : Ended) (affected own : List ℕ) (l : ReplyLists) (m : Memory) (whole b : Bool) (ew : whole ≡ isWhole (e .outcome))
+    (eb : b ≡ inScope whole own (l .tokens ++ l .aborted)) where
+  scope-is : inScope (isWhole (e .outcome)) own (l .tokens ++ l .aborted) ≡ b
+  scope-is = sym (eb ∙ ap (λ (z : Bool). inScope z own (l .tokens ++ l .aborted)) ew)
 
-  pub scope-46 : (next : Session) (y : Recovered) → not b ≡ true → next ≡ marked idle → y ≡ recoveryRefused next (refusalOf 46)
-      → recoveredTo y store area ≡ doneOf idle x o affected own tokens words aborted bytes store area
+  pub scope-46 : (next : Session) (y : Recovered) → not b ≡ true → next ≡ marked (e .idle) → y ≡ recoveryRefused next (refusalOf 46)
+      → after y m ≡ doneOf e affected own l m
   unfolding doneOf
-  scope-46 next y t en ey = takes RecoveredTo _ _ _ _ (ap not scope-is ∙ t) (rw (ey, en))
+  scope-46 next y t en ey = takes (After Recovered Memory) _ _ _ _ (ap not scope-is ∙ t) (rw (ey, en))
 
-  pub scope-on : (y : RecoveredTo) → not b ≡ false → y ≡ scopedOf idle x o affected own tokens words aborted bytes store area
-      → y ≡ doneOf idle x o affected own tokens words aborted bytes store area
+  pub scope-on : (y : After Recovered Memory) → not b ≡ false → y ≡ settledOf e (rowsMeant (meant affected own) l) m → y ≡ doneOf e affected own l m
   unfolding doneOf
-  scope-on y t ey = passes RecoveredTo _ _ _ _ (ap not scope-is ∙ t) ey
+  scope-on y t ey = passes (After Recovered Memory) _ _ _ _ (ap not scope-is ∙ t) ey
 
 -- ---- by the reply, the sizes and what is in flight
-module _ (p : RecoveryReply) (idle : Session) (x : Recovery) (tokens words aborted bytes : List ℕ) (store : Store) (area : List ℕ) where
+module _ (p : RecoveryReply) (x : Recovery) (l : ReplyLists) (idle : Session) (m : Memory) where
   pub reply-45 : (e : OperationError) (next : Session) (r : Refusal) (y : Recovered) → p ≡ reply.Error e → next ≡ marked idle → r ≡ fromBackend 45 e → y ≡ recoveryRefused next r
-      → recoveredTo y store area ≡ replyBy p idle x tokens words aborted bytes store area
+      → after y m ≡ replyBy p x l idle m
   unfolding replyBy
   reply-45 e next r y f en er ey = rw (ey, en, er, f)
 
-  pub reply-done : (o : Outcome) (y : RecoveredTo) → p ≡ reply.Done o → y ≡ replyBy (reply.Done o) idle x tokens words aborted bytes store area
-      → y ≡ replyBy p idle x tokens words aborted bytes store area
+  pub reply-done : (o : Outcome) (y : After Recovered Memory) → p ≡ reply.Done o → y ≡ replyBy (reply.Done o) x l idle m → y ≡ replyBy p x l idle m
   reply-done o y f ey = ey ∙ rw f
 
-module _ (s : Session) (p q : Bool) (x : Recovery) (r : RecoveryReply) (tokens words aborted bytes : List ℕ) (store : Store) (area : List ℕ) (a b : Bool) (ea : a ≡ p) (eb : b ≡ q) where
-  pub sized-3 : (y : Recovered) → not (a && b) ≡ true → y ≡ recoveryRefused s (refusalOf 3)
-      → recoveredTo y store area ≡ replySized s (p && q) x r tokens words aborted bytes store area
+module _ (r : RecoveryReply) (x : Recovery) (l : ReplyLists) (s : Session) (m : Memory) (f : Bool) (ef : f ≡ memoryFits (s .size) m) where
+  pub sized-3 : (y : Recovered) → not f ≡ true → y ≡ recoveryRefused s (refusalOf 3) → after y m ≡ replySized r x l s m
   unfolding replySized
-  sized-3 y t ey = takes RecoveredTo _ _ _ _ (rw (ea, eb) at t) (rw ey)
+  sized-3 y t ey = takes (After Recovered Memory) _ _ _ _ (rw ef at t) (rw ey)
 
-  module _ (t : not (a && b) ≡ false) (g : Bool) (eg : g ≡ listsAgree tokens words (length bytes)) where
-    pub sized-49 : (y : Recovered) → not g ≡ true → y ≡ recoveryRefused s (refusalOf 49)
-        → recoveredTo y store area ≡ replySized s (p && q) x r tokens words aborted bytes store area
+  module _ (t : not f ≡ false) (g : Bool) (eg : g ≡ listsAgree (length (l .tokens)) (l .completions) (length (l .bytes))) where
+    pub sized-49 : (y : Recovered) → not g ≡ true → y ≡ recoveryRefused s (refusalOf 49) → after y m ≡ replySized r x l s m
     unfolding replySized
-    sized-49 y n ey = passes RecoveredTo _ _ _ _ (rw (ea, eb) at t) (takes RecoveredTo _ _ _ _ (rw eg at n) (rw ey))
+    sized-49 y n ey = passes (After Recovered Memory) _ _ _ _ (rw ef at t) (takes (After Recovered Memory) _ _ _ _ (rw eg at n) (rw ey))
 
-    pub sized-on : (idle : Session) (y : RecoveredTo) → not g ≡ false → idle ≡ withFlight s flight.Nothing → y ≡ replyBy r idle x tokens words aborted bytes store area
-        → y ≡ replySized s (p && q) x r tokens words aborted bytes store area
+    pub sized-on : (idle : Session) (y : After Recovered Memory) → not g ≡ false → idle ≡ withFlight s flight.Nothing → y ≡ replyBy r x l idle m → y ≡ replySized r x l s m
     unfolding replySized
-    sized-on idle y n ei ey = passes RecoveredTo _ _ _ _ (rw (ea, eb) at t) (passes RecoveredTo _ _ _ _ (rw eg at n) (rw ei at ey))
+    sized-on idle y n ei ey = passes (After Recovered Memory) _ _ _ _ (rw ef at t) (passes (After Recovered Memory) _ _ _ _ (rw eg at n) (rw ei at ey))
 
 -- what the tests of the sizes say
-pub sized-is : (s idle : Session) (w area : List ℕ) (a b : Bool) → a ≡ rowsFit (s .«row_count») (s .«row_bytes») (length w) → b ≡ areaFits (s .«row_count») (s .«row_bytes») (length area)
-    → not (a && b) ≡ false → idle ≡ withFlight s flight.Nothing → Sized w area (idle .«row_bytes»)
-sized-is s idle w area a b ea eb t ei =
-    let z = both a b (not-false (a && b) t) in
-    let na : not a ≡ false = ap not (z .0) in
-    let nb : not b ≡ false = ap not (z .1) in
-    let rows = rows-of-fit (s .«row_count») (s .«row_bytes») w a ea na in
-    let size = fit-area (s .«row_count») (s .«row_bytes») (length area) b eb nb in
-    rw ei (record { some = omega (arith, rows, size); bytes = size .4 ∙ ap (λ (n : ℕ). n * s .«row_bytes») (sym rows) })
+pub fit-is : (s idle : Session) (w area : List ℕ) (f : Bool) → f ≡ memorySizes (s .size) (length w) (length area) → not f ≡ false → idle ≡ withFlight s flight.Nothing
+    → Fit (idle .size) w area
+fit-is s idle w area f e t ei = rw ei (record { sizes = fits-told f _ e t })
 
-pub agreed-is : (tokens words : List ℕ) (n : ℕ) (g : Bool) → g ≡ listsAgree tokens words n → not g ≡ false → listsAgree tokens words n ≡ true
-agreed-is tokens words n g e t = sym e ∙ not-false g t
+pub agreed-is : (n : ℕ) (words : List ℕ) (size : ℕ) (g : Bool) → g ≡ listsAgree n words size → not g ≡ false → listsAgree n words size ≡ true
+agreed-is n words size g e t = sym e ∙ not-false g t
 
-module _ (s : Session) (fits : Bool) (r : RecoveryReply) (tokens words aborted bytes : List ℕ) (store : Store) (area : List ℕ) where
+module _ (r : RecoveryReply) (l : ReplyLists) (s : Session) (m : Memory) where
   module _ (y : Recovered) (ey : y ≡ recoveryRefused s (refusalOf 2)) where
-    refused-in : replyIn (s .«in_flight») s fits r tokens words aborted bytes store area ≡ recoveredTo (recoveryRefused s (refusalOf 2)) store area
-        → recoveredTo y store area ≡ recoveryReplyOf s fits r tokens words aborted bytes store area
+    refused-in : replyIn (s .«in_flight») r l s m ≡ after (recoveryRefused s (refusalOf 2)) m → after y m ≡ recoveryReplyOf r l s m
     unfolding recoveryReplyOf
     refused-in e = rw ey (sym e)
 
-    pub in-idle : s .«in_flight» ≡ flight.Nothing → recoveredTo y store area ≡ recoveryReplyOf s fits r tokens words aborted bytes store area
+    pub in-idle : s .«in_flight» ≡ flight.Nothing → after y m ≡ recoveryReplyOf r l s m
     unfolding recoveryReplyOf replyIn
-    in-idle e = refused-in (ap (λ (f : InFlight). replyIn f s fits r tokens words aborted bytes store area) e)
+    in-idle e = refused-in (ap (λ (f : InFlight). replyIn f r l s m) e)
 
-    pub in-submission : (id : RequestId) → s .«in_flight» ≡ flight.Submission id → recoveredTo y store area ≡ recoveryReplyOf s fits r tokens words aborted bytes store area
+    pub in-submission : (id : RequestId) → s .«in_flight» ≡ flight.Submission id → after y m ≡ recoveryReplyOf r l s m
     unfolding recoveryReplyOf replyIn
-    in-submission id e = refused-in (ap (λ (f : InFlight). replyIn f s fits r tokens words aborted bytes store area) e)
+    in-submission id e = refused-in (ap (λ (f : InFlight). replyIn f r l s m) e)
 
-    pub in-poll : (id : RequestId) → s .«in_flight» ≡ flight.Poll id → recoveredTo y store area ≡ recoveryReplyOf s fits r tokens words aborted bytes store area
+    pub in-poll : (id : RequestId) → s .«in_flight» ≡ flight.Poll id → after y m ≡ recoveryReplyOf r l s m
     unfolding recoveryReplyOf replyIn
-    in-poll id e = refused-in (ap (λ (f : InFlight). replyIn f s fits r tokens words aborted bytes store area) e)
+    in-poll id e = refused-in (ap (λ (f : InFlight). replyIn f r l s m) e)
 
-  pub in-recovery : (target : RequestId) (device : DeviceId) (endpoint : ℕ) (k : RecoveryKind) (y : RecoveredTo) → s .«in_flight» ≡ flight.Recovery target device endpoint k
-      → y ≡ replySized s fits (record { target = target; device = device; endpoint = endpoint; kind = k }) r tokens words aborted bytes store area
-      → y ≡ recoveryReplyOf s fits r tokens words aborted bytes store area
+  pub in-recovery : (x : Recovery) (y : After Recovered Memory) → s .«in_flight» ≡ flight.Recovery x → y ≡ replySized r x l s m → y ≡ recoveryReplyOf r l s m
   unfolding recoveryReplyOf replyIn
-  in-recovery target device endpoint k y e ey = ey ∙ rw e
+  in-recovery x y e ey = ey ∙ rw e

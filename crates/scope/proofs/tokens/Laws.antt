@@ -1,20 +1,18 @@
 -- Laws of the scope: where a token stands, the marks, and what they say. Assumes nothing.
 use Prim.Native.Nat.{ℕ, suc, _+_, _-_, _<_, _≤_}
 use mathlib.Core.Path.{_≡_, refl, sym, ap, _∙_}
-use mathlib.Core.Bool.{Bool, true, false, cond, not, _&&_, _||_, true≢false, false≢true, or-true, or-assoc}
+use mathlib.Core.Bool.{Bool, true, false, cond, not, _&&_, _||_, or-true, or-assoc}
 use mathlib.Core.List.{List, [], _∷_, _++_}
 use native.Mathlib.Omega.{arith}
 use native.Mathlib.Numerals.{add-one}
-use lib.Dec.{eqb, ltb, leb}
-use lib.ListN.{length, getD, drop, set, replicate, length-set, drop-of-length-le, getD-replicate, length-replicate, length-append}
-use lib.Seq.{drop-cons, getD-set-same, getD-set-other}
-use borrow.Author.Tests.{eq-eqb, ne-eqb, eqb-true, eqb-false, lt-ltb, le-ltb, ltb-true, ltb-false, leb-true, leb-false, le-leb, lt-leb, not-true, not-false}
-use Rattle.chain.specs.After.{After, after}
-use Rattle.chain.specs.Chain.{_if_else_}
+use lib.Dec.{eqb, ltb}
+use lib.ListN.{length, getD, drop, set, replicate, length-set, drop-of-length-le, getD-replicate, length-replicate, length-append, List·getD-append}
+use lib.Seq.{drop-cons, getD-set-same, getD-set-other, getD-append-add}
+use borrow.Author.Tests.{eq-eqb, ne-eqb, eqb-true, eqb-false, lt-ltb, le-ltb, ltb-true, ltb-false, not-true, not-false}
 use Rattle.chain.specs.Lists.{only, count, find}
-use Rattle.chain.proofs.Chain.{caseB, takes, passes, both, and3}
+use Rattle.chain.proofs.Chain.{caseB, both, and3}
 use Rattle.chain.proofs.Lists.{sum-eq, sum-pair, count-pos, count-most, find-on, find-here, find-hit}
-use Rattle.scope.specs.Scope.{slotOf, isAmong, eachOnce, allIn, inScope, markOf}
+use Rattle.scope.specs.Scope.{slotOf, isAmong, eachOnce, allIn, inScope}
 
 -- ---- the search for a token
 module _ (l : List ℕ) (t n k : ℕ) (e : n ≡ length l) (h : k ≤ find (eqb t) l) (lt : k < n) where
@@ -23,38 +21,6 @@ module _ (l : List ℕ) (t n k : ℕ) (e : n ≡ length l) (h : k ≤ find (eqb 
 
   pub slot-on : (t ≡ getD l k 0 → ⊥) → k + 1 ≤ find (eqb t) l
   slot-on q = find-on (eqb t) 0 l k (omega arith) h (ne-eqb t (getD l k 0) q)
-
--- ---- the marks
-abbrev Marked : Type 0
-Marked = After Bool (List Bool)
-
-abbrev pub Marking : List ℕ → List ℕ → List Bool → ℕ → List Bool → ℕ → Type 0
-Marking own l m₀ n m k = (n ≡ length l) × (k ≤ n) × (length m ≡ length m₀) × (markOf own (drop k l) m ≡ markOf own l m₀)
-
-module _ (own l : List ℕ) (m₀ : List Bool) (n : ℕ) (m : List Bool) (k j : ℕ) (e : n ≡ length l) (lt : k < n)
-    (h : markOf own (drop k l) m ≡ markOf own l m₀) (ej : j ≡ slotOf own (getD l k 0)) where
-  abbrev rest : List Bool → Marked
-  rest x = markOf own (drop (suc k) l) x
-
-  next : markOf own (getD l k 0 ∷ drop (suc k) l) m ≡ markOf own l m₀
-  next = rw (drop-cons l k 0 (omega arith)) at h
-
-  pub mark-far : length own ≤ j → after false m ≡ markOf own l m₀
-  mark-far o = takes Marked _ (not (isAmong (getD l k 0) own)) _ _ (ap not (le-ltb (slotOf own (getD l k 0)) (length own) (omega arith))) refl ∙ next
-
-  module _ (i : j < length own) where
-    found : not (isAmong (getD l k 0) own) ≡ false
-    found = ap not (lt-ltb (slotOf own (getD l k 0)) (length own) (omega arith))
-
-    pub mark-twice : getD m j false ≡ true → after false m ≡ markOf own l m₀
-    mark-twice t = passes Marked _ (not (isAmong (getD l k 0) own)) _ _ found (takes Marked _ _ _ _ (rw ej at t) refl) ∙ next
-
-    pub mark-on : getD m j false ≡ false → markOf own (drop (k + 1) l) (set m j true) ≡ markOf own l m₀
-    mark-on t = rw (add-one, ej) (passes Marked _ (not (isAmong (getD l k 0) own)) _ _ found (passes Marked _ _ _ _ (rw ej at t) refl) ∙ next)
-
-pub mark-end : (own l : List ℕ) (m₀ : List Bool) (n : ℕ) (m : List Bool) (k : ℕ) → n ≡ length l → n ≤ k → markOf own (drop k l) m ≡ markOf own l m₀
-    → after true m ≡ markOf own l m₀
-mark-end own l m₀ n m k e o h = let q : length l ≤ k = omega arith in let z : drop k l ≡ [] = drop-of-length-le l q in rw z at h
 
 -- ---- membership
 pub in-cons : (u t : ℕ) (l : List ℕ) → isAmong u (t ∷ l) ≡ (eqb u t || isAmong u l)
@@ -73,7 +39,7 @@ in-append t (x ∷ a) b = in-cons t x (a ++ b) ∙ ap (λ (z : Bool). eqb t x ||
 own-at : (own : List ℕ) (t : ℕ) → isAmong t own ≡ true → t ≡ getD own (slotOf own t) 0
 own-at own t e = eqb-true t (getD own (slotOf own t) 0) (find-hit (eqb t) own 0 (ltb-true (slotOf own t) (length own) e))
 
-pub slot-apart : (own : List ℕ) (t u : ℕ) → isAmong t own ≡ true → isAmong u own ≡ true → eqb u t ≡ false → slotOf own u ≡ slotOf own t → ⊥
+slot-apart : (own : List ℕ) (t u : ℕ) → isAmong t own ≡ true → isAmong u own ≡ true → eqb u t ≡ false → slotOf own u ≡ slotOf own t → ⊥
 slot-apart own t u a b n e = eqb-false u t n (own-at own u b ∙ ap (λ (i : ℕ). getD own i 0) e ∙ sym (own-at own t a))
 
 abbrev Marks : List ℕ → List ℕ → List Bool → Type 0
@@ -87,8 +53,12 @@ marks-on own seen m t h i k u j =
     rw (q, e, z) (getD-set-same m (slotOf own t) true false (omega (arith, ltb-true (slotOf own t) (length own) i))))
     (λ e. rw (q, e) (getD-set-other m (slotOf own t) (slotOf own u) true false (slot-apart own t u i j e) ∙ k u j))
 
-pub mark-each : (own l seen : List ℕ) (m : List Bool) → length own ≤ length m → Marks own seen m → markOf own l m .result ≡ eachOnce own seen l
-unfolding _if_else_
+-- each is expected, and its mark not set before
+abbrev markEach : List ℕ → List ℕ → List Bool → Bool
+markEach own [] m = true
+markEach own (t ∷ ts) m = isAmong t own && not (getD m (slotOf own t) false) && markEach own ts (set m (slotOf own t) true)
+
+mark-each : (own l seen : List ℕ) (m : List Bool) → length own ≤ length m → Marks own seen m → markEach own l m ≡ eachOnce own seen l
 mark-each own [] seen m h k = refl
 mark-each own (t ∷ ts) seen m h k = caseB (isAmong t own)
     (λ e. let q = k t e in rw (e, q) (caseB (isAmong t seen)
@@ -96,23 +66,45 @@ mark-each own (t ∷ ts) seen m h k = caseB (isAmong t own)
     (λ y. rw y (mark-each own ts (t ∷ seen) (set m (slotOf own t) true) (omega (arith, length-set m (slotOf own t) true)) (marks-on own seen m t h e k)))))
     (λ e. rw e)
 
-mark-append : (own a b : List ℕ) (m m₁ : List Bool) → markOf own a m ≡ after true m₁ → markOf own (a ++ b) m ≡ markOf own b m₁
-unfolding _if_else_
-mark-append own [] b m m₁ = λ e. ap (markOf own b) (ap (λ (x : Marked). x .lent) e)
-mark-append own (t ∷ a) b m m₁ = caseB (isAmong t own)
-    (λ i. rw i (caseB (getD m (slotOf own t) false)
-    (λ y. rw y λ e. let z : _≡_ {A = Bool} false true = ap (λ (x : Marked). x .result) e in absurd (false≢true z))
-    (λ y. rw y λ e. mark-append own a b (set m (slotOf own t) true) m₁ e)))
-    (λ i. rw i λ e. let z : _≡_ {A = Bool} false true = ap (λ (x : Marked). x .result) e in absurd (false≢true z))
+-- the loop over the tokens that came back
+module _ (own a b : List ℕ) where
+  abbrev pub Marking : ℕ → List Bool → ℕ → Type 0
+  Marking n m k = (n ≡ length a + length b) × (k ≤ n) × (length m ≡ 128) × (markEach own (drop k (a ++ b)) m ≡ eachOnce own [] (a ++ b))
 
-mark-stop : (own a b : List ℕ) (m : List Bool) → markOf own a m .result ≡ false → markOf own (a ++ b) m .result ≡ false
-unfolding _if_else_
-mark-stop own [] b m = λ e. absurd (true≢false e)
-mark-stop own (t ∷ a) b m = caseB (isAmong t own)
-    (λ i. rw i (caseB (getD m (slotOf own t) false)
-    (λ y. rw y λ e. refl)
-    (λ y. rw y λ e. mark-stop own a b (set m (slotOf own t) true) e)))
-    (λ i. rw i λ e. refl)
+  pub mark-start : (m : List Bool) → m ≡ replicate 128 false → length own ≤ 128 → markEach own (drop 0 (a ++ b)) m ≡ eachOnce own [] (a ++ b)
+  mark-start m e h =
+      rw e (mark-each own (a ++ b) [] (replicate 128 false) (omega (arith, length-replicate {A = Bool} 128 false))
+      (λ t i. getD-replicate 128 (slotOf own t) false false (omega (arith, ltb-true (slotOf own t) (length own) i))))
+
+  module _ (n : ℕ) (m : List Bool) (k : ℕ) (e : n ≡ length a + length b) (h : markEach own (drop k (a ++ b)) m ≡ eachOnce own [] (a ++ b)) where
+    module _ (t j : ℕ) (lt : k < n) (et : t ≡ getD (a ++ b) k 0) (ej : j ≡ slotOf own t) where
+      next : (ltb j (length own) && not (getD m j false) && markEach own (drop (suc k) (a ++ b)) (set m j true)) ≡ eachOnce own [] (a ++ b)
+      next = rw (drop-cons (a ++ b) k 0 (omega (arith, length-append a b)), ← et, ← ej) at h
+
+      pub mark-far : length own ≤ j → false ≡ eachOnce own [] (a ++ b)
+      mark-far o = rw (le-ltb j (length own) o) at next
+
+      module _ (i : j < length own) where
+        pub mark-twice : getD m j false ≡ true → false ≡ eachOnce own [] (a ++ b)
+        mark-twice y = rw (lt-ltb j (length own) i, y) at next
+
+        pub mark-on : getD m j false ≡ false → markEach own (drop (k + 1) (a ++ b)) (set m j true) ≡ eachOnce own [] (a ++ b)
+        mark-on y = rw add-one (rw (lt-ltb j (length own) i, y) at next)
+
+    pub mark-end : n ≤ k → true ≡ eachOnce own [] (a ++ b)
+    mark-end o =
+        let q : length (a ++ b) ≤ k = omega (arith, length-append a b) in
+        let z : drop k (a ++ b) ≡ [] = drop-of-length-le (a ++ b) q in
+        rw z at h
+
+module _ (a b : List ℕ) (n k : ℕ) (e : n ≡ length a) where
+  pub returned-first : k < n → getD a k 0 ≡ getD (a ++ b) k 0
+  returned-first h = sym (List·getD-append a b 0 k (omega arith))
+
+  pub returned-second : n ≤ k → getD b (k - n) 0 ≡ getD (a ++ b) k 0
+  returned-second h =
+      let z : length a + (k - n) ≡ k = omega arith in
+      sym (getD-append-add a b (k - n) 0) ∙ ap (λ (i : ℕ). getD (a ++ b) i 0) z
 
 -- ---- as many as there are: all of them
 abbrev hits : List ℕ → List ℕ → ℕ
@@ -170,43 +162,37 @@ unfolding inScope
 scope-few whole own a b c e t h = omega (arith, few-each own (a ++ b) (both (eachOnce own [] (a ++ b)) _ (sym e ∙ not-false c t) .0), length-append a b, h)
 
 -- ---- the whole check
-abbrev none : List Bool
-none = replicate 128 false
-
-module _ (whole : Bool) (own a b : List ℕ) (h : length own ≤ 128) (r₁ : Bool) (m₁ : List Bool) (e₁ : after r₁ m₁ ≡ markOf own a none) where
-  each-is : markOf own (a ++ b) none .result ≡ eachOnce own [] (a ++ b)
-  each-is = mark-each own (a ++ b) [] none (omega (arith, length-replicate {A = Bool} 128 false))
-      (λ t i. getD-replicate 128 (slotOf own t) false false (omega (arith, ltb-true (slotOf own t) (length own) i)))
-
-  pub scope-first : not r₁ ≡ true → false ≡ inScope whole own (a ++ b)
+module _ (whole : Bool) (own a b : List ℕ) where
+  too-many : length own < length a + length b → false ≡ inScope whole own (a ++ b)
   unfolding inScope
-  scope-first t =
-      let y : eachOnce own [] (a ++ b) ≡ false = sym each-is ∙ mark-stop own a b none (ap (λ (x : Marked). x .result) (sym e₁) ∙ not-true r₁ t) in
-      rw y
+  too-many h = caseB (eachOnce own [] (a ++ b)) (λ e. absurd (omega (arith, few-each own (a ++ b) e, length-append a b, h))) (λ e. rw e)
 
-  module _ (t : not r₁ ≡ false) (r₂ : Bool) (m₂ : List Bool) (e₂ : after r₂ m₂ ≡ markOf own b m₁) where
-    each-second : eachOnce own [] (a ++ b) ≡ r₂
-    each-second = sym each-is ∙ ap (λ (x : Marked). x .result) (mark-append own a b none m₁ (sym e₁ ∙ ap (λ (x : Bool). after x m₁) (not-false r₁ t)) ∙ sym e₂)
+  pub scope-first : length own < length a → false ≡ inScope whole own (a ++ b)
+  scope-first h = too-many (omega arith)
 
-    pub scope-second : not r₂ ≡ true → false ≡ inScope whole own (a ++ b)
+  pub scope-second : length own < length b → false ≡ inScope whole own (a ++ b)
+  scope-second h = too-many (omega arith)
+
+  module _ (r : Bool) (e : r ≡ eachOnce own [] (a ++ b)) where
+    pub scope-not : not r ≡ true → false ≡ inScope whole own (a ++ b)
     unfolding inScope
-    scope-second n = rw (each-second, not-true r₂ n)
+    scope-not t = rw (← e, not-true r t)
 
-    module _ (n : not r₂ ≡ false) where
+    module _ (t : not r ≡ false) where
       pub scope-some : not whole ≡ true → true ≡ inScope whole own (a ++ b)
       unfolding inScope
-      scope-some w = rw (each-second, not-false r₂ n, not-true whole w)
+      scope-some w = rw (← e, not-false r t, not-true whole w)
 
-      pub scope-full : (c : Bool) → c ≡ leb (length own) (length a + length b) → c ≡ true → true ≡ inScope whole own (a ++ b)
+      pub scope-full : length own ≤ length a + length b → true ≡ inScope whole own (a ++ b)
       unfolding inScope
-      scope-full c ec t =
-          let e : eachOnce own [] (a ++ b) ≡ true = each-second ∙ not-false r₂ n in
-          let f : allIn own (a ++ b) ≡ true = full-each own (a ++ b) e (omega (arith, leb-true (length own) (length a + length b) (sym ec ∙ t), length-append a b)) in
-          rw (e, f) (sym (or-true (not whole)))
+      scope-full h =
+          let y : eachOnce own [] (a ++ b) ≡ true = sym e ∙ not-false r t in
+          let f : allIn own (a ++ b) ≡ true = full-each own (a ++ b) y (omega (arith, length-append a b)) in
+          rw (y, f) (sym (or-true (not whole)))
 
       pub scope-whole : (x : Bool) → not whole ≡ false → x ≡ allIn own (a ++ b) → x ≡ inScope whole own (a ++ b)
       unfolding inScope
-      scope-whole x w e = rw (each-second, not-false r₂ n, not-false whole w) e
+      scope-whole x w ex = rw (← e, not-false r t, not-false whole w) ex
 
 -- ---- all of them
 abbrev pub Covering : List ℕ → List ℕ → ℕ → ℕ → Type 0
@@ -235,12 +221,3 @@ module _ (t : ℕ) (a b : List ℕ) (x : Bool) (ex : x ≡ isAmong t a) where
 
 pub in-is : (t : ℕ) (l : List ℕ) (k : ℕ) → k ≡ slotOf l t → ltb k (length l) ≡ isAmong t l
 in-is t l k e = rw e
-
-module _ (own tokens aborted : ℕ) where
-  pub full-first : own ≤ tokens → true ≡ leb own (tokens + aborted)
-  full-first h = sym (le-leb own (tokens + aborted) (omega arith))
-
-  pub full-second : tokens < own → leb (own - tokens) aborted ≡ leb own (tokens + aborted)
-  full-second h = caseB (leb (own - tokens) aborted)
-      (λ e. e ∙ sym (le-leb own (tokens + aborted) (omega (arith, leb-true (own - tokens) aborted e))))
-      (λ e. e ∙ sym (lt-leb own (tokens + aborted) (omega (arith, leb-false (own - tokens) aborted e))))

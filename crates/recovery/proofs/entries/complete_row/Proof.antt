@@ -1,5 +1,5 @@
 use borrow.Author.Needs.{needs}
-use Rattle.recovery.proofs.entries.Laws.{completed-no, completed-to}
+use Rattle.recovery.proofs.entries.Laws.{row-room, row-small, completed-no, completed-to}
 use Rattle.recovery.proofs.entries.complete_row.Statement.{statement}
 use Rattle.recovery.proofs.entries.complete_row.Tie as tie
 
@@ -10,8 +10,8 @@ complete-row-spec =
     (λ c. search needs)
     (λ c. search needs)
     (λ c κs. search needs)
-    (λ c. search needs)
-    (λ c κs. search needs)
+    (λ c. search row-small)
+    (λ c κs. search row-room)
     (λ c. search completed-no)
     (λ c. search needs)
     (λ c. search needs)

@@ -1,9 +1,9 @@
 use native.Mathlib.Omega.{arith}
 use lib.ListN.{length-take}
 use borrow.Author.Needs.{needs}
-use Rattle.recovery.proofs.begin.Laws.{begun-is}
-use Rattle.recovery.proofs.begin.begin.Statement.{statement}
-use Rattle.recovery.proofs.begin.begin.Tie as tie
+use Rattle.recovery.proofs.recover.Laws.{begun-is}
+use Rattle.recovery.proofs.recover.begin.Statement.{statement}
+use Rattle.recovery.proofs.recover.begin.Tie as tie
 
 pub begin-spec : {M : Type 1} → statement M
 begin-spec =

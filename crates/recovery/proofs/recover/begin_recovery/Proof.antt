@@ -1,10 +1,12 @@
 use borrow.Author.Needs.{needs}
-use Rattle.recovery.proofs.begin.Laws.{begin-stop, begin-40, begin-on}
+use Rattle.recovery.proofs.recover.Laws.{begin-stop, begin-40, begin-on}
+use Rattle.rows.specs.Store.{storeOf}
 use Rattle.ledger.proofs.Found.{found-in}
-use Rattle.recovery.proofs.begin.begin_recovery.Statement.{statement}
-use Rattle.recovery.proofs.begin.begin_recovery.Tie as tie
+use Rattle.recovery.proofs.recover.begin_recovery.Statement.{statement}
+use Rattle.recovery.proofs.recover.begin_recovery.Tie as tie
 
 pub begin-recovery-spec : {M : Type 1} → statement M
+unfolding storeOf
 begin-recovery-spec =
     tie.close
     (tie.spec

@@ -1,7 +1,7 @@
 use borrow.Author.Needs.{needs}
-use Rattle.recovery.proofs.begin.Laws.{row-43, row-44, row-on}
-use Rattle.recovery.proofs.begin.begin_row.Statement.{statement}
-use Rattle.recovery.proofs.begin.begin_row.Tie as tie
+use Rattle.recovery.proofs.recover.Laws.{row-43, row-44, row-on}
+use Rattle.recovery.proofs.recover.begin_row.Statement.{statement}
+use Rattle.recovery.proofs.recover.begin_row.Tie as tie
 
 pub begin-row-spec : {M : Type 1} → statement M
 begin-row-spec =

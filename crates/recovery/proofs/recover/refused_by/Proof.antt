@@ -1,6 +1,6 @@
 use borrow.Author.Needs.{needs}
-use Rattle.recovery.proofs.begin.refused_by.Statement.{statement}
-use Rattle.recovery.proofs.begin.refused_by.Tie as tie
+use Rattle.recovery.proofs.recover.refused_by.Statement.{statement}
+use Rattle.recovery.proofs.recover.refused_by.Tie as tie
 
 returns : tie.Need-returns
 returns c = rw (c .refused .ensures, c .before .refuse .ensures)

@@ -1,8 +1,8 @@
 use borrow.Author.Needs.{needs}
-use Rattle.recovery.proofs.reply.Laws.{apply-stop, apply-on}
+use Rattle.recovery.proofs.recovery_reply.Laws.{apply-stop, apply-on}
 use Rattle.recovery.proofs.entries.Laws.{below-kept}
-use Rattle.recovery.proofs.reply.apply_all.Statement.{statement}
-use Rattle.recovery.proofs.reply.apply_all.Tie as tie
+use Rattle.recovery.proofs.recovery_reply.apply_all.Statement.{statement}
+use Rattle.recovery.proofs.recovery_reply.apply_all.Tie as tie
 
 pub apply-all-spec : {M : Type 1} → statement M
 apply-all-spec =

@@ -1,7 +1,7 @@
 use borrow.Author.Needs.{needs}
-use Rattle.recovery.proofs.reply.Laws.{conclude-no, conclude-on}
-use Rattle.recovery.proofs.reply.conclude.Statement.{statement}
-use Rattle.recovery.proofs.reply.conclude.Tie as tie
+use Rattle.recovery.proofs.recovery_reply.Laws.{conclude-no, conclude-on}
+use Rattle.recovery.proofs.recovery_reply.conclude.Statement.{statement}
+use Rattle.recovery.proofs.recovery_reply.conclude.Tie as tie
 
 pub conclude-spec : {M : Type 1} → statement M
 conclude-spec =

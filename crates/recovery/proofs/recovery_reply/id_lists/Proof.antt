@@ -1,7 +1,7 @@
 use borrow.Author.Needs.{needs}
-use Rattle.recovery.proofs.reply.Laws.{lists-are}
-use Rattle.recovery.proofs.reply.id_lists.Statement.{statement}
-use Rattle.recovery.proofs.reply.id_lists.Tie as tie
+use Rattle.recovery.proofs.recovery_reply.Laws.{lists-are}
+use Rattle.recovery.proofs.recovery_reply.id_lists.Statement.{statement}
+use Rattle.recovery.proofs.recovery_reply.id_lists.Tie as tie
 
 pub id-lists-spec : {M : Type 1} → statement M
 id-lists-spec =

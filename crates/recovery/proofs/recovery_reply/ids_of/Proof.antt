@@ -3,8 +3,8 @@ use Prim.Native.Nat.{_-_}
 use Rattle.chain.proofs.Listed.{Listing, list-on, list-start, list-end}
 use Rattle.rows.specs.Table.{readRows, idIn}
 use Rattle.recovery.specs.Reports.{noId}
-use Rattle.recovery.proofs.reply.ids_of.Statement.{statement}
-use Rattle.recovery.proofs.reply.ids_of.Tie as tie
+use Rattle.recovery.proofs.recovery_reply.ids_of.Statement.{statement}
+use Rattle.recovery.proofs.recovery_reply.ids_of.Tie as tie
 
 abbrev Inv-loop : tie.InvT-loop
 Inv-loop rows places n ids₀ k₀ ids k = Listing 128 noId (idIn (readRows rows)) places n ids k

@@ -1,7 +1,7 @@
 use borrow.Author.Needs.{needs}
-use Rattle.recovery.proofs.reply.Laws.{revision-some}
-use Rattle.recovery.proofs.reply.is_revision.Statement.{statement}
-use Rattle.recovery.proofs.reply.is_revision.Tie as tie
+use Rattle.recovery.proofs.recovery_reply.Laws.{revision-some}
+use Rattle.recovery.proofs.recovery_reply.is_revision.Statement.{statement}
+use Rattle.recovery.proofs.recovery_reply.is_revision.Tie as tie
 
 pub is-revision-spec : {M : Type 1} → statement M
 is-revision-spec =

@@ -1,7 +1,7 @@
 use borrow.Author.Needs.{needs}
-use Rattle.recovery.proofs.reply.Laws.{matches-is}
-use Rattle.recovery.proofs.reply.matches.Statement.{statement}
-use Rattle.recovery.proofs.reply.matches.Tie as tie
+use Rattle.recovery.proofs.recovery_reply.Laws.{matches-is}
+use Rattle.recovery.proofs.recovery_reply.matches.Statement.{statement}
+use Rattle.recovery.proofs.recovery_reply.matches.Tie as tie
 
 pub matches-spec : {M : Type 1} → statement M
 matches-spec =

@@ -1,7 +1,7 @@
 use borrow.Author.Needs.{needs}
-use Rattle.recovery.proofs.reply.Laws.{in-idle, in-submission, in-poll, in-recovery}
-use Rattle.recovery.proofs.reply.recovery_reply.Statement.{statement}
-use Rattle.recovery.proofs.reply.recovery_reply.Tie as tie
+use Rattle.recovery.proofs.recovery_reply.Laws.{in-idle, in-submission, in-poll, in-recovery}
+use Rattle.recovery.proofs.recovery_reply.recovery_reply.Statement.{statement}
+use Rattle.recovery.proofs.recovery_reply.recovery_reply.Tie as tie
 
 pub recovery-reply-spec : {M : Type 1} → statement M
 recovery-reply-spec =

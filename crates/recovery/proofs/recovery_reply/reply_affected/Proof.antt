@@ -1,8 +1,8 @@
 use borrow.Author.Needs.{needs}
-use Rattle.recovery.proofs.reply.Laws.{scope-46, scope-on}
+use Rattle.recovery.proofs.recovery_reply.Laws.{scope-46, scope-on}
 use Rattle.scope.proofs.tokens.Laws.{scope-few}
-use Rattle.recovery.proofs.reply.reply_affected.Statement.{statement}
-use Rattle.recovery.proofs.reply.reply_affected.Tie as tie
+use Rattle.recovery.proofs.recovery_reply.reply_affected.Statement.{statement}
+use Rattle.recovery.proofs.recovery_reply.reply_affected.Tie as tie
 
 pub reply-affected-spec : {M : Type 1} → statement M
 reply-affected-spec =

@@ -1,9 +1,9 @@
 use native.Mathlib.Omega.{arith}
 use lib.ListN.{length-take}
 use borrow.Author.Needs.{needs}
-use Rattle.recovery.proofs.reply.Laws.{own-few, affected-places, done-is}
-use Rattle.recovery.proofs.reply.reply_done.Statement.{statement}
-use Rattle.recovery.proofs.reply.reply_done.Tie as tie
+use Rattle.recovery.proofs.recovery_reply.Laws.{own-few, affected-places, done-is}
+use Rattle.recovery.proofs.recovery_reply.reply_done.Statement.{statement}
+use Rattle.recovery.proofs.recovery_reply.reply_done.Tie as tie
 
 pub reply-done-spec : {M : Type 1} → statement M
 reply-done-spec =

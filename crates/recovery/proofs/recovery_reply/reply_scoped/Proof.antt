@@ -2,8 +2,8 @@ use native.Mathlib.Omega.{arith}
 use lib.ListN.{length-take}
 use borrow.Author.Needs.{needs}
 use Rattle.recovery.proofs.Tokens.{done-places, gone-below, done-agree, scoped-is}
-use Rattle.recovery.proofs.reply.reply_scoped.Statement.{statement}
-use Rattle.recovery.proofs.reply.reply_scoped.Tie as tie
+use Rattle.recovery.proofs.recovery_reply.reply_scoped.Statement.{statement}
+use Rattle.recovery.proofs.recovery_reply.reply_scoped.Tie as tie
 
 pub reply-scoped-spec : {M : Type 1} → statement M
 reply-scoped-spec =

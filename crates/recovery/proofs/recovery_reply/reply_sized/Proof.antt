@@ -1,13 +1,14 @@
 use borrow.Author.Needs.{needs}
-use Rattle.recovery.proofs.reply.Laws.{sized-3, sized-49, sized-on, sized-is, agreed-is}
-use Rattle.recovery.proofs.reply.reply_sized.Statement.{statement}
-use Rattle.recovery.proofs.reply.reply_sized.Tie as tie
+use Rattle.rows.specs.Store.{storeOf}
+use Rattle.recovery.proofs.recovery_reply.Laws.{sized-3, sized-49, sized-on, fit-is, agreed-is}
+use Rattle.recovery.proofs.recovery_reply.reply_sized.Statement.{statement}
+use Rattle.recovery.proofs.recovery_reply.reply_sized.Tie as tie
 
 pub reply-sized-spec : {M : Type 1} → statement M
+unfolding storeOf
 reply-sized-spec =
     tie.close
     (tie.spec
-    (λ c κs. search needs)
     (λ c κs. search needs)
     (λ c κs. search needs)
     (λ c. search sized-3)
@@ -15,7 +16,7 @@ reply-sized-spec =
     (λ c κs. search needs)
     (λ c. search sized-49)
     (λ c κs. search needs)
-    (λ c κs. (search sized-is, agreed-is _ _ _ _ (c .before .before .before .before .lists-agree .ensures) (c .before .before .before .if2 .left)))
+    (λ c κs. (search fit-is, agreed-is _ _ _ _ (c .before .before .before .before .lists-agree .ensures) (c .before .before .before .if2 .left)))
     (λ c. search needs)
     (λ c. search needs)
     (λ c. search sized-on))

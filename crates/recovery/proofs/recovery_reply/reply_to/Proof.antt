@@ -1,7 +1,7 @@
 use borrow.Author.Needs.{needs}
-use Rattle.recovery.proofs.reply.Laws.{reply-45, reply-done}
-use Rattle.recovery.proofs.reply.reply_to.Statement.{statement}
-use Rattle.recovery.proofs.reply.reply_to.Tie as tie
+use Rattle.recovery.proofs.recovery_reply.Laws.{reply-45, reply-done}
+use Rattle.recovery.proofs.recovery_reply.reply_to.Statement.{statement}
+use Rattle.recovery.proofs.recovery_reply.reply_to.Tie as tie
 
 pub reply-to-spec : {M : Type 1} → statement M
 reply-to-spec =

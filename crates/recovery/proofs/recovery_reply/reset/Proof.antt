@@ -1,7 +1,7 @@
 use borrow.Author.Needs.{needs}
-use Rattle.recovery.proofs.reply.Laws.{reset-abort, reset-on}
-use Rattle.recovery.proofs.reply.reset.Statement.{statement}
-use Rattle.recovery.proofs.reply.reset.Tie as tie
+use Rattle.recovery.proofs.recovery_reply.Laws.{reset-abort, reset-on}
+use Rattle.recovery.proofs.recovery_reply.reset.Statement.{statement}
+use Rattle.recovery.proofs.recovery_reply.reset.Tie as tie
 
 pub reset-spec : {M : Type 1} → statement M
 reset-spec =

@@ -1,7 +1,7 @@
 use borrow.Author.Needs.{needs}
-use Rattle.recovery.proofs.reply.Laws.{restored-none, restored-on, restored-off}
-use Rattle.recovery.proofs.reply.restore.Statement.{statement}
-use Rattle.recovery.proofs.reply.restore.Tie as tie
+use Rattle.recovery.proofs.recovery_reply.Laws.{restored-none, restored-on, restored-off}
+use Rattle.recovery.proofs.recovery_reply.restore.Statement.{statement}
+use Rattle.recovery.proofs.recovery_reply.restore.Tie as tie
 
 pub restore-spec : {M : Type 1} → statement M
 restore-spec =

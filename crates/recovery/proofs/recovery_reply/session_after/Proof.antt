@@ -1,7 +1,7 @@
 use borrow.Author.Needs.{needs}
-use Rattle.recovery.proofs.reply.Laws.{after-marked, after-on}
-use Rattle.recovery.proofs.reply.session_after.Statement.{statement}
-use Rattle.recovery.proofs.reply.session_after.Tie as tie
+use Rattle.recovery.proofs.recovery_reply.Laws.{after-marked, after-on}
+use Rattle.recovery.proofs.recovery_reply.session_after.Statement.{statement}
+use Rattle.recovery.proofs.recovery_reply.session_after.Tie as tie
 
 pub session-after-spec : {M : Type 1} → statement M
 session-after-spec =

@@ -1,8 +1,8 @@
 use borrow.Author.Needs.{needs}
 use Rattle.rows.specs.Store.{storeOf}
-use Rattle.recovery.proofs.reply.Laws.{settled-is}
-use Rattle.recovery.proofs.reply.settle.Statement.{statement}
-use Rattle.recovery.proofs.reply.settle.Tie as tie
+use Rattle.recovery.proofs.recovery_reply.Laws.{settled-is}
+use Rattle.recovery.proofs.recovery_reply.settle.Statement.{statement}
+use Rattle.recovery.proofs.recovery_reply.settle.Tie as tie
 
 pub settle-spec : {M : Type 1} → statement M
 unfolding storeOf
