@@ -18,3 +18,4 @@ pub mod Never
 pub mod Waiting
 pub mod Watcher
 pub mod Examples
+pub mod Impostors
