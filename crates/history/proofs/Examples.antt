@@ -84,7 +84,7 @@ use Rattle.history.specs.Claim.{calls, rowsAfter, entriesAfter, returns,
 use Rattle.history.proofs.Theorem.{history-claim, worldOf}
 
 -- two rows of 8 bytes, one port
-abbrev opening : Opening
+abbrev pub opening : Opening
 opening = record {
   session = 5;
   «first_sequence» = 0;
@@ -94,7 +94,7 @@ opening = record {
   size = record { «row_count» = 2; «row_bytes» = 8 };
 }
 
-abbrev closed : Session
+abbrev pub closed : Session
 closed = record {
   number = 0;
   generation = 0;
@@ -108,29 +108,39 @@ closed = record {
 }
 
 -- the lent slices: a bus, two rows, and their 16 bytes
-abbrev busWords : List ℕ
+abbrev pub busWords : List ℕ
 busWords = cleared .words
 
-abbrev before : World
+abbrev pub before : World
 before = worldOf closed busWords (replicate 52 0) (replicate 16 0)
 
-abbrev start : World
+abbrev pub start : World
 start = next (stepOf (Open opening) before)
 
-abbrev camera : DeviceId
+abbrev pub camera : DeviceId
 camera = record { session = 5; generation = 0; slot = 1 }
 
-abbrev plugged : DeviceSnapshot
-plugged = record { id = camera; port = record { session = 5; generation = 1; number = 1 }; state = Configured }
+abbrev pub plugged : DeviceId → DeviceSnapshot
+plugged d = record { id = d; port = record { session = 5; generation = 1; number = 1 }; state = Configured }
 
-abbrev id : ℕ → RequestId
+abbrev pub id : ℕ → RequestId
 id n = record { session = 5; generation = 0; sequence = n }
 
--- n bytes from endpoint 81h
-abbrev asks : ℕ → Call
-asks n =
-    Begin (Submit [] (request (record { device = camera; endpoint = 0x81; «transfer_type» = Bulk; direction = In; length = n; setup = setup.None }) [] false
+-- n bytes from endpoint 81h of a device
+abbrev pub asksOf : DeviceId → ℕ → Call
+asksOf d n =
+    Begin (Submit [] (request (record { device = d; endpoint = 0x81; «transfer_type» = Bulk; direction = In; length = n; setup = setup.None }) [] false
     (record { first = Word 0x403; second = Word 0x403 })))
+
+abbrev pub asks : ℕ → Call
+asks n = asksOf camera n
+
+-- the camera is placed, and the controller Initialized
+abbrev pub ready : List Event
+ready =
+    calls (Place (Port 1 (record { generation = 1; reading = u32.Some 0x403 }))) ∷ calls (Place (Device (plugged camera)))
+    ∷ calls (Place (Endpoints 1 (0x181 ∷ []))) ∷ calls (Move (Acquire acquire.Acquired)) ∷ calls (Move (Initialize error.None))
+    ∷ []
 
 abbrev broken : OperationError
 broken = record { category = Validation; message = 1; «os_code» = i32.None; «completion_code» = u32.None }
@@ -159,9 +169,7 @@ elsewhere = record { call = Move (Close (u64.Some 6) error.None); handed = other
 -- request 0 completes and is reclaimed, 1 is refused by the backend, 2 times out, fails and is not quiescent, 3 stays
 abbrev script : List Event
 script =
-    calls (Place (Port 1 (record { generation = 1; reading = u32.Some 0x403 }))) ∷ calls (Place (Device plugged)) ∷ calls (Place (Endpoints 1 (0x181 ∷ [])))
-    ∷ calls (Move (Acquire acquire.Acquired)) ∷ calls (Move (Initialize error.None))
-    ∷ calls (asks 8) ∷ calls (Reply (ToSubmit (submit.Token 7)))
+    ready ++ (calls (asks 8) ∷ calls (Reply (ToSubmit (submit.Token 7)))
     ∷ calls (asks 4) ∷ calls (Reply (ToSubmit (submit.Error broken)))
     ∷ calls (asks 9)
     ∷ calls (asks 3) ∷ calls (Reply (ToSubmit (submit.Token 9)))
@@ -172,10 +180,10 @@ script =
     ∷ calls (Begin (Poll (id 2))) ∷ calls (came 0 false (error.Some broken)) ∷ calls (Change (id 2) Reclaim)
     ∷ elsewhere
     ∷ calls (Read HeldCount) ∷ calls (Read HeldBytes)
-    ∷ []
+    ∷ [])
 
 -- ---- a recovery: requests 0 and 1 have the tokens 7 and 9; a reply is refused by 49; then 1 completes with 4 bytes, 0 is aborted and reclaimed
-abbrev whole : RecoveryReply
+abbrev pub whole : RecoveryReply
 whole = reply.Done (record { «restart_ready» = true; error = error.None })
 
 abbrev completion : List ℕ
@@ -188,13 +196,11 @@ lists n = replyLists (9 ∷ []) completion (7 ∷ []) (replicate n 1)
 -- the calls before the reply that succeeds, and those after it
 abbrev front : List Event
 front =
-    calls (Place (Port 1 (record { generation = 1; reading = u32.Some 0x403 }))) ∷ calls (Place (Device plugged)) ∷ calls (Place (Endpoints 1 (0x181 ∷ [])))
-    ∷ calls (Move (Acquire acquire.Acquired)) ∷ calls (Move (Initialize error.None))
-    ∷ calls (asks 8) ∷ calls (Reply (ToSubmit (submit.Token 7)))
+    ready ++ (calls (asks 8) ∷ calls (Reply (ToSubmit (submit.Token 7)))
     ∷ calls (asks 4) ∷ calls (Reply (ToSubmit (submit.Token 9)))
     ∷ calls (Begin (Recover (id 0) kind.Abort)) ∷ calls (Read HeldCount) ∷ calls (Change (id 1) Timeout)
     ∷ returns whole (lists 5) own
-    ∷ []
+    ∷ [])
 
 abbrev back : List Event
 back = calls (Change (id 0) Reclaim) ∷ calls (Read HeldCount) ∷ calls (Read HeldBytes) ∷ []
@@ -211,12 +217,10 @@ report = record { target = id 0; device = camera; endpoint = 0x81; completed = 1
 -- ---- a stall: request 0 fails, and a reset that aborts it makes the controller Initialized again; requests 1 and 2 have one token
 abbrev toReset : List Event
 toReset =
-    calls (Place (Port 1 (record { generation = 1; reading = u32.Some 0x403 }))) ∷ calls (Place (Device plugged)) ∷ calls (Place (Endpoints 1 (0x181 ∷ [])))
-    ∷ calls (Move (Acquire acquire.Acquired)) ∷ calls (Move (Initialize error.None))
-    ∷ calls (asks 8) ∷ calls (Reply (ToSubmit (submit.Token 7)))
+    ready ++ (calls (asks 8) ∷ calls (Reply (ToSubmit (submit.Token 7)))
     ∷ calls (Begin (Poll (id 0))) ∷ calls stalls ∷ calls (asks 4)
     ∷ calls (Begin (Recover (id 0) (kind.Reset false)))
-    ∷ []
+    ∷ [])
 
 abbrev aborts : Event
 aborts = returns whole (replyLists [] [] (7 ∷ []) []) own
@@ -237,7 +241,7 @@ stalled = toAbort ++ (aborts ∷ closing)
 
 -- ---- what they compute to
 -- an answer's refusal, or the number that it is, or 0
-abbrev numberIn : Answer → ℕ
+abbrev pub numberIn : Answer → ℕ
 numberIn (answer.Refused r) = r .number
 numberIn answer.Pass = 0
 numberIn (answer.Begun x) = 0

@@ -16,6 +16,8 @@ pub mod Refusing
 pub mod Theorem
 pub mod Never
 pub mod Waiting
+pub mod Watcher
 pub mod Examples
 pub mod Starred
 pub mod Lent
+pub mod Impostors

@@ -359,7 +359,7 @@ module _ (w : World) where
   submit-stays : (packets : List ℕ) (q : Request) → Stays (submits (submitOf packets q (w .session) (w .lent)))
   unfolding submittedBy
   submit-stays packets q =
-      submit-all q (w .session) (w .lent) (λ o. Stays (submits o)) (λ x e. refl)
+      submit-all q (w .session) (w .lent) (λ o. Stays (submits o)) (λ x early e. refl)
       (λ i room size.
       let d : Draft = draft (placeOf (w .session .size) i) (metadataOf (q .spec)) (q .bytes) in
       let o : After Started Lent = targetOf d (q .readings) (w .session) (w .lent) in
@@ -373,7 +373,7 @@ module _ (w : World) where
   plan-stays : (q : ControlPlan) (bytes : List ℕ) (one : PortReading) → Stays (plans (submitPlanOf q bytes one (w .session) (w .lent)))
   unfolding planStarted
   plan-stays q bytes one =
-      plan-all q bytes one (w .session) (w .lent) (λ o. Stays (plans o)) (λ x e. refl)
+      plan-all q bytes one (w .session) (w .lent) (λ o. Stays (plans o)) (λ x early e. refl)
       (λ i room size.
       let d : Draft = draft (placeOf (w .session .size) i) (planOf q .metadata) bytes in
       let x : Readings = record { first = one; second = one } in

@@ -37,7 +37,7 @@ use Rattle.recovery.specs.declared.RecoveryReply.{RecoveryReply}
 use Rattle.calls.specs.Calls.{Call, Begin, Recover, Reply, ToRecovery, Change, Reclaim, Read, HeldCount, HeldBytes}
 use Rattle.calls.specs.Step.{World, stepOf, worldStore}
 use Rattle.calls.specs.declared.Answer.the-variants as answer
-use Rattle.runs.specs.Run.{Handed, own, Event, Answered, next, leftBy, endOf, historyOf, answerTo}
+use Rattle.runs.specs.Run.{Handed, own, Event, Answered, Stepping, next, worldBy, endBy, historyBy, answerBy}
 use Rattle.history.specs.Journal.{Entry, View, entryView, blank, isOpen, isEntry, begunId, recoveryWaits, journalOf}
 
 -- what a row has in common with an entry
@@ -72,15 +72,25 @@ pub record Agrees (p : View → Bool) (rows : List Row) (entries : List Entry) :
 abbrev pub releasesOf : RequestId → List Entry → ℕ
 releasesOf x l = sumBy (only (isEntry x) (λ e. e .releases)) l
 
+-- by any step: the rows and the entries where calls end, and the rows that a call leaves
+abbrev pub rowsEnd : Stepping → World → List Event → List Row
+rowsEnd step w es = worldStore (endBy step w es) .rows
+
+abbrev pub entriesEnd : Stepping → World → List Event → List Entry
+entriesEnd step w es = journalOf (historyBy step w es) blank .entries
+
+abbrev pub rowsLeft : Stepping → World → Event → List Row
+rowsLeft step w e = worldStore (worldBy step (e .handed) (e .call) w) .rows
+
+-- by the calls' own
 abbrev pub rowsAfter : World → List Event → List Row
-rowsAfter w es = worldStore (endOf w es) .rows
+rowsAfter w es = rowsEnd stepOf w es
 
 abbrev pub entriesAfter : World → List Event → List Entry
-entriesAfter w es = journalOf (historyOf w es) blank .entries
+entriesAfter w es = entriesEnd stepOf w es
 
--- the rows that a call leaves
 abbrev pub rowsBy : World → Event → List Row
-rowsBy w e = worldStore (leftBy (e .handed) (e .call) w) .rows
+rowsBy w e = rowsLeft stepOf w e
 
 -- a call that is handed what the calls before it left
 abbrev pub calls : Call → Event
@@ -174,32 +184,36 @@ returns reply l h = record { call = Reply (ToRecovery reply l); handed = h }
 abbrev pub ReportOf : InFlight → AbortReport → Type 0
 ReportOf f x = (q : RecoveryKind) × (f ≡ flight.Recovery (record { target = x .target; device = x .device; endpoint = x .endpoint; kind = q }))
 
-pub record Claim (w : World) (es : List Event) : Type 0 where
-  pub agrees : (p : View → Bool) → Agrees p (rowsAfter w es) (entriesAfter w es)
+-- of a step and a list of calls; the theorem is about `stepOf`
+pub record ClaimOf (step : Stepping) (w : World) (es : List Event) : Type 0 where
+  pub agrees : (p : View → Bool) → Agrees p (rowsEnd step w es) (entriesEnd step w es)
   -- the calls' own tallies stop at their widths' maxima, and never come to them
-  pub count-is : answerTo (endOf w es) (calls (Read HeldCount)) ≡ answer.Number (count isOpen (entriesAfter w es))
-  pub bytes-is : answerTo (endOf w es) (calls (Read HeldBytes)) ≡ answer.Number (sumBy (only isOpen (λ e. e .requested)) (entriesAfter w es))
-  pub one-entry : (x : RequestId) → count (isEntry x) (entriesAfter w es) ≤ 1
-  pub one-release : (x : RequestId) → releasesOf x (entriesAfter w es) ≤ 1
+  pub count-is : answerBy step (endBy step w es) (calls (Read HeldCount)) ≡ answer.Number (count isOpen (entriesEnd step w es))
+  pub bytes-is : answerBy step (endBy step w es) (calls (Read HeldBytes)) ≡ answer.Number (sumBy (only isOpen (λ e. e .requested)) (entriesEnd step w es))
+  pub one-entry : (x : RequestId) → count (isEntry x) (entriesEnd step w es) ≤ 1
+  pub one-release : (x : RequestId) → releasesOf x (entriesEnd step w es) ≤ 1
   -- exactly one before it is reclaimed
   pub reclaimed : (before after : List Event) (h : Handed) (x : RequestId) (r : RequestReport) → es ≡ before ++ (reclaims x h ∷ after)
-      → answerTo (endOf w before) (reclaims x h) ≡ answer.Report r → releasesOf x (entriesAfter w before) ≡ 1
+      → answerBy step (endBy step w before) (reclaims x h) ≡ answer.Report r → releasesOf x (entriesEnd step w before) ≡ 1
   -- an id was handed over as often as it has entries: at most once, and no entry is forgotten
-  pub handed : (x : RequestId) → count (handsOver x) (historyOf w es) ≡ count (isEntry x) (entriesAfter w es)
+  pub handed : (x : RequestId) → count (handsOver x) (historyBy step w es) ≡ count (isEntry x) (entriesEnd step w es)
   -- a recovery's start that opened its operation named the call's target and kind, and the device and the endpoint of the target's entry
   pub started : (before after : List Event) (h : Handed) (q : RecoveryKind) (id : RequestId) → es ≡ before ++ (starts q id h ∷ after) → (x : Recovery)
-      → answerTo (endOf w before) (starts q id h) ≡ answer.Recovering x
-      → flight.Recovery x ≡ recoveryWaits id q (journalOf (historyOf w before) blank) .waiting
+      → answerBy step (endBy step w before) (starts q id h) ≡ answer.Recovering x
+      → flight.Recovery x ≡ recoveryWaits id q (journalOf (historyBy step w before) blank) .waiting
   -- each recovery that succeeded, ready and without an error, the affected tokens all different
   pub recovered : (before after : List Event) (h : Handed) (reply : RecoveryReply) (l : ReplyLists) → es ≡ before ++ (returns reply l h ∷ after) → (x : AbortReport)
-      → answerTo (endOf w before) (returns reply l h) ≡ answer.Recovered x → x .«restart_ready» ≡ true → hasError (x .error) ≡ false
-      → Different (x .device) (x .endpoint) (rowsAfter w before)
-      → Recovered (x .device) (x .endpoint) l (rowsAfter w before) (rowsBy (endOf w before) (returns reply l h))
+      → answerBy step (endBy step w before) (returns reply l h) ≡ answer.Recovered x → x .«restart_ready» ≡ true → hasError (x .error) ≡ false
+      → Different (x .device) (x .endpoint) (rowsEnd step w before)
+      → Recovered (x .device) (x .endpoint) l (rowsEnd step w before) (rowsLeft step (endBy step w before) (returns reply l h))
   -- whatever a recovery's reply is answered, it changes no row but those that are affected by the operation that, by the history, waits
   pub spared : (before after : List Event) (h : Handed) (reply : RecoveryReply) (l : ReplyLists) → es ≡ before ++ (returns reply l h ∷ after)
-      → Spared (journalOf (historyOf w before) blank .waiting) (rowsAfter w before) (rowsBy (endOf w before) (returns reply l h))
+      → Spared (journalOf (historyBy step w before) blank .waiting) (rowsEnd step w before) (rowsLeft step (endBy step w before) (returns reply l h))
   -- the report of any recovery is of the operation that, by the history, waited
   pub reported : (before after : List Event) (h : Handed) (reply : RecoveryReply) (l : ReplyLists) → es ≡ before ++ (returns reply l h ∷ after) → (x : AbortReport)
-      → answerTo (endOf w before) (returns reply l h) ≡ answer.Recovered x → ReportOf (journalOf (historyOf w before) blank .waiting) x
+      → answerBy step (endBy step w before) (returns reply l h) ≡ answer.Recovered x → ReportOf (journalOf (historyBy step w before) blank .waiting) x
   -- a refusal by 3 leaves whatever the call was handed as it was
-  pub untouched : (c : Call) (v : World) → stepOf c v .result .answer ≡ answer.Refused (refusalOf 3) → next (stepOf c v) ≡ v
+  pub untouched : (c : Call) (v : World) → step c v .result .answer ≡ answer.Refused (refusalOf 3) → next (step c v) ≡ v
+
+abbrev pub Claim : World → List Event → Type 0
+Claim w es = ClaimOf stepOf w es

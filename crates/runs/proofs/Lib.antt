@@ -11,6 +11,7 @@ pub mod Change
 pub mod Reply
 pub mod Poll
 pub mod Finish
+pub mod Numbers
 pub mod Stages
 pub mod Submit
 pub mod Lifecycle

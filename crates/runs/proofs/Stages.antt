@@ -1,4 +1,4 @@
--- Every way out of a submission, for whatever is claimed of it. Assumes nothing.
+-- Every way out of a submission, for whatever is claimed of it; what is refused before the device is numbered up to 25. Assumes nothing.
 use Prim.Native.Nat.{ℕ, _+_, _<_, _≤_}
 use mathlib.Core.Bool.{Bool, true, false, not}
 use mathlib.Core.List.{List}
@@ -54,6 +54,7 @@ use Rattle.submissions.specs.Plan.{planRefused, plannedTo, plannedOf, planRoomO
 use Rattle.submissions.specs.declared.PlanSubmitted.{PlanSubmitted}
 use Rattle.submissions.specs.declared.Submitted.{Submitted}
 use Rattle.submissions.specs.declared.begin.Started.{Started}
+use Rattle.runs.proofs.Numbers.{early-said, packets-early, spec-early, plan-early}
 
 -- 28: a request is taken only while the controller is Initialized
 known-no : (o : OptionDevice) (id : DeviceId) → (r : Refusal) × (knownBy o false id ≡ checked.Refused r)
@@ -134,36 +135,40 @@ by-answer : {A : Type 0} (v : Verdict) → ((r : Refusal) → v ≡ verdict.Refu
 by-answer (verdict.Refused r) stop go = stop r refl
 by-answer verdict.Pass stop go = go refl
 
-module _ (q : Request) (s : Session) (l : Lent) (P : After Submitted Lent → Type 0) (no : (x : Refusal) → P (after (submitRefused s x) l))
+module _ (q : Request) (s : Session) (l : Lent) (P : After Submitted Lent → Type 0) (no : (x : Refusal) → x .number ≤ 25 → P (after (submitRefused s x) l))
     (go : (i : ℕ) → Room (l .memory .store .rows) i → q .spec .length ≤ s .size .«row_bytes»
     → P (submittedTo (targetOf (draft (placeOf (s .size) i) (metadataOf (q .spec)) (q .bytes)) (q .readings) s l) (metadataOf (q .spec)) (q .given))) where
   by-prepared : (i : ℕ) → Room (l .memory .store .rows) i → P (preparedOf (placeOf (s .size) i) q s l)
   unfolding prepare.prepared prepare.preparedIf preparedOf
   by-prepared i room =
-      by-answer (specChecked (specFacts (q .spec) (length (q .bytes)) (s .size .«row_bytes»))) (λ r e. rw (e, preparedOf) (no r))
+      by-answer (specChecked (specFacts (q .spec) (length (q .bytes)) (s .size .«row_bytes»)))
+      (λ r e. rw (e, preparedOf) (no r (early-said _ (spec-early _) r e)))
       (λ e.
       let z : prepare.prepared (q .spec) (length (q .bytes)) (s .size .«row_bytes») ≡ prepared.Ready (metadataOf (q .spec)) = ap (λ (v : Verdict). prepare.preparedIf v (q .spec)) e in
       rw (e, preparedOf) (go i room (ready-fits (q .spec) (length (q .bytes)) (s .size .«row_bytes») (metadataOf (q .spec)) z .0)))
 
   by-room : P (roomOf q s l)
   unfolding roomOf
-  by-room = by-found (roomIn (l .memory .store .rows)) (λ e. rw (e, roomOf) (no (refusalOf 5))) (λ i e. rw (e, roomOf) (by-prepared i (room-told _ i e)))
+  by-room =
+      by-found (roomIn (l .memory .store .rows)) (λ e. rw (e, roomOf) (no (refusalOf 5) (omega arith)))
+      (λ i e. rw (e, roomOf) (by-prepared i (room-told _ i e)))
 
   pub submit-all : (packets : List ℕ) → P (submitOf packets q s l)
   unfolding submitOf guarded packetsOf
   submit-all packets =
-      if-all P _ _ _ (no (refusalOf 1)) (if-all P _ _ _ (no (refusalOf 3))
-      (by-answer (packetsChecked (q .given) packets (q .spec .«transfer_type») (q .spec .length)) (λ r e. rw (e, packetsOf) (no r)) (λ e. rw (e, packetsOf) by-room)))
+      if-all P _ _ _ (no (refusalOf 1) (omega arith)) (if-all P _ _ _ (no (refusalOf 3) (omega arith))
+      (by-answer (packetsChecked (q .given) packets (q .spec .«transfer_type») (q .spec .length))
+      (λ r e. rw (e, packetsOf) (no r (early-said _ (packets-early _ _ _ _) r e))) (λ e. rw (e, packetsOf) by-room)))
 
 -- a plan
 module _ (q : ControlPlan) (bytes : List ℕ) (first : PortReading) (s : Session) (l : Lent) (P : After PlanSubmitted Lent → Type 0)
-    (no : (x : Refusal) → P (after (planRefused s x) l))
+    (no : (x : Refusal) → x .number ≤ 25 → P (after (planRefused s x) l))
     (go : (i : ℕ) → Room (l .memory .store .rows) i → planOf q .metadata .«requested_length» ≤ s .size .«row_bytes»
     → P (plannedTo (targetOf (draft (placeOf (s .size) i) (planOf q .metadata) bytes) (record { first = first; second = first }) s l) (planOf q))) where
   by-planned : (i : ℕ) → Room (l .memory .store .rows) i → P (plannedOf (placeOf (s .size) i) q bytes first s l)
   unfolding plan.planned plan.plannedIf plannedOf
   by-planned i room =
-      by-answer (planChecked (planFacts q (length bytes) (s .size .«row_bytes»))) (λ r e. rw (e, plannedOf) (no r))
+      by-answer (planChecked (planFacts q (length bytes) (s .size .«row_bytes»))) (λ r e. rw (e, plannedOf) (no r (early-said _ (plan-early _) r e)))
       (λ e.
       let z : plan.planned q (length bytes) (s .size .«row_bytes») ≡ planned.Ready (planOf q) = ap (λ (v : Verdict). plan.plannedIf v q) e in
       rw (e, plannedOf) (go i room (planned-fits q (length bytes) (s .size .«row_bytes») (planOf q) z .0)))
@@ -171,5 +176,6 @@ module _ (q : ControlPlan) (bytes : List ℕ) (first : PortReading) (s : Session
   pub plan-all : P (submitPlanOf q bytes first s l)
   unfolding submitPlanOf guarded planRoomOf
   plan-all =
-      if-all P _ _ _ (no (refusalOf 1)) (if-all P _ _ _ (no (refusalOf 3))
-      (by-found (roomIn (l .memory .store .rows)) (λ e. rw (e, planRoomOf) (no (refusalOf 5))) (λ i e. rw (e, planRoomOf) (by-planned i (room-told _ i e)))))
+      if-all P _ _ _ (no (refusalOf 1) (omega arith)) (if-all P _ _ _ (no (refusalOf 3) (omega arith))
+      (by-found (roomIn (l .memory .store .rows)) (λ e. rw (e, planRoomOf) (no (refusalOf 5) (omega arith)))
+      (λ i e. rw (e, planRoomOf) (by-planned i (room-told _ i e)))))

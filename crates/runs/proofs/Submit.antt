@@ -99,7 +99,7 @@ module _ {s : Session} (l : Lent) (k : Sound s (l .memory .store)) where
   pub submit-sound : (packets : List ℕ) (q : Request) → To (submitOf packets q s l .result .session) (submitOf packets q s l .lent)
   unfolding submittedBy
   submit-sound packets q =
-      submit-all q s l (λ o. To (o .result .session) (o .lent)) (λ x. kept k)
+      submit-all q s l (λ o. To (o .result .session) (o .lent)) (λ x early. kept k)
       (λ i room size.
       target-all (draft (placeOf (s .size) i) (metadataOf (q .spec)) (q .bytes)) s (l .memory)
       (λ o. To (submittedTo o (metadataOf (q .spec)) (q .given) .result .session) (o .lent)) (λ x b. kept k)
@@ -109,7 +109,7 @@ module _ {s : Session} (l : Lent) (k : Sound s (l .memory .store)) where
   pub plan-sound : (q : ControlPlan) (bytes : List ℕ) (first : PortReading) → To (submitPlanOf q bytes first s l .result .session) (submitPlanOf q bytes first s l .lent)
   unfolding planStarted
   plan-sound q bytes first =
-      plan-all q bytes first s l (λ o. To (o .result .session) (o .lent)) (λ x. kept k)
+      plan-all q bytes first s l (λ o. To (o .result .session) (o .lent)) (λ x early. kept k)
       (λ i room size.
       target-all (draft (placeOf (s .size) i) (planOf q .metadata) bytes) s (l .memory)
       (λ o. To (plannedTo o (planOf q) .result .session) (o .lent)) (λ x b. kept k)

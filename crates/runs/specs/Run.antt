@@ -39,27 +39,45 @@ given own w = w
 given (rowsOnly bus area) w = beside bus area w
 given (other v) w = v
 
-abbrev pub answerTo : World → Event → Answer
-answerTo w e = stepOf (e .call) (given (e .handed) w) .result .answer
+-- a call's answer, and what it leaves of what it was handed: `stepOf`, or another that is tried in its place
+abbrev pub Stepping : Type 0
+Stepping = Call → World → After Outcome Lent
+
+abbrev pub answerBy : Stepping → World → Event → Answer
+answerBy step w e = step (e .call) (given (e .handed) w) .result .answer
 
 -- a call that was handed others leaves ours as they are
-abbrev pub leftBy : Handed → Call → World → World
-leftBy own c w = next (stepOf c w)
-leftBy (rowsOnly bus area) c w = next (stepOf c (beside bus area w))
-leftBy (other v) c w = w
+abbrev pub worldBy : Stepping → Handed → Call → World → World
+worldBy step own c w = next (step c w)
+worldBy step (rowsOnly bus area) c w = next (step c (beside bus area w))
+worldBy step (other v) c w = w
 
-abbrev pub endOf : World → List Event → World
-endOf w [] = w
-endOf w (e ∷ es) = endOf (leftBy (e .handed) (e .call) w) es
+abbrev pub endBy : Stepping → World → List Event → World
+endBy step w [] = w
+endBy step w (e ∷ es) = endBy step (worldBy step (e .handed) (e .call) w) es
 
 -- a call with its answer
 pub record Answered : Type 0 where
   pub call : Call
   pub answer : Answer
 
+abbrev pub historyBy : Stepping → World → List Event → List Answered
+historyBy step w [] = []
+historyBy step w (e ∷ es) =
+    record { call = e .call; answer = answerBy step w e } ∷ historyBy step (worldBy step (e .handed) (e .call) w) es
+
+-- by the calls' own step
+abbrev pub answerTo : World → Event → Answer
+answerTo w e = answerBy stepOf w e
+
+abbrev pub leftBy : Handed → Call → World → World
+leftBy h c w = worldBy stepOf h c w
+
+abbrev pub endOf : World → List Event → World
+endOf w es = endBy stepOf w es
+
 abbrev pub historyOf : World → List Event → List Answered
-historyOf w [] = []
-historyOf w (e ∷ es) = record { call = e .call; answer = answerTo w e } ∷ historyOf (leftBy (e .handed) (e .call) w) es
+historyOf w es = historyBy stepOf w es
 
 -- ---- what is assumed of a list
 
@@ -73,14 +91,20 @@ isOpening (Change id c) = false
 isOpening (Read r) = false
 
 -- there is no second opening; a call that is handed another session or other slices is refused by 3
+abbrev pub HandingBy : Stepping → Handed → Call → Type 0
+HandingBy step own c = isOpening c ≡ false
+HandingBy step (rowsOnly bus area) c = isOpening c ≡ false
+HandingBy step (other v) c = step c v .result .answer ≡ answer.Refused (refusalOf 3)
+
+abbrev pub FollowsBy : Stepping → List Event → Type 0
+FollowsBy step [] = Unit {0}
+FollowsBy step (e ∷ es) = HandingBy step (e .handed) (e .call) × FollowsBy step es
+
 abbrev pub Handing : Handed → Call → Type 0
-Handing own c = isOpening c ≡ false
-Handing (rowsOnly bus area) c = isOpening c ≡ false
-Handing (other v) c = stepOf c v .result .answer ≡ answer.Refused (refusalOf 3)
+Handing h c = HandingBy stepOf h c
 
 abbrev pub Follows : List Event → Type 0
-Follows [] = Unit {0}
-Follows (e ∷ es) = Handing (e .handed) (e .call) × Follows es
+Follows es = FollowsBy stepOf es
 
 -- the session number that a call hands over
 abbrev pub numberOf : Call → OptionU64

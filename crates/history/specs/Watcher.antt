@@ -1,0 +1,77 @@
+-- For those who watch ports: once a reading's connected bit differs from the port's last, every submission to a device placed with the old
+-- port id is refused by 31, or by what the table puts before it, until the device or the port's row is placed anew. Assumes nothing.
+use Prim.Native.Nat.{ℕ, _≤_}
+use mathlib.Core.Bool.{Bool, false}
+use mathlib.Core.List.{List, [], _∷_, _++_}
+use mathlib.Core.Path.{_≡_}
+use lib.Dec.{eqb}
+use Rattle.words.specs.declared.OptionU32.the-variants as u32
+use Rattle.models.specs.declared.DeviceSnapshot.{DeviceSnapshot}
+use Rattle.models.specs.declared.OptionDevice.the-variants as device
+use Rattle.models.specs.declared.PortId.{PortId}
+use Rattle.models.specs.declared.Refusal.{Refusal}
+use Rattle.standards.specs.Ports.{portConnected}
+use Rattle.bus.specs.Tables.{Bus, deviceAt, portAt}
+use Rattle.calls.specs.Calls.{Placing, Device, Port, Endpoints, Reconcile, Beginning, Submit, SubmitPlan, Poll, Recover, Call, Open, Place, Move, Begin, Reply, Change, Read}
+use Rattle.calls.specs.Step.{World, stepOf}
+use Rattle.calls.specs.declared.Answer.{Answer}
+use Rattle.calls.specs.declared.Answer.the-variants as answer
+use Rattle.runs.specs.Run.{Handed, own, rowsOnly, other, Event, next, answerTo, endOf}
+use Rattle.history.specs.Claim.{calls}
+
+-- between two states of the bus the port's last reading has changed its connected bit, and the id was the port's before
+pub record Turned (id : PortId) (b b′ : Bus) : Type 0 where
+  pub old : ℕ
+  pub raw : ℕ
+  pub last : portAt b (id .number) .reading ≡ u32.Some old
+  pub taken : portAt b′ (id .number) .reading ≡ u32.Some raw
+  pub differs : portConnected old ≡ portConnected raw → ⊥
+  pub current : id .generation ≡ portAt b (id .number) .generation
+
+-- a call that places the device of that slot or the row of that port
+abbrev pub placesOne : ℕ → ℕ → Placing → Bool
+placesOne slot number (Device d) = eqb (d .id .slot) slot
+placesOne slot number (Port n row) = eqb n number
+placesOne slot number (Endpoints n list) = false
+placesOne slot number (Reconcile n mark) = false
+
+abbrev pub placesAt : ℕ → ℕ → Call → Bool
+placesAt slot number (Open o) = false
+placesAt slot number (Place p) = placesOne slot number p
+placesAt slot number (Move m) = false
+placesAt slot number (Begin b) = false
+placesAt slot number (Reply r) = false
+placesAt slot number (Change id c) = false
+placesAt slot number (Read r) = false
+
+-- calls on our own bus that place neither; a call that is handed others leaves it
+abbrev pub LeavesBy : ℕ → ℕ → Handed → Call → Type 0
+LeavesBy slot number own c = placesAt slot number c ≡ false
+LeavesBy slot number (rowsOnly bus area) c = ⊥
+LeavesBy slot number (other v) c = Unit {0}
+
+abbrev pub Leaves : ℕ → ℕ → List Event → Type 0
+Leaves slot number [] = Unit {0}
+Leaves slot number (e ∷ es) = LeavesBy slot number (e .handed) (e .call) × Leaves slot number es
+
+-- a submission to a device of that slot
+abbrev pub Asks : ℕ → Beginning → Type 0
+Asks slot (Submit packets q) = q .spec .device .slot ≡ slot
+Asks slot (SubmitPlan q bytes first) = q .device .slot ≡ slot
+Asks slot (Poll id) = ⊥
+Asks slot (Recover id kind) = ⊥
+
+-- a refusal whose number is at most n
+pub record UpTo (n : ℕ) (a : Answer) : Type 0 where
+  pub refusal : Refusal
+  pub is : a ≡ answer.Refused refusal
+  pub low : refusal .number ≤ n
+
+-- wherever a call c of the list turns a port's last reading: the calls before it, between it and a later submission, and after that
+abbrev pub Watched : World → List Event → Type 0
+Watched w es =
+    (slot : ℕ) (d : DeviceSnapshot) (before mid after : List Event) (c : Call) (f : Beginning) → es ≡ before ++ (calls c ∷ (mid ++ (calls (Begin f) ∷ after)))
+    → (let at = endOf w before in
+    let then = next (stepOf c at) in
+    deviceAt (at .lent .bus) slot ≡ device.Some d → Turned (d .port) (at .lent .bus) (then .lent .bus)
+    → Leaves slot (d .port .number) (calls c ∷ mid) → Asks slot f → UpTo 31 (answerTo (endOf then mid) (calls (Begin f))))
