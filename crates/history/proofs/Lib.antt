@@ -17,4 +17,8 @@ pub mod Theorem
 pub mod Never
 pub mod Waiting
 pub mod Watcher
+pub mod Unwritten
+pub mod Grabber
+pub mod Reset
+pub mod Relied
 pub mod Examples

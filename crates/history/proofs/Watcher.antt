@@ -56,6 +56,7 @@ use Rattle.calls.specs.Step.{World, placedOf, begunOf, repliedOf, stepOf}
 use Rattle.calls.specs.declared.Answer.the-variants as answer
 use Rattle.runs.specs.Run.{Handed, own, rowsOnly, other, Event, next, leftBy, endOf, isOpening, Handing, Follows}
 use Rattle.runs.proofs.Handings.{follows-at, follows-on, follows-front}
+use Rattle.runs.proofs.Held.{or-false}
 use Rattle.runs.proofs.Stages.{submit-all, plan-all}
 use Rattle.history.specs.Claim.{calls}
 use Rattle.history.specs.Watcher.{Turned, placesOne, placesAt, LeavesBy, Leaves, Asks, UpTo, Watched}
@@ -252,10 +253,6 @@ module _ (slot number : ℕ) where
 
 -- ---- a device whose port has a later generation
 
-or-right : (a b : Bool) → (a || not b) ≡ false → b ≡ true
-or-right true b e = absurd (true≢false e)
-or-right false b e = not-false b e
-
 module _ (slot : ℕ) (d : DeviceSnapshot) where
   record Stale (b : Bus) : Type 0 where
     stands : deviceAt b slot ≡ device.Some d
@@ -302,7 +299,7 @@ module _ (slot : ℕ) (d : DeviceSnapshot) where
       by-number verdict.Pass n =
           if-by CutPort _ _ _ (λ t. omega arith)
           (λ t.
-          let same = or-right (not (ofOpening p (d .port .session))) (eqb (d .port .generation) (row .generation)) t in
+          let same = not-false _ (or-false (not (ofOpening p (d .port .session))) (not (eqb (d .port .generation) (row .generation))) t .1) in
           absurd (omega (arith, k .below n, eqb-true (d .port .generation) (row .generation) same)))
 
   target-cut : (ready : Bool) (p : OptionPorts) (m : RequestMetadata) (x : Readings) (b : Bus) → m .device .slot ≡ slot → Stale b
