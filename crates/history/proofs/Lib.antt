@@ -16,6 +16,7 @@ pub mod Refusing
 pub mod Theorem
 pub mod Never
 pub mod Waiting
+pub mod Later
 pub mod Watcher
 pub mod Unwritten
 pub mod Grabber
