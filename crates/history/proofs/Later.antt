@@ -117,7 +117,8 @@ number-said (ports.Some p) n = if-by (Numbered n) _ _ _ (λ t. omega arith) (λ 
     above (suc n) t = omega arith
 
 -- past 31 the id's generation is the row's
-pub same-generation : (p : OptionPorts) (id : PortId) (row : PortRow) → (not (ofOpening p (id .session)) || not (eqb (id .generation) (row .generation))) ≡ false
+pub same-generation : (p : OptionPorts) (id : PortId) (row : PortRow)
+    → (not (ofOpening p (id .session)) || not (eqb (id .generation) (row .generation))) ≡ false
     → id .generation ≡ row .generation
 same-generation p id row t =
     let e = or-false (not (ofOpening p (id .session))) (not (eqb (id .generation) (row .generation))) t .1 in

@@ -22,14 +22,13 @@ use Rattle.models.specs.declared.OptionError.the-variants as error
 use Rattle.models.specs.declared.PortReading.{PortReading}
 use Rattle.models.specs.declared.Refusal.{Refusal}
 use Rattle.models.specs.declared.RequestMetadata.{RequestMetadata}
-use Rattle.models.specs.declared.RequestState.{RequestState}
-use Rattle.models.specs.declared.RequestState.the-variants.{Pending, Completed, Failed, Aborted}
+use Rattle.models.specs.declared.RequestState.the-variants.{Completed, Aborted}
 use Rattle.models.specs.declared.Verdict.{Verdict}
 use Rattle.models.specs.declared.Verdict.the-variants as verdict
 use Rattle.rows.specs.Store.{Store, putIn}
 use Rattle.rows.specs.Table.{emptyRow, isHeld, rowIn}
 use Rattle.rows.specs.declared.Row.{Row}
-use Rattle.rules.specs.Rules.{moved, whilePending, completed, abortConfirmed, changeRow, withState}
+use Rattle.rules.specs.Rules.{moved, completed, abortConfirmed, changeRow, withState}
 use Rattle.rules.specs.declared.Change.the-variants as change
 use Rattle.rules.specs.declared.Step.{Step}
 use Rattle.rules.specs.declared.Step.the-variants as step
@@ -55,7 +54,7 @@ use Rattle.polls.specs.declared.poll_reply.Judgement.{Judgement}
 use Rattle.submissions.specs.Begin.{draft, bufferOf, writeOf}
 use Rattle.submissions.specs.Submit.{Request, submitRefused, submitOf}
 use Rattle.submissions.specs.Plan.{planRefused, submitPlanOf}
-use Rattle.scope.specs.Returned.{Returned, readReturned}
+use Rattle.scope.specs.Returned.{Returned}
 use Rattle.scope.specs.Scope.{inScope}
 use Rattle.recovery.specs.Entries.{rowCompletedBy, testedBy, completeOne, abortedBy, abortOne, applyAll}
 use Rattle.recovery.specs.RecoveryReply.{ReplyLists, rowsMeant, isWhole, settledOf, replySized, replyIn, recoveryReplyOf}
@@ -64,12 +63,13 @@ use Rattle.recovery.specs.declared.RecoveryReply.{RecoveryReply}
 use Rattle.calls.specs.Calls.{Submit, SubmitPlan, Poll, Recover, ToSubmit, ToPoll, ToRecovery, Call, Open, Place, Move, Begin, Reply, Change, Read}
 use Rattle.calls.specs.Step.{World, begunOf, repliedOf, stepOf}
 use Rattle.runs.specs.Run.{isOpening}
-use Rattle.runs.proofs.Affected.{meant-below, returned-tokens, ownTokens, placeMeant}
+use Rattle.runs.proofs.Affected.{meant-below, ownTokens, placeMeant}
 use Rattle.runs.proofs.Entries.{Onward, entries-all}
 use Rattle.runs.proofs.Held.{unheld-row, free-held, empty-free}
+use Rattle.runs.proofs.Rules.{while-all}
 use Rattle.runs.proofs.Run.{FittedIn}
 use Rattle.runs.proofs.Stages.{Room, submit-all, plan-all, target-all}
-use Rattle.runs.proofs.Tokens.{tokensIn, Each, scope-each}
+use Rattle.runs.proofs.Tokens.{tokensIn, Each, scope-each, replyTokens}
 use Rattle.runs.proofs.Ways.{finish-all, recovery-all}
 use Rattle.history.specs.Grabber.{rowBytes, HeldSame}
 
@@ -79,14 +79,9 @@ Frees (step.Refused r) = Unit {0}
 Frees (step.To next x) = isHeld next ≡ false
 
 complete-frees : (r : Row) (actual code : ℕ) → Frees (changeRow r (change.Complete actual code))
-unfolding changeRow completed whilePending moved
-complete-frees r actual code = go (r .state)
-  where
-    go : (x : RequestState) → Frees (whilePending x (λ cancel late. withState r (Completed actual code cancel)))
-    go (Pending cancel late) = unheld-row (withState r (Completed actual code cancel)) refl
-    go (Completed a n cancel) = tt
-    go (Failed e n quiescent) = tt
-    go Aborted = tt
+unfolding changeRow completed moved
+complete-frees r actual code =
+    while-all (r .state) _ Frees (λ e. tt) (λ cancel late e. unheld-row (withState r (Completed actual code cancel)) refl)
 
 abort-frees : (r : Row) → Frees (changeRow r change.ConfirmAbort)
 unfolding changeRow abortConfirmed moved
@@ -213,7 +208,7 @@ module _ (z : Size) where
     on (verdict.Refused r) es ts bytes n h = h .0
     on verdict.Pass es ts bytes n h = h
 
-    apply-safe : Each Means (tokensIn (readReturned (l .tokens) (l .completions)) ++ l .aborted) → Safe m (applyAll z (rowsMeant place l) m .lent)
+    apply-safe : Each Means (replyTokens l) → Safe m (applyAll z (rowsMeant place l) m .lent)
     unfolding completeOne abortOne
     apply-safe a =
         entries-all place z J P (λ bytes n h. h .0)
@@ -274,11 +269,10 @@ module _ (s : Session) (m : Memory) (whole : length (m .store .rows) ≡ s .size
       → inScope whole (ownTokens d endpoint (m .store .rows)) (l .tokens ++ l .aborted) ≡ true
       → Leaves (applyAll (s .size) (rowsMeant (placeMeant d endpoint (m .store .rows)) l) m .lent)
   scope-safe fits d endpoint all l n =
-      let ts = returned-tokens (l .tokens) (l .completions) in
       let place : ℕ → ℕ = placeMeant d endpoint (m .store .rows) in
       apply-safe (s .size) place l m
-      (rw ts (scope-each (ownTokens d endpoint (m .store .rows)) all (l .tokens ++ l .aborted) n (Means (s .size) place l m)
-      (λ t e. row-inside fits (place t) (meant-below d endpoint (m .store .rows) t e))))
+      (scope-each (ownTokens d endpoint (m .store .rows)) all l n (Means (s .size) place l m)
+      (λ t e. row-inside fits (place t) (meant-below d endpoint (m .store .rows) t e)))
 
   recovery-safe : (r : RecoveryReply) (l : ReplyLists) → Leaves (recoveryReplyOf r l s m .lent)
   unfolding settledOf
