@@ -61,7 +61,8 @@ fn put_two(
     aborted: [RequestId; 128],
     others: u64,
 )
-    ensures { λ _. ⌜ now (lists .exit) ≡ putLists (idList (take count completed) ++ idList (take others aborted)) (now (lists .entry)) ⌝ }
+    ensures { λ _. ⌜ now (lists .exit)
+        ≡ putLists (idList (take count completed) ++ idList (take others aborted)) (now (lists .entry)) ⌝ }
 {
     let n = up_to_128(count);
     let m = up_to_128(others);

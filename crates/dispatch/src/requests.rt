@@ -170,7 +170,8 @@ fn recovered(
     bytes: &[u8],
     lists: &mut [u64],
 ) -> Outcome
-    ensures { λ r. ⌜ RunsMemory r (readRecovering 24 (now (call .entry)) (now (bytes .entry))) session rows area lists ⌝ }
+    ensures { λ r. ⌜ RunsMemory r (readRecovering 24 (now (call .entry)) (now (bytes .entry)))
+        session rows area lists ⌝ }
 {
     let answer = arguments::backend_abort(call);
     let tokens = arguments::completed(call);

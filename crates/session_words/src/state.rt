@@ -116,8 +116,8 @@ fn to_stall(w: &[u64]) -> OptionStall
 }
 
 fn stall_words(stall: OptionStall) -> StallWords
-    ensures { λ r. ⌜ (readStall (r .present) (r .revision) (readDeviceWords (r .session) (r .generation) (r .slot)) (r .endpoint) ≡ stall)
-        × (r ≡ stallWords stall) ⌝ }
+    ensures { λ r. ⌜ (readStall (r .present) (r .revision) (readDeviceWords (r .session) (r .generation) (r .slot))
+        (r .endpoint) ≡ stall) × (r ≡ stallWords stall) ⌝ }
 {
     match stall {
         OptionStall::None => StallWords {
@@ -317,7 +317,8 @@ fn is_ports(w: &[u64]) -> bool
 }
 
 fn is_revision(w: &[u64]) -> bool
-    ensures { λ r. ⌜ r ≡ standsAt (now (w .entry)) 7 (revisionTail (optionU64Words (revisionIn (now (w .entry)))) []) ⌝ }
+    ensures { λ r. ⌜ r
+        ≡ standsAt (now (w .entry)) 7 (revisionTail (optionU64Words (revisionIn (now (w .entry)))) []) ⌝ }
 {
     let present = word_at(w, 7);
     let value = word_at(w, 8);
