@@ -1,4 +1,4 @@
-//! Calls and answers as text: the format of SCRIPT-FORMAT.md.
+//! Calls and answers as text: the format of docs/SCRIPT-FORMAT.md.
 //!
 //! Nothing here knows either side that is compared. A side implements [`Side`];
 //! [`run`] reads a script, applies its calls and gives the answer lines.
