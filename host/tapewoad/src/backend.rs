@@ -23,7 +23,8 @@ use crate::models::{
 /// * A poll: as if nothing came. The request stays Pending.
 /// * An abort or reset: as if it failed. Every request stays as it is, and the
 ///   controller is RecoveryRequired.
-/// * Any other: as if the call had not been made.
+/// * Any other: as if the call had not been made, but for the first of two
+///   readings of a port.
 pub trait Backend {
     /// Takes the controller. Asked only while Closed.
     ///

@@ -11,7 +11,8 @@ pub enum ControllerState {
     Initialized,
     /// It is being closed; no ported call ends here.
     Closing,
-    /// Something failed: only recoveries, reports and a close go on.
+    /// Something failed: submissions, and polls of Pending requests, are refused
+    /// (28) until a reset or a close brings it back.
     RecoveryRequired,
 }
 
