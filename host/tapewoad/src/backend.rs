@@ -12,13 +12,13 @@ use crate::models::{
 /// They are asked when and as often as the original asks them.
 ///
 /// # Panics of a backend
-/// They pass through the session's call, which may be caught: the session ends
-/// what is in flight, so that later calls are answered, and never lets go of what
-/// the device may have.
+/// A panic passes through the session's call and may be caught. The session ends
+/// what is in flight, so that later calls are answered, and keeps what the device
+/// may have.
 ///
 /// * A submission: whether the device has the request is not known. It is reported
-///   as Failed and not quiescent, so it stays held until a close passes, and the
-///   controller is RecoveryRequired. Its token is
+///   as Failed and not quiescent, and the controller is RecoveryRequired. It stays
+///   held until a close passes, or an abort names it by its token, which is
 ///   [`PANICKED_TOKEN`](crate::PANICKED_TOKEN).
 /// * A poll: as if nothing came. The request stays Pending.
 /// * An abort or reset: as if it failed. Every request stays as it is, and the
