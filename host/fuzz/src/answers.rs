@@ -63,6 +63,7 @@ impl Words {
             Answer::Bytes { start, length } => self.put([8, *start, *length]),
             Answer::Recover(begun) => self.recovering(begun, lists),
             Answer::Recovered(report) => self.recovered(report, lists),
+            answer => unreachable!("no words for {answer:?}"),
         }
     }
 

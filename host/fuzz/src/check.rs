@@ -102,6 +102,7 @@ fn fits(call: u64, answer: &Answer, sound: bool) -> bool {
         Answer::Bytes { .. } => call == 19,
         Answer::Recover(_) => matches!(call, 22 | 23),
         Answer::Recovered(_) => call == 24,
+        _ => false,
     }
 }
 

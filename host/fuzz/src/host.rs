@@ -81,12 +81,12 @@ impl Host {
         self.generation = rng.weighted(&[(8, 1), (1, u64::MAX)]);
         self.row_count = rng.pick(&[1, 2, 5, 12, 40]);
         self.row_bytes = rng.pick(&[1, 8, 64, 200]);
-        let opening = Opening {
-            session: self.opening,
-            first_sequence: rng.weighted(&[(6, 0), (1, u64::MAX - 3)]),
-            recovery_revision: rng.weighted(&[(6, Some(0)), (1, None), (1, Some(u64::MAX))]),
-            ports: rng.weighted(&[(12, Some(4)), (1, None), (1, Some(0)), (1, Some(255))]),
-        };
+        let first_sequence = rng.weighted(&[(6, 0), (1, u64::MAX - 3)]);
+        let revision = rng.weighted(&[(6, Some(0)), (1, None), (1, Some(u64::MAX))]);
+        let ports = rng.weighted(&[(12, Some(4)), (1, None), (1, Some(0)), (1, Some(255))]);
+        let opening = Opening::new(self.opening, ports)
+            .with_first_sequence(first_sequence)
+            .with_recovery_revision(revision);
         self.queue.clear();
         self.push(&Call::Open {
             opening,
@@ -214,12 +214,11 @@ impl Host {
             ErrorCategory::Unsupported,
             ErrorCategory::RecoveryRequired,
         ];
-        Error {
-            category: self.rng.pick(&CATEGORIES),
-            message: self.rng.next_u64() as u16,
-            os_code: self.rng.pick(&[None, Some(-5), Some(i32::MIN)]),
-            completion_code: self.rng.pick(&[None, Some(6), Some(u32::MAX)]),
-        }
+        let category = self.rng.pick(&CATEGORIES);
+        let mut error = Error::new(category, self.rng.next_u64() as u16);
+        error.os_code = self.rng.pick(&[None, Some(-5), Some(i32::MIN)]);
+        error.completion_code = self.rng.pick(&[None, Some(6), Some(u32::MAX)]);
+        error
     }
 
     pub fn reading(&mut self) -> Reading {

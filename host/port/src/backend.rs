@@ -59,12 +59,11 @@ pub fn number(text: &str) -> Option<u16> {
 }
 
 fn error(error: Error) -> OperationError {
-    OperationError {
-        category: convert::to_category(error.category),
-        message: text(error.message),
-        os_code: error.os_code,
-        completion_code: error.completion_code,
-    }
+    let category = convert::to_category(error.category);
+    let mut made = OperationError::new(category, text(error.message));
+    made.os_code = error.os_code;
+    made.completion_code = error.completion_code;
+    made
 }
 
 impl Backend {

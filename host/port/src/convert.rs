@@ -133,12 +133,10 @@ pub fn request_ids(ids: Vec<tapewoad::RequestId>) -> Vec<script::RequestId> {
 }
 
 pub fn to_error(error: script::Error) -> calls::Error {
-    calls::Error {
-        category: to_category(error.category),
-        message: error.message,
-        os_code: error.os_code,
-        completion_code: error.completion_code,
-    }
+    let mut made = calls::Error::new(to_category(error.category), error.message);
+    made.os_code = error.os_code;
+    made.completion_code = error.completion_code;
+    made
 }
 
 pub fn error(error: calls::Error) -> script::Error {
@@ -151,12 +149,9 @@ pub fn error(error: calls::Error) -> script::Error {
 }
 
 pub fn to_opening(open: &script::Open) -> tapewoad::Opening {
-    tapewoad::Opening {
-        session: open.session,
-        first_sequence: open.sequence,
-        recovery_revision: open.revision,
-        ports: open.ports,
-    }
+    tapewoad::Opening::new(open.session, open.ports)
+        .with_first_sequence(open.sequence)
+        .with_recovery_revision(open.revision)
 }
 
 pub fn to_endpoints(list: &[(u8, script::TransferType)]) -> Vec<tapewoad::Endpoint> {

@@ -1,8 +1,11 @@
 //! A session's life over a device that echoes: what is written to endpoint 01h
-//! is read back from 81h.
+//! is read back from 81h, which stalls once and is reset.
 //!
-//! Run by `cargo run --example life -p tapewoad` in `host/`.
-use std::collections::{HashMap, VecDeque};
+//! Run by `cargo run --example life -p tapewoad` in `host/`; a test holds what it
+//! prints to life.txt.
+use std::collections::VecDeque;
+use std::error::Error;
+use std::io::{self, Write};
 
 use tapewoad::*;
 
@@ -13,7 +16,10 @@ struct Echo {
     sessions: u64,
     /// Bytes that were written and not yet read.
     written: VecDeque<u8>,
-    submitted: HashMap<u64, OwnedRequest>,
+    /// Requests with their tokens.
+    submitted: Vec<(u64, OwnedRequest)>,
+    /// The endpoint that stalls until it is reset.
+    stalled: Option<u8>,
 }
 
 impl Echo {
@@ -38,11 +44,34 @@ impl Echo {
             quiescent: true,
         }
     }
+
+    /// Stops an endpoint, of which nothing ever moved.
+    fn stop(&mut self, endpoint: u8) -> BackendAbort {
+        let submitted = &mut self.submitted;
+        let stopped = submitted.extract_if(.., |(_, it)| it.metadata.endpoint == endpoint);
+        BackendAbort {
+            completed: Vec::new(),
+            aborted: stopped.map(|(token, _)| token).collect(),
+            restart_ready: true,
+            error: None,
+        }
+    }
+}
+
+/// A stall (completion code 6): until a reset the controller may still write.
+fn stall() -> BackendCompletion {
+    let error = OperationError::new(ErrorCategory::RecoveryRequired, "the endpoint stalled");
+    BackendCompletion {
+        actual_length: None,
+        completion_code: Some(6),
+        data: None,
+        error: Some(error.with_completion_code(6)),
+        quiescent: false,
+    }
 }
 
 impl Backend for Echo {
-    fn acquire(&mut self, target: &str) -> Result<(), AcquisitionFailure> {
-        println!("acquiring {target}");
+    fn acquire(&mut self, _target: &str) -> Result<(), AcquisitionFailure> {
         Ok(())
     }
 
@@ -66,7 +95,7 @@ impl Backend for Echo {
 
     fn submit_request(&mut self, request: OwnedRequest) -> Result<u64, OperationError> {
         self.next_token += 1;
-        self.submitted.insert(self.next_token, request);
+        self.submitted.push((self.next_token, request));
         Ok(self.next_token)
     }
 
@@ -75,23 +104,28 @@ impl Backend for Echo {
     }
 
     fn poll_request(&mut self, token: u64) -> Result<Option<BackendCompletion>, OperationError> {
-        let request = self.submitted.remove(&token);
-        Ok(request.map(|request| self.completion(request)))
+        let Some(place) = self.submitted.iter().position(|(it, _)| *it == token) else {
+            return Ok(None);
+        };
+        if self.stalled == Some(self.submitted[place].1.metadata.endpoint) {
+            return Ok(Some(stall()));
+        }
+        let (_, request) = self.submitted.remove(place);
+        Ok(Some(self.completion(request)))
     }
 
-    /// Nothing of a stopped endpoint ever moved.
+    fn reset_endpoint_recovery(
+        &mut self,
+        _slot: u8,
+        endpoint: u8,
+        _preserve: bool,
+    ) -> Result<BackendAbort, OperationError> {
+        self.stalled = None;
+        Ok(self.stop(endpoint))
+    }
+
     fn abort_endpoint(&mut self, _slot: u8, endpoint: u8) -> Result<BackendAbort, OperationError> {
-        let stopped = |_: &u64, request: &mut OwnedRequest| request.metadata.endpoint == endpoint;
-        Ok(BackendAbort {
-            completed: Vec::new(),
-            aborted: self
-                .submitted
-                .extract_if(stopped)
-                .map(|(token, _)| token)
-                .collect(),
-            restart_ready: true,
-            error: None,
-        })
+        Ok(self.stop(endpoint))
     }
 }
 
@@ -104,15 +138,27 @@ const DEVICE: DeviceId = DeviceId {
     slot: 1,
 };
 
-fn bulk(endpoint: u8, direction: Direction, length: usize, data: &[u8]) -> RequestSpec {
+/// A write to endpoint 01h.
+fn write(data: &[u8]) -> RequestSpec {
     RequestSpec {
         device: DEVICE,
-        endpoint,
+        endpoint: 0x01,
         transfer_type: TransferType::Bulk,
-        direction,
-        length,
+        direction: Direction::Out,
+        length: data.len(),
         setup: None,
         data: data.into(),
+    }
+}
+
+/// A read of at most 64 bytes from endpoint 81h.
+fn read() -> RequestSpec {
+    RequestSpec {
+        endpoint: 0x81,
+        direction: Direction::In,
+        length: 64,
+        data: Vec::new(),
+        ..write(&[])
     }
 }
 
@@ -135,36 +181,74 @@ fn place(usb: &mut UsbSession<Echo>) -> Result<(), Refusal> {
     usb.set_endpoints(DEVICE.slot, &[endpoint(0x01), endpoint(0x81)])
 }
 
-fn main() -> Result<(), Refusal> {
+fn show(out: &mut impl Write, report: &RequestReport) -> io::Result<()> {
+    let sequence = report.id.sequence;
+    let text = String::from_utf8_lossy(report.data.as_deref().unwrap_or_default());
+    match &report.state {
+        RequestState::Failed { error, .. } => writeln!(out, "request {sequence}: {error}"),
+        state => writeln!(out, "request {sequence}: {state:?} {text:?}"),
+    }
+}
+
+/// A write comes back, a wrong request is refused, an idle one is taken back.
+fn echo(usb: &mut UsbSession<Echo>, out: &mut impl Write) -> Result<(), Box<dyn Error>> {
+    let written = usb.submit_request(write(b"hello"))?;
+    let back = usb.submit_request(read())?;
+    let (count, bytes) = (usb.held_count(), usb.held_bytes());
+    writeln!(out, "{count} requests held, {bytes} bytes")?;
+    show(out, &usb.poll_request(written.id)?)?;
+    show(out, &usb.poll_request(back.id)?)?;
+
+    // Nothing of it reaches the device.
+    let mut wrong = read();
+    wrong.data = b"data".into();
+    let refusal = usb.submit_request(wrong).expect_err("IN has no data");
+    writeln!(out, "{refusal}: {}", refusal.error)?;
+
+    let idle = usb.submit_request(read())?;
+    let report = usb.abort_request(idle.id)?;
+    writeln!(out, "aborted: {}", report.aborted.len())?;
+    Ok(())
+}
+
+/// A read stalls, and everything waits. The reset takes it back; the write that
+/// waited goes on, and so does the next read.
+fn stall_and_reset(usb: &mut UsbSession<Echo>, out: &mut impl Write) -> Result<(), Box<dyn Error>> {
+    let written = usb.submit_request(write(b"again"))?;
+    let stalled = usb.submit_request(read())?;
+    usb.backend_mut().stalled = Some(0x81);
+    show(out, &usb.poll_request(stalled.id)?)?;
+    writeln!(out, "{:?}, {} held", usb.state(), usb.held_count())?;
+    let refusal = usb.poll_request(written.id).expect_err("it waits");
+    writeln!(out, "{refusal}: {}", refusal.error)?;
+
+    let report = usb.reset_endpoint_request(stalled.id, false)?;
+    let (aborted, ready) = (report.aborted.len(), report.restart_ready);
+    writeln!(out, "reset: {aborted} aborted, ready: {ready}")?;
+    writeln!(out, "{:?}, {} held", usb.state(), usb.held_count())?;
+
+    show(out, &usb.poll_request(written.id)?)?;
+    let next = usb.submit_request(read())?;
+    show(out, &usb.poll_request(next.id)?)?;
+    Ok(())
+}
+
+/// The whole life, told line by line.
+pub(crate) fn run(out: &mut impl Write) -> Result<(), Box<dyn Error>> {
     let mut usb = UsbSession::with_store(Echo::default(), Opening::new(1, Some(1)), 8, 512)?;
     usb.acquire("0000:00:14.0")?;
     usb.initialize()?;
     place(&mut usb)?;
-
-    let out = usb.submit_request(bulk(0x01, Direction::Out, 5, b"hello"))?;
-    let back = usb.submit_request(bulk(0x81, Direction::In, 64, b""))?;
-    println!(
-        "{} requests held, {} bytes",
-        usb.held_count(),
-        usb.held_bytes()
-    );
-    usb.poll_request(out.id)?;
-    let report = usb.poll_request(back.id)?;
-    println!("{:?}: {:?}", report.state, report.data);
-
-    // A wrong request is refused by its number, and nothing reaches the device.
-    let refusal = usb.submit_request(bulk(0x81, Direction::In, 64, b"data"));
-    println!("{}", refusal.expect_err("IN has no data"));
-
-    // What is not read is taken back.
-    let idle = usb.submit_request(bulk(0x81, Direction::In, 64, b""))?;
-    let report = usb.abort_request(idle.id)?;
-    println!("aborted: {:?}", report.aborted);
-
+    echo(&mut usb, out)?;
+    stall_and_reset(&mut usb, out)?;
     for report in usb.request_reports()? {
         usb.reclaim_request(report.id)?;
     }
     usb.close()?;
-    println!("{:?}, next session {}", usb.state(), usb.identity());
+    writeln!(out, "{:?}, next session {}", usb.state(), usb.identity())?;
     Ok(())
+}
+
+fn main() -> Result<(), Box<dyn Error>> {
+    run(&mut io::stdout())
 }

@@ -8,6 +8,7 @@ use crate::models::{ErrorCategory, OperationError};
 /// Why a call was refused: the number of document 01's table, and the error that
 /// the original gives. For 33 and 45 it is the backend's own.
 #[derive(Debug, Clone, PartialEq, Eq)]
+#[non_exhaustive]
 pub struct Refusal {
     /// The number of the table.
     pub number: u16,
@@ -23,11 +24,15 @@ impl From<Refusal> for OperationError {
 
 impl Display for Refusal {
     fn fmt(&self, f: &mut Formatter<'_>) -> fmt::Result {
-        write!(f, "refused ({}), {}", self.number, self.error)
+        write!(f, "refused ({})", self.number)
     }
 }
 
-impl std::error::Error for Refusal {}
+impl std::error::Error for Refusal {
+    fn source(&self) -> Option<&(dyn std::error::Error + 'static)> {
+        Some(&self.error)
+    }
+}
 
 /// The text of a refusal's number: the original's, or one of its texts where it
 /// has several. 33 and 45 have none: their errors are the backend's own.
@@ -162,20 +167,13 @@ impl Messages {
         if refusal.number == 48 {
             error.message = "invalid completion in abort result".into();
         }
-        Refusal {
-            number: refusal.number,
-            error,
-        }
+        let number = refusal.number;
+        Refusal { number, error }
     }
 }
 
 /// An error for calls that need one and will not read it.
-pub const UNREAD: calls::Error = calls::Error {
-    category: ErrorCategory::Validation,
-    message: 0,
-    os_code: None,
-    completion_code: None,
-};
+pub const UNREAD: calls::Error = calls::Error::new(ErrorCategory::Validation, 0);
 
 #[cfg(test)]
 mod tests {

@@ -1,7 +1,9 @@
 //! The original's session over a backend, with the library beneath.
+mod in_flight;
 mod recovery;
 
 use std::cell::{Ref, RefCell};
+use std::fmt::{self, Debug, Formatter};
 
 use crate::backend::Backend;
 use crate::calls::{self, Answer, Begun, Call, Plan, Reading, Store, Submit, unexpected};
@@ -11,6 +13,9 @@ use crate::models::{
     ValidatedControlPlan,
 };
 use crate::refusal::{Messages, Refusal, UNREAD};
+use in_flight::{InFlight, Operation};
+
+pub use in_flight::PANICKED_TOKEN;
 
 /// A session that owns its rows, the bus and their bytes, and a backend.
 ///
@@ -21,6 +26,8 @@ use crate::refusal::{Messages, Refusal, UNREAD};
 ///
 /// A backend's message texts come back as they were: each different text is
 /// kept under a number of its own, up to some 64,000 of them.
+///
+/// A backend that panics leaves nothing in flight (see [`Backend`]).
 ///
 /// Like the original it forgets its backend, without dropping it, where it is
 /// dropped before a close passed: what the device may still touch must stay.
@@ -35,13 +42,21 @@ pub struct UsbSession<B: Backend> {
 
 impl<B: Backend> UsbSession<B> {
     /// A session over 1,024 rows of 65,536 bytes, as the original has them.
+    ///
+    /// # Panics
+    /// If the library is of another version, or so much memory can't be had.
     pub fn new(backend: B, opening: Opening) -> Self {
         Self::with_store(backend, opening, Store::ROWS, Store::ROW_BYTES)
             .unwrap_or_else(|refusal| unexpected(refusal))
     }
 
-    /// A session over a smaller store; refused (3) where it has not 1 to 1,024
-    /// rows of 1 to 65,536 bytes.
+    /// A session over a smaller store.
+    ///
+    /// # Errors
+    /// 3 where it has not 1 to 1,024 rows of 1 to 65,536 bytes.
+    ///
+    /// # Panics
+    /// As [`new`](Self::new).
     pub fn with_store(
         backend: B,
         opening: Opening,
@@ -83,17 +98,23 @@ impl<B: Backend> UsbSession<B> {
         self.backend.as_mut().expect(TAKEN_BY_DROP)
     }
 
-    /// The memory beneath: the session's words, ports and bytes.
+    /// The memory beneath: the session's words, ports and bytes. While it is
+    /// borrowed, reports and counts panic: the library takes it for change.
     pub fn store(&self) -> Ref<'_, Store> {
         self.store.borrow()
     }
 
-    /// The memory beneath, for calls of the lower layer.
+    /// The memory beneath, for calls of the lower layer. What is begun by these
+    /// must be ended by these: until then the session's own calls but reports are
+    /// refused (1).
     pub fn store_mut(&mut self) -> &mut Store {
         self.store.get_mut()
     }
 
     /// Places a device, in place of its slot's.
+    ///
+    /// # Errors
+    /// None of its own.
     pub fn set_device(&mut self, device: DeviceSnapshot) -> Result<(), Refusal> {
         self.done(&Call::SetDevice(device))?;
         self.port_numbers[usize::from(device.id.slot)] = device.port.number;
@@ -101,6 +122,9 @@ impl<B: Backend> UsbSession<B> {
     }
 
     /// Places a port's generation and last reading.
+    ///
+    /// # Errors
+    /// 29 without ports, 30 where this is none of them.
     pub fn set_port(
         &mut self,
         number: u8,
@@ -115,16 +139,25 @@ impl<B: Backend> UsbSession<B> {
     }
 
     /// Places up to 30 endpoints, in place of the slot's list.
+    ///
+    /// # Errors
+    /// 53 where there are more.
     pub fn set_endpoints(&mut self, slot: u8, endpoints: &[Endpoint]) -> Result<(), Refusal> {
         self.done(&Call::SetEndpoints { slot, endpoints })
     }
 
     /// Sets or clears the mark "requires raw reconciliation" of a slot.
+    ///
+    /// # Errors
+    /// None of its own.
     pub fn set_reconcile(&mut self, slot: u8, set: bool) -> Result<(), Refusal> {
         self.done(&Call::SetReconcile { slot, set })
     }
 
     /// The original's `Session::acquire`.
+    ///
+    /// # Errors
+    /// 50 where it is not Closed, and the backend's error (45).
     pub fn acquire(&mut self, target: &str) -> Result<(), Refusal> {
         let mut reply = Ok(());
         if self.state() == ControllerState::Closed {
@@ -135,6 +168,9 @@ impl<B: Backend> UsbSession<B> {
     }
 
     /// The original's `Session::initialize`.
+    ///
+    /// # Errors
+    /// 51 where it is not AcquiredUnknown, and the backend's error (45).
     pub fn initialize(&mut self) -> Result<(), Refusal> {
         let mut reply = Ok(());
         if self.state() == ControllerState::AcquiredUnknown {
@@ -145,6 +181,10 @@ impl<B: Backend> UsbSession<B> {
     }
 
     /// The original's `Session::close`; one that passes also empties the rows.
+    ///
+    /// # Errors
+    /// 52 without a fresh session number, and the backend's error (45). A session
+    /// that is Closed is not refused.
     pub fn close(&mut self) -> Result<(), Refusal> {
         let (mut fresh, mut reply) = (None, Ok(()));
         if self.state() != ControllerState::Closed {
@@ -158,11 +198,19 @@ impl<B: Backend> UsbSession<B> {
     }
 
     /// Submits a request without a list of packets.
+    ///
+    /// # Errors
+    /// As [`submit_request_packets`](Self::submit_request_packets), but for 4.
     pub fn submit_request(&mut self, spec: RequestSpec) -> Result<RequestReport, Refusal> {
         self.submit_request_packets(spec, None)
     }
 
     /// Submits a request; an isochronous one may have a list of packet lengths.
+    ///
+    /// # Errors
+    /// By the packets (4), the capacity (5), the request itself (6 to 17), its
+    /// device and port (26 to 38) and the sequence numbers (39); the backend's
+    /// error is 45, and 33 where it is of a port's reading.
     pub fn submit_request_packets(
         &mut self,
         spec: RequestSpec,
@@ -193,14 +241,19 @@ impl<B: Backend> UsbSession<B> {
             metadata: metadata(&begun.metadata),
             buffer: self.buffer(&begun),
         };
-        let reply = match packets {
-            Some(packets) => self.backend_mut().submit_iso_packets(request, packets),
-            None => self.backend_mut().submit_request(request),
-        };
+        let reply = self.ask(Operation::Submission(begun.id), |backend| match packets {
+            Some(packets) => backend.submit_iso_packets(request, packets),
+            None => backend.submit_request(request),
+        });
         self.submit_reply(reply)
     }
 
     /// Submits a control transfer with every stage said.
+    ///
+    /// # Errors
+    /// By the capacity (5), the plan itself (6, 7, 18 to 25), its device and port
+    /// (26 to 35) and the sequence numbers (39); the backend's error is 45, and 33
+    /// where it is of a port's reading.
     pub fn submit_control_plan(&mut self, plan: ControlPlan) -> Result<RequestReport, Refusal> {
         let answer = self.submit(plan.device.slot, |[reading, _]| {
             Call::SubmitControlPlan(Plan {
@@ -227,17 +280,24 @@ impl<B: Backend> UsbSession<B> {
             status_direction: stages.status_direction,
             profile: stages.profile,
         };
-        let reply = self.backend_mut().submit_control_plan(plan);
+        let reply = self.ask(Operation::Submission(begun.id), |backend| {
+            backend.submit_control_plan(plan)
+        });
         self.submit_reply(reply)
     }
 
     /// Asks the backend for a Pending request's completion; reports any other.
+    ///
+    /// # Errors
+    /// 40 for an unknown request; 28 for a Pending one where the controller is not
+    /// Initialized; the backend's error (45).
     pub fn poll_request(&mut self, id: RequestId) -> Result<RequestReport, Refusal> {
         let answer = self.store.get_mut().apply(&Call::PollRequest(id));
         let Answer::Ask { token } = answer else {
             return self.reported(answer);
         };
-        let answer = match self.backend_mut().poll_request(token) {
+        let reply = self.ask(Operation::Poll, |backend| backend.poll_request(token));
+        let answer = match reply {
             Ok(None) => self.store.get_mut().apply(&Call::PollReply(Ok(None))),
             Ok(Some(done)) => {
                 let reply = Ok(Some(completion(&mut self.messages, &done)));
@@ -252,18 +312,27 @@ impl<B: Backend> UsbSession<B> {
     }
 
     /// Flags a Pending request as cancelled; the device goes on.
+    ///
+    /// # Errors
+    /// 40 for an unknown request, 41 for one that is not Pending.
     pub fn logical_cancel_request(&mut self, id: RequestId) -> Result<RequestReport, Refusal> {
         let answer = self.store.get_mut().apply(&Call::LogicalCancelRequest(id));
         self.reported(answer)
     }
 
     /// Flags a Pending request as timed out; the device goes on.
+    ///
+    /// # Errors
+    /// 40 for an unknown request, 41 for one that is not Pending.
     pub fn timeout_request(&mut self, id: RequestId) -> Result<RequestReport, Refusal> {
         let answer = self.store.get_mut().apply(&Call::TimeoutRequest(id));
         self.reported(answer)
     }
 
     /// Frees the row of a request that is no longer held, and reports it.
+    ///
+    /// # Errors
+    /// 40 for an unknown request, 42 for one that is held.
     pub fn reclaim_request(&mut self, id: RequestId) -> Result<RequestReport, Refusal> {
         let report = self.request_status(id)?;
         match self.store.get_mut().apply(&Call::ReclaimRequest(id)) {
@@ -274,12 +343,18 @@ impl<B: Backend> UsbSession<B> {
     }
 
     /// Reports a request.
+    ///
+    /// # Errors
+    /// 40 for an unknown one.
     pub fn request_status(&self, id: RequestId) -> Result<RequestReport, Refusal> {
         let answer = self.store.borrow_mut().apply(&Call::RequestStatus(id));
         self.reported(answer)
     }
 
     /// Reports every request, by ascending id.
+    ///
+    /// # Errors
+    /// None of its own.
     pub fn request_reports(&self) -> Result<Vec<RequestReport>, Refusal> {
         let mut reports: Vec<RequestReport> = Vec::new();
         loop {
@@ -338,6 +413,18 @@ impl<B: Backend> UsbSession<B> {
             }
         }
         self.store.get_mut().apply(&call(readings))
+    }
+
+    /// Asks the backend about what is in flight, which ends even if it panics.
+    fn ask<R>(&mut self, operation: Operation, ask: impl FnOnce(&mut B) -> R) -> R {
+        let in_flight = InFlight {
+            store: self.store.get_mut(),
+            messages: &mut self.messages,
+            operation,
+        };
+        let reply = ask(self.backend.as_mut().expect(TAKEN_BY_DROP));
+        std::mem::forget(in_flight);
+        reply
     }
 
     fn buffer(&mut self, begun: &Begun) -> Vec<u8> {
@@ -435,6 +522,15 @@ fn metadata(metadata: &calls::Metadata) -> RequestMetadata {
         direction: metadata.direction,
         requested_length: metadata.requested_length as usize,
         setup: metadata.setup,
+    }
+}
+
+/// The backend need not have it, and is not shown.
+impl<B: Backend> Debug for UsbSession<B> {
+    fn fmt(&self, f: &mut Formatter<'_>) -> fmt::Result {
+        let mut shown = f.debug_struct("UsbSession");
+        shown.field("store", &*self.store.borrow());
+        shown.finish_non_exhaustive()
     }
 }
 

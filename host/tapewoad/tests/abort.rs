@@ -31,11 +31,8 @@ fn whole(completed: Vec<(u64, BackendCompletion)>, aborted: &[u64]) -> BackendAb
 }
 
 fn stalled() -> BackendCompletion {
-    let error = OperationError {
-        category: ErrorCategory::RecoveryRequired,
-        completion_code: Some(6),
-        ..OperationError::validation("stall")
-    };
+    let error =
+        OperationError::new(ErrorCategory::RecoveryRequired, "stall").with_completion_code(6);
     BackendCompletion {
         actual_length: None,
         completion_code: Some(6),
@@ -54,17 +51,12 @@ fn an_abort_reports_what_became_of_its_requests() {
     ];
     reply(&mut usb, whole(completed, &[8]));
     let report = usb.abort_request(id(1)).unwrap();
-    let expected = AbortReport {
-        target: id(1),
-        device: DEVICE,
-        endpoint: 0x81,
-        scope: "endpoint_wide".into(),
-        completed: vec![id(2), id(0)],
-        aborted: vec![id(1)],
-        restart_ready: true,
-        error: None,
-    };
-    assert_eq!(report, expected);
+    assert_eq!(report.target, id(1));
+    assert_eq!((report.device, report.endpoint), (DEVICE, 0x81));
+    assert_eq!(report.scope, "endpoint_wide");
+    assert_eq!(report.completed, [id(2), id(0)]);
+    assert_eq!(report.aborted, [id(1)]);
+    assert_eq!((report.restart_ready, report.error), (true, None));
     assert_eq!(asked(&usb), ["abort 2 81"]);
     let data = |usb: &UsbSession<Scripted>, it| usb.request_status(id(it)).unwrap().data;
     assert_eq!(data(&usb, 2), Some(vec![1, 2, 3]));

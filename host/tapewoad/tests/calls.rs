@@ -122,10 +122,7 @@ fn a_failed_submission_frees_its_row_and_spends_its_number() {
     let mut store = ready();
     store.apply(&submit());
     let answer = store.apply(&Call::SubmitReply(Err(ERROR)));
-    let refused = Refusal {
-        number: 45,
-        error: ERROR,
-    };
+    let refused = Refusal::new(45, ERROR);
     assert_eq!(answer, Answer::Refused(refused));
     assert_eq!(store.state(), ControllerState::RecoveryRequired);
     assert_eq!(store.recovery_revision(), Some(1));

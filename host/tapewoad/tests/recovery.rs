@@ -76,26 +76,17 @@ fn whole<'a>(completed: &'a [(u64, Completion<'a>)], aborted: &'a [u64]) -> Call
 fn a_recovery_is_two_calls() {
     let mut store = three();
     let recovering = started(&mut store, &Call::AbortRequest(id(1)));
-    let expected = Recovering {
-        target: id(1),
-        device: DEVICE,
-        endpoint: 0x81,
-        kind: Recovery::Abort,
-        tokens: vec![7, 8, 9],
-    };
-    assert_eq!(recovering, expected);
+    assert_eq!(recovering.target, id(1));
+    assert_eq!((recovering.device, recovering.endpoint), (DEVICE, 0x81));
+    assert_eq!(recovering.kind, Recovery::Abort);
+    assert_eq!(recovering.tokens, [7, 8, 9]);
     let completed = &[(9, done(&[1, 2, 3])), (7, done(&[]))];
     let report = reported(store.apply(&whole(completed, &[8])));
-    let expected = AbortReport {
-        target: id(1),
-        device: DEVICE,
-        endpoint: 0x81,
-        completed: vec![id(2), id(0)],
-        aborted: vec![id(1)],
-        restart_ready: true,
-        error: None,
-    };
-    assert_eq!(report, expected);
+    assert_eq!(report.target, id(1));
+    assert_eq!((report.device, report.endpoint), (DEVICE, 0x81));
+    assert_eq!(report.completed, [id(2), id(0)]);
+    assert_eq!(report.aborted, [id(1)]);
+    assert_eq!((report.restart_ready, report.error), (true, None));
     assert_eq!(store.completed_bytes(id(2)).unwrap(), [1, 2, 3]);
     assert_eq!(store.completed_bytes(id(0)).unwrap(), []);
     assert_eq!(store.apply(&Call::HeldCount), Answer::Number(0));
@@ -288,10 +279,7 @@ fn skipped_bytes_belong_to_their_completion() {
 fn an_error_marks_and_takes_nothing_back() {
     let mut store = three();
     started(&mut store, &Call::AbortRequest(id(0)));
-    let refused = Refusal {
-        number: 45,
-        error: ERROR,
-    };
+    let refused = Refusal::new(45, ERROR);
     let answer = store.apply(&Call::RecoveryReply(Err(ERROR)));
     assert_eq!(answer, Answer::Refused(refused));
     assert_eq!(store.state(), ControllerState::RecoveryRequired);
@@ -397,13 +385,8 @@ fn an_invalid_completion_says_its_code() {
         ..done(&[])
     };
     let answer = store.apply(&whole(&[(8, done(&[1])), (7, stalled)], &[9]));
-    let error = Error {
-        category: ErrorCategory::RecoveryRequired,
-        message: 48,
-        os_code: None,
-        completion_code: Some(6),
-    };
-    assert_eq!(answer, Answer::Refused(Refusal { number: 48, error }));
+    let error = Error::new(ErrorCategory::RecoveryRequired, 48).with_completion_code(6);
+    assert_eq!(answer, Answer::Refused(Refusal::new(48, error)));
     // The entry before it stays.
     assert_eq!(store.completed_bytes(id(1)).unwrap(), [1]);
     assert_eq!(store.apply(&Call::HeldCount), Answer::Number(2));

@@ -10,12 +10,7 @@ use tapewoad::calls::*;
 /// Closed, without ports, revision and stall.
 fn bare() -> Store {
     let mut store = Store::new(2, 16);
-    let opening = Opening {
-        session: 1,
-        first_sequence: 0,
-        recovery_revision: None,
-        ports: None,
-    };
+    let opening = Opening::new(1, None).with_recovery_revision(None);
     assert_eq!(store.open(opening), Answer::Passed);
     store
 }
@@ -40,12 +35,8 @@ fn polling() -> Store {
 /// With a stall that is noted.
 fn stalled() -> Store {
     let mut store = polling();
-    let error = Error {
-        category: tapewoad::ErrorCategory::RecoveryRequired,
-        message: 77,
-        os_code: None,
-        completion_code: Some(6),
-    };
+    let category = tapewoad::ErrorCategory::RecoveryRequired;
+    let error = Error::new(category, 77).with_completion_code(6);
     let Call::PollReply(Ok(Some(done))) = completion(&[]) else {
         unreachable!("a completion")
     };

@@ -19,10 +19,7 @@ const WORDS: [(i32, u64); 6] = [
 ];
 
 fn error(number: i32) -> Error {
-    Error {
-        os_code: Some(number),
-        ..ERROR
-    }
+    ERROR.with_os_code(number)
 }
 
 /// One row of 16 bytes, whose answers are read as words.

@@ -10,12 +10,7 @@ use tapewoad::{ControlProfile, Opening, SetupPacket};
 type Unread<'a> = (Call<'a>, Vec<usize>);
 
 fn openings() -> Vec<Unread<'static>> {
-    let opening = Opening {
-        session: 2,
-        first_sequence: 0,
-        recovery_revision: None,
-        ports: None,
-    };
+    let opening = Opening::new(2, None).with_recovery_revision(None);
     let open = Call::Open {
         opening,
         rows: 2,

@@ -2,7 +2,7 @@
 use std::collections::BTreeMap;
 
 use script::{AbortReply, AbortReport, Asked, Call, DeviceId, Outcome, Recovery, RequestId};
-use tapewoad::calls::{self, Answer, Recovering};
+use tapewoad::calls::{self, Answer};
 
 use super::{Port, Told, row_state};
 use crate::{answered, convert};
@@ -43,13 +43,11 @@ impl Port {
             answer => return Ok((self.outcome(&call, answer)?, Asked::Nothing, 0)),
         };
         let (device, endpoint, tokens) = self.affected(target)?;
-        let expected = Recovering {
-            target: convert::to_request_id(target),
-            device: convert::to_device_id(device),
-            endpoint,
-            kind: begun.kind,
-            tokens,
-        };
+        let mut expected = begun.clone();
+        expected.target = convert::to_request_id(target);
+        expected.device = convert::to_device_id(device);
+        expected.endpoint = endpoint;
+        expected.tokens = tokens;
         if begun != expected {
             return Err(format!("the port begins {begun:?}, not {expected:?}"));
         }

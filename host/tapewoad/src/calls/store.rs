@@ -1,5 +1,5 @@
 //! The memory that the library is lent, and calls on it.
-use std::fmt::{self, Display, Formatter};
+use std::fmt::{self, Debug, Display, Formatter};
 use std::ops::Range;
 
 use super::decode::{controller_state, option_u32};
@@ -12,6 +12,7 @@ use crate::models::{ControllerState, DeviceId, Opening, RequestId};
 
 /// Why a call got no answer. Nothing has changed then.
 #[derive(Debug, Clone, Copy, PartialEq, Eq)]
+#[non_exhaustive]
 pub enum Status {
     /// 1: the words are no call.
     NoCall,
@@ -116,6 +117,10 @@ impl Store {
     }
 
     /// Runs a call, and gives the status where it got no answer.
+    ///
+    /// # Errors
+    /// The status, where the library has no answer or one that is not in
+    /// docs/CALLS.md. A refusal is an answer.
     pub fn try_apply(&mut self, call: &Call<'_>) -> Result<Answer, Status> {
         let mut words = std::mem::take(&mut self.words);
         call.write(&mut words);
@@ -125,6 +130,9 @@ impl Store {
     }
 
     /// Runs a call given as words.
+    ///
+    /// # Errors
+    /// As [`try_apply`](Self::try_apply).
     pub fn apply_words(&mut self, call: &[u64], bytes: &[u8]) -> Result<Answer, Status> {
         let mut out = [0; ANSWER_WORDS];
         let memory = Memory {
@@ -153,8 +161,10 @@ impl Store {
         &self.area[part(start, length)]
     }
 
-    /// The bytes of a Completed request, and none of another that has a report;
-    /// refused (40) where there is no report of it.
+    /// The bytes of a Completed request, and none of another that has a report.
+    ///
+    /// # Errors
+    /// 40 where there is no report of it.
     pub fn completed_bytes(&mut self, id: RequestId) -> Result<&[u8], Refusal> {
         match self.apply(&Call::CompletedBytes(id)) {
             Answer::Bytes { start, length } => Ok(self.bytes(start, length)),
@@ -223,6 +233,21 @@ impl Store {
     /// are told by [`Status::NoSession`].
     pub fn session_words_mut(&mut self) -> &mut [u64; SESSION_WORDS] {
         &mut self.session
+    }
+}
+
+/// Without rows and bytes.
+impl Debug for Store {
+    fn fmt(&self, f: &mut Formatter<'_>) -> fmt::Result {
+        f.debug_struct("Store")
+            .field("identity", &self.identity())
+            // None where no call wrote the words.
+            .field("state", &controller_state(self.session[6]))
+            .field("next_sequence", &self.next_sequence())
+            .field("recovery_revision", &self.recovery_revision())
+            .field("rows", &self.row_count)
+            .field("row_bytes", &self.row_bytes)
+            .finish_non_exhaustive()
     }
 }
 

@@ -1,5 +1,5 @@
 //! Aborts and resets.
-use super::{UsbSession, completion};
+use super::{Operation, UsbSession, completion};
 use crate::backend::Backend;
 use crate::calls::{Abort, Answer, Call, Recovery, unexpected};
 use crate::models::{AbortReport, BackendAbort, OperationError, RequestId};
@@ -7,12 +7,21 @@ use crate::refusal::Refusal;
 
 impl<B: Backend> UsbSession<B> {
     /// Takes back every held request of the target's device and endpoint.
+    ///
+    /// # Errors
+    /// 40 for an unknown target, 43 for one that is not held, 44 where the
+    /// controller is neither Initialized nor RecoveryRequired; the backend's error
+    /// (45); and what its reply is refused by: 46 for its tokens, 47, 48 and 41 for
+    /// a completion, whose predecessors stay applied.
     pub fn abort_request(&mut self, target: RequestId) -> Result<AbortReport, Refusal> {
         self.recover_request(&Call::AbortRequest(target))
     }
 
     /// Takes them back by a reset of the endpoint, which may bring a controller
     /// that stalled there back to Initialized.
+    ///
+    /// # Errors
+    /// As [`abort_request`](Self::abort_request).
     pub fn reset_endpoint_request(
         &mut self,
         target: RequestId,
@@ -28,13 +37,12 @@ impl<B: Backend> UsbSession<B> {
             answer => unexpected(answer),
         };
         let (slot, endpoint) = (recovery.device.slot, recovery.endpoint);
-        let backend = self.backend_mut();
-        let reply = match recovery.kind {
+        let reply = self.ask(Operation::Recovery, |backend| match recovery.kind {
             Recovery::Abort => backend.abort_endpoint(slot, endpoint),
             Recovery::Reset { preserve } => {
                 backend.reset_endpoint_recovery(slot, endpoint, preserve)
             }
-        };
+        });
         match self.recovery_reply(reply) {
             Answer::Recovered(report) => Ok(AbortReport {
                 target: report.target,

@@ -143,10 +143,7 @@ pub fn completion(data: &[u8], code: u32) -> BackendCompletion {
 }
 
 pub fn controller_error(text: &str) -> OperationError {
-    OperationError {
-        category: ErrorCategory::Controller,
-        os_code: Some(-5),
-        completion_code: Some(4),
-        ..OperationError::validation(text)
-    }
+    OperationError::new(ErrorCategory::Controller, text)
+        .with_os_code(-5)
+        .with_completion_code(4)
 }

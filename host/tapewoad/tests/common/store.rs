@@ -3,12 +3,7 @@ use super::{DEVICE, ENDPOINTS, WORD, id, snapshot};
 use tapewoad::calls::*;
 use tapewoad::{Direction, ErrorCategory, Opening, TransferType};
 
-pub const ERROR: Error = Error {
-    category: ErrorCategory::Timeout,
-    message: 77,
-    os_code: None,
-    completion_code: None,
-};
+pub const ERROR: Error = Error::new(ErrorCategory::Timeout, 77);
 
 /// Two rows of 16 bytes, Initialized, with one configured device on port 1.
 pub fn ready() -> Store {
