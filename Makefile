@@ -1,7 +1,7 @@
 # make run: proves and runs the programs `examples` and `life`; make test: the merge gate; make fmt: lays every file out.
 SHELL := /bin/bash
 .SHELLFLAGS := -o pipefail -c
-.PHONY: run test fmt staticlib oracle compare
+.PHONY: run test fmt staticlib oracle compare fuzz
 
 run:
 	@rt check examples life | .ci/progress examples life
@@ -26,3 +26,7 @@ oracle:
 # Runs the unchanged Rust and the port on some millions of generated calls.
 compare: staticlib
 	$(MAKE) --no-print-directory -C host compare
+
+# Throws bad words, sessions and slices at the library for SECONDS seconds (180 without it).
+fuzz: staticlib
+	$(MAKE) --no-print-directory -C host fuzz

@@ -15,7 +15,8 @@ ghost use Rattle.bus.specs.Endpoints.{hasEndpoint, setEndpoints};
 // The list takes the place of the slot's; 53: it has more than 30.
 pub fn set_endpoints(bus: &mut [u64], slot: u8, list: &[u64]) -> Verdict
     requires { ⌜ length (now bus) ≡ busWords ⌝ }
-    ensures { λ r. ⌜ after r (busOf (now (bus .exit))) ≡ setEndpoints slot (now (list .entry)) (busOf (now (bus .entry))) ⌝ }
+    ensures { λ r. ⌜ after r (busOf (now (bus .exit)))
+        ≡ setEndpoints slot (now (list .entry)) (busOf (now (bus .entry))) ⌝ }
 {
     if list.len() > 30 {
         return Verdict::Refused(models::refuse(53));

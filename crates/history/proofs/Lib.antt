@@ -16,6 +16,11 @@ pub mod Refusing
 pub mod Theorem
 pub mod Never
 pub mod Waiting
+pub mod Later
 pub mod Watcher
+pub mod Unwritten
+pub mod Grabber
+pub mod Reset
+pub mod Relied
 pub mod Examples
 pub mod Impostors

@@ -1,6 +1,6 @@
 -- A refusal by 3 leaves whatever the call was handed as it was. Assumes nothing.
 use Prim.Native.Nat.{ℕ}
-use mathlib.Core.Bool.{Bool, true, false, false≢true}
+use mathlib.Core.Bool.{Bool, false, false≢true}
 use mathlib.Core.List.{List, []}
 use mathlib.Core.Path.{_≡_, refl, sym, ap, _∙_}
 use lib.Dec.{eqb}
@@ -28,15 +28,13 @@ use Rattle.models.specs.declared.PortReading.{PortReading}
 use Rattle.models.specs.declared.PortReading.the-variants as reading
 use Rattle.models.specs.declared.RequestId.{RequestId}
 use Rattle.models.specs.declared.RequestMetadata.{RequestMetadata}
-use Rattle.models.specs.declared.RequestState.{RequestState}
-use Rattle.models.specs.declared.RequestState.the-variants.{Pending, Completed, Failed, Aborted}
 use Rattle.models.specs.declared.Verdict.{Verdict}
 use Rattle.models.specs.declared.Verdict.the-variants as verdict
 use Rattle.rows.specs.Store.{Store}
 use Rattle.rows.specs.Table.{rowIn}
 use Rattle.rows.specs.declared.Row.{Row}
 use Rattle.ledger.specs.Apply.{applyBy}
-use Rattle.rules.specs.Rules.{moved, freed, accepted, whilePending, logicalCancel, timeOut, completed, failed, abortConfirmed, reclaimed, changeRow, flagged, withState}
+use Rattle.rules.specs.Rules.{moved, freed, accepted, logicalCancel, timeOut, completed, failed, abortConfirmed, reclaimed, changeRow}
 use Rattle.rules.specs.declared.Change as rules
 use Rattle.rules.specs.declared.Change.the-variants as change
 use Rattle.rules.specs.declared.Step.{Step}
@@ -109,6 +107,7 @@ use Rattle.runs.proofs.Ways.{apply-all, change-all, poll-all, begin-all, reply-
 use Rattle.runs.proofs.Stages.{spend-all, submit-all, plan-all}
 use Rattle.runs.proofs.Entries.{Onward, entries-all}
 use Rattle.runs.proofs.Affected.{placeMeant}
+use Rattle.runs.proofs.Rules.{while-all}
 use Rattle.history.specs.Journal.{refusalNumber}
 
 no : (a : Answer) → eqb (refusalNumber a) 3 ≡ false → a ≡ answer.Refused (refusalOf 3) → ⊥
@@ -141,37 +140,13 @@ OtherStep (step.To q x) = Unit {0}
 
 -- the ledger's 41, 42, 43
 other-step : (r : Row) (c : rules.Change) → OtherStep (changeRow r c)
-unfolding changeRow accepted moved freed logicalCancel whilePending timeOut completed failed abortConfirmed reclaimed
+unfolding changeRow accepted moved freed logicalCancel timeOut completed failed abortConfirmed reclaimed
 other-step r (change.Accept token) = tt
 other-step r change.Discard = tt
-other-step r change.LogicalCancel = go (r .state)
-  where
-    go : (x : RequestState) → OtherStep (whilePending x (λ cancel late. flagged r true late true (r .«timed_out»)))
-    go (Pending a b) = tt
-    go (Completed a b c) = refl
-    go (Failed a b c) = refl
-    go Aborted = refl
-other-step r change.Timeout = go (r .state)
-  where
-    go : (x : RequestState) → OtherStep (whilePending x (λ cancel late. flagged r cancel true (r .«logical_cancel») true))
-    go (Pending a b) = tt
-    go (Completed a b c) = refl
-    go (Failed a b c) = refl
-    go Aborted = refl
-other-step r (change.Complete actual code) = go (r .state)
-  where
-    go : (x : RequestState) → OtherStep (whilePending x (λ cancel late. withState r (Completed actual code cancel)))
-    go (Pending a b) = tt
-    go (Completed a b c) = refl
-    go (Failed a b c) = refl
-    go Aborted = refl
-other-step r (change.Fail e code quiescent) = go (r .state)
-  where
-    go : (x : RequestState) → OtherStep (whilePending x (λ cancel late. withState r (Failed e code quiescent)))
-    go (Pending a b) = tt
-    go (Completed a b c) = refl
-    go (Failed a b c) = refl
-    go Aborted = refl
+other-step r change.LogicalCancel = while-all (r .state) _ OtherStep (λ e. refl) (λ cancel late e. tt)
+other-step r change.Timeout = while-all (r .state) _ OtherStep (λ e. refl) (λ cancel late e. tt)
+other-step r (change.Complete actual code) = while-all (r .state) _ OtherStep (λ e. refl) (λ cancel late e. tt)
+other-step r (change.Fail e code quiescent) = while-all (r .state) _ OtherStep (λ e. refl) (λ cancel late e. tt)
 other-step r change.ConfirmAbort = if-all OtherStep _ _ _ refl tt
 other-step r change.Reclaim = if-all OtherStep _ _ _ refl tt
 

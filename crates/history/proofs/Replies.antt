@@ -14,13 +14,12 @@ use Rattle.models.specs.declared.OperationError.{OperationError}
 use Rattle.models.specs.declared.OptionError.{OptionError}
 use Rattle.models.specs.declared.OptionError.the-variants as error
 use Rattle.models.specs.declared.RequestId.{RequestId}
-use Rattle.models.specs.declared.RequestState.{RequestState}
-use Rattle.models.specs.declared.RequestState.the-variants.{Pending, Completed, Failed, Aborted}
+use Rattle.models.specs.declared.RequestState.the-variants.{Completed, Failed}
 use Rattle.rows.specs.Store.{Store, putIn}
 use Rattle.rows.specs.Table.{emptyRow, isHeld, rowIn}
 use Rattle.rows.specs.declared.Row.{Row}
 use Rattle.ledger.specs.Apply.{applyBy}
-use Rattle.rules.specs.Rules.{moved, freed, withState, accepted, whilePending, completed, failed, changeRow}
+use Rattle.rules.specs.Rules.{moved, freed, withState, accepted, completed, failed, changeRow}
 use Rattle.ledger.specs.Search.{isAt}
 use Rattle.rules.specs.declared.Change.the-variants as change
 use Rattle.rules.specs.declared.Step.{Step}
@@ -49,6 +48,7 @@ use Rattle.runs.specs.Sound.{Sound}
 use Rattle.runs.proofs.Ids.{pending-held}
 use Rattle.runs.proofs.Ways.{apply-all, reply-all, poll-all, finish-all}
 use Rattle.runs.proofs.Facts.{submission-pending, poll-pending}
+use Rattle.runs.proofs.Rules.{while-all}
 use Rattle.history.specs.Journal.{Entry, Journal, entryOf, atEntry, release, markFailed, acceptedAs, testedAs, settledBy, isAsked, endsBy, atWaiting, endedWith, idle, polledBy, pollWaits, View}
 use Rattle.history.proofs.Led.{rowW, entryW, lengthOf, Changed, entry-is}
 use Rattle.history.proofs.Changes.{view-is, discard-change, token-change, settle-change, fail-change}
@@ -56,25 +56,15 @@ use Rattle.history.proofs.Inv.{Inv, marks, effects, waits-for, ends-at}
 
 -- ---- what a completion makes of a Pending row
 complete-to : (r : Row) (actual code : ℕ) → isPending (r .state) ≡ true → (c : Bool) × (changeRow r (change.Complete actual code) ≡ moved (withState r (Completed actual code c)))
-unfolding changeRow completed whilePending
-complete-to r actual code = go (r .state)
-  where
-    go : (s : RequestState) → isPending s ≡ true → (c : Bool) × (whilePending s (λ cancel late. withState r (Completed actual code cancel)) ≡ moved (withState r (Completed actual code c)))
-    go (Pending cancel late) e = (cancel, refl)
-    go (Completed a b c) e = absurd (false≢true e)
-    go (Failed a b c) e = absurd (false≢true e)
-    go Aborted e = absurd (false≢true e)
+unfolding changeRow completed
+complete-to r actual code p =
+    while-all (r .state) _ (λ (x : Step). (c : Bool) × (x ≡ moved (withState r (Completed actual code c)))) (λ e. absurd (false≢true (sym e ∙ p))) (λ cancel late e. (cancel, refl))
 
 fail-to : (r : Row) (x : OperationError) (code : OptionU32) (quiescent : Bool) → isPending (r .state) ≡ true
     → changeRow r (change.Fail x code quiescent) ≡ moved (withState r (Failed x code quiescent))
-unfolding changeRow failed whilePending
-fail-to r x code quiescent = go (r .state)
-  where
-    go : (s : RequestState) → isPending s ≡ true → whilePending s (λ cancel late. withState r (Failed x code quiescent)) ≡ moved (withState r (Failed x code quiescent))
-    go (Pending cancel late) e = refl
-    go (Completed a b c) e = absurd (false≢true e)
-    go (Failed a b c) e = absurd (false≢true e)
-    go Aborted e = absurd (false≢true e)
+unfolding changeRow failed
+fail-to r x code quiescent p =
+    while-all (r .state) _ (λ (y : Step). y ≡ moved (withState r (Failed x code quiescent))) (λ e. absurd (false≢true (sym e ∙ p))) (λ cancel late e. refl)
 
 module _ (s : Session) (store : Store) (sound : Sound s store) (j : Journal) (seen : List ℕ) (k : Inv s (store .rows) j seen) where
   -- ---- the reply to a submission

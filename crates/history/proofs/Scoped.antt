@@ -18,7 +18,7 @@ use Rattle.session.specs.Lent.{Memory}
 use Rattle.session.specs.declared.Size.{Size}
 use Rattle.recovery.specs.RecoveryReply.{ReplyLists, rowsMeant}
 use Rattle.recovery.specs.Entries.{applyAll}
-use Rattle.runs.proofs.Affected.{affected-is-held, meant-affected, meant-below, returned-tokens, slot-in, ownTokens, placeMeant}
+use Rattle.runs.proofs.Affected.{affected-is-held, meant-affected, meant-below, slot-in, ownTokens, placeMeant}
 use Rattle.runs.proofs.Tokens.{scope-each, scope-distinct}
 use Rattle.history.specs.Journal.{Entry, noEntry, affectedViews, meantView, releasesAll, View, entryView}
 use Rattle.history.specs.Claim.{rowView}
@@ -70,8 +70,7 @@ module _ (d : DeviceId) (endpoint : ℕ) (m : Memory) (entries : List Entry) (fe
       → Kept rows entries (applyAll z (rowsMeant (placeMeant d endpoint rows) l) m .lent .store .rows) (releasesAll (meantView (affectedViews d endpoint entries)) l entries)
       × LateBy (applyAll z (rowsMeant (placeMeant d endpoint rows) l) m .result)
   recovered-kept whole z l s =
-      let ts = returned-tokens (l .tokens) (l .completions) in
       let v : ℕ → View = view d endpoint rows entries few k in
       apply-kept (placeMeant d endpoint rows) v z l m entries k
-      (rw ts (scope-distinct (ownTokens d endpoint rows) whole (l .tokens ++ l .aborted) s))
-      (rw ts (scope-each (ownTokens d endpoint rows) whole (l .tokens ++ l .aborted) s (Ready (placeMeant d endpoint rows) v rows) (ready-at d endpoint rows entries few k)))
+      (scope-distinct (ownTokens d endpoint rows) whole l s)
+      (scope-each (ownTokens d endpoint rows) whole l s (Ready (placeMeant d endpoint rows) v rows) (ready-at d endpoint rows entries few k))

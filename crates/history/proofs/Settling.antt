@@ -40,7 +40,7 @@ use Rattle.session.specs.declared.InFlight.the-variants as flight
 use Rattle.session.specs.declared.Session.{Session}
 use Rattle.scope.specs.Affected.{isAffected, affectedOf, tokensOf}
 use Rattle.scope.specs.Scope.{isAmong, slotOf, eachOnce, allIn, inScope}
-use Rattle.scope.specs.Returned.{Returned, readReturned}
+use Rattle.scope.specs.Returned.{Returned}
 use Rattle.scope.proofs.tokens.Laws.{in-cons, in-append}
 use Rattle.session.specs.declared.Size.{Size}
 use Rattle.session.specs.declared.Recovery.{Recovery}
@@ -53,11 +53,11 @@ use Rattle.recovery.specs.declared.Recovered as recovery
 use Rattle.recovery.specs.declared.RecoveryReply.{RecoveryReply}
 use Rattle.calls.specs.Answers.{ofRecovery}
 use Rattle.calls.specs.declared.Answer.the-variants as answer
-use Rattle.runs.proofs.Affected.{meant-affected, meant-below, returned-tokens, ownTokens, placeMeant}
+use Rattle.runs.proofs.Affected.{meant-affected, meant-below, ownTokens, placeMeant}
 use Rattle.runs.proofs.Held.{or-false, or-right}
 use Rattle.runs.proofs.Ways.{recovery-all}
 use Rattle.runs.proofs.Entries.{Onward, entries-all}
-use Rattle.runs.proofs.Tokens.{tokensIn, Each, Distinct, each-last, scope-each, scope-distinct}
+use Rattle.runs.proofs.Tokens.{tokensIn, Each, Distinct, each-last, scope-each, scope-distinct, returnedIn, replyTokens, reply-tokens}
 use Rattle.history.specs.Journal.{View}
 use Rattle.history.specs.Claim.{rowView, lengthIn, codeIn, cancelledIn, completedAs, namedAs, recoveredAs, isSettled, Different, Recovered, ReportOf}
 use Rattle.history.proofs.Led.{rowW}
@@ -240,9 +240,9 @@ module _ (place : ℕ → ℕ) where
         (λ y. rw y (ap (byAborts ts i) (other old p h Aborted new q i y))) in
         record { each = λ i. one i ∙ k .each i; size = same-size old p h Aborted new q ∙ k .size; named = here; distinct = k .distinct .1 }
 
-  applied-rows : (z : Size) (l : ReplyLists) (m : Memory) → Each (Named (m .store .rows)) (tokensIn (readReturned (l .tokens) (l .completions)) ++ l .aborted)
-      → Distinct (tokensIn (readReturned (l .tokens) (l .completions)) ++ l .aborted) → applyAll z (rowsMeant place l) m .result ≡ verdict.Pass
-      → Applied (m .store .rows) (applyAll z (rowsMeant place l) m .lent .store .rows) (readReturned (l .tokens) (l .completions)) (l .aborted)
+  applied-rows : (z : Size) (l : ReplyLists) (m : Memory) → Each (Named (m .store .rows)) (replyTokens l)
+      → Distinct (replyTokens l) → applyAll z (rowsMeant place l) m .result ≡ verdict.Pass
+      → Applied (m .store .rows) (applyAll z (rowsMeant place l) m .lent .store .rows) (returnedIn l) (l .aborted)
   applied-rows z l m a d =
       entries-all place z J P (λ bytes n k e. record { each = k .each; size = k .size })
       (λ e rest ts bytes n k.
@@ -256,7 +256,7 @@ module _ (place : ℕ → ℕ) where
       l m (record { each = λ i. refl; size = refl; named = a; distinct = d })
     where
       es : List Returned
-      es = readReturned (l .tokens) (l .completions)
+      es = returnedIn l
 
       J : List Returned → List ℕ → List ℕ → Memory → Type 0
       J rest ts bytes n = Left (m .store .rows) es (l .aborted) rest ts (n .store .rows)
@@ -366,32 +366,23 @@ module _ (d : DeviceId) (endpoint : ℕ) (rows : List Row) (few : count isHeld r
   -- ---- every row, after a reply in scope
   module _ (different : Different d endpoint rows) (l : ReplyLists) (scope : inScope true own (l .tokens ++ l .aborted) ≡ true) where
     abbrev es : List Returned
-    es = readReturned (l .tokens) (l .completions)
+    es = returnedIn l
 
     all-of-them : allIn own (l .tokens ++ l .aborted) ≡ true
     unfolding inScope
     all-of-them = both (eachOnce own [] (l .tokens ++ l .aborted)) (allIn own (l .tokens ++ l .aborted)) scope .1
-
-    same-tokens : tokensIn es ++ l .aborted ≡ l .tokens ++ l .aborted
-    same-tokens = ap (λ (ts : List ℕ). ts ++ l .aborted) (returned-tokens (l .tokens) (l .completions))
-
-    distinct : Distinct (tokensIn es ++ l .aborted)
-    distinct = subst Distinct (sym same-tokens) (scope-distinct own true (l .tokens ++ l .aborted) scope)
-
-    each-token : (P : ℕ → Type 0) → ((t : ℕ) → isAmong t own ≡ true → P t) → Each P (tokensIn es ++ l .aborted)
-    each-token P h = subst (Each P) (sym same-tokens) (scope-each own true (l .tokens ++ l .aborted) scope P h)
 
     -- an affected row, by the tokens that mean it and by its own
     by-row : (i : ℕ) → i < length rows → isAffected d endpoint (rowIn rows i) ≡ true
         → byAborts place (l .aborted) i (byCompletions place es i (rowIn rows i)) ≡ namedAs es (l .aborted) (rowIn rows i)
     by-row i h a =
         row-named place rows i es (l .aborted)
-        (each-token (Meets place rows i)
+        (scope-each own true l scope (Meets place rows i)
         (λ t e. (
           λ z. sym (own-token t e) ∙ ap (tokenIn rows) z,
           λ z. different (place t) i (meant-below d endpoint rows t e) h (meant-affected d endpoint rows t e) a (own-token t e ∙ z),
         )))
-        distinct
+        (scope-distinct own true l scope)
 
     recovered-rows : (rows′ : List Row) → Applied place rows rows′ es (l .aborted) → Spares (λ (i : ℕ). isAffected d endpoint (rowIn rows i)) rows rows′
         → Recovered d endpoint l rows rows′
@@ -407,7 +398,7 @@ module _ (d : DeviceId) (endpoint : ℕ) (rows : List Row) (few : count isHeld r
           settled = λ i h e.
               ap (λ (r : Row). isSettled (r .state)) (each i h)
               ∙ rw e (settled-named es (l .aborted) (rowIn rows i)
-              (ap (isAmong (tokenIn rows i)) same-tokens ∙ all-in own (l .tokens ++ l .aborted) (tokenIn rows i) all-of-them (expected i h e)));
+              (ap (isAmong (tokenIn rows i)) (reply-tokens l) ∙ all-in own (l .tokens ++ l .aborted) (tokenIn rows i) all-of-them (expected i h e)));
         }
 
 -- ---- the reply
@@ -448,8 +439,7 @@ module _ (l : ReplyLists) (s : Session) (m : Memory) (x : AbortReport) where
         let place : ℕ → ℕ = placeMeant (y .device) (y .endpoint) rows in
         let scope : inScope true own (l .tokens ++ l .aborted) ≡ true = subst (λ (c : Bool). inScope c own (l .tokens ++ l .aborted) ≡ true) whole sc in
         let k = applied-rows place (s .size) l m
-        (each-token (y .device) (y .endpoint) rows few different l scope (Named place rows) (named-row (y .device) (y .endpoint) rows few))
-        (distinct (y .device) (y .endpoint) rows few different l scope)
+        (scope-each own true l scope (Named place rows) (named-row (y .device) (y .endpoint) rows few)) (scope-distinct own true l scope)
         (ap (λ (z : After Verdict Memory). z .result) (sym ew) ∙ ev) in
         subst (λ (z : After Verdict Memory). Recovered (y .device) (y .endpoint) l rows (z .lent .store .rows)) (sym ew)
         (recovered-rows (y .device) (y .endpoint) rows few different l scope _ k (scope-spares (y .device) (y .endpoint) m true (s .size) l scope)))

@@ -25,16 +25,16 @@ use Rattle.session.specs.declared.InFlight.the-variants as flight
 use Rattle.session.specs.declared.Session.{Session}
 use Rattle.scope.specs.Affected.{isAffected}
 use Rattle.scope.specs.Scope.{inScope}
-use Rattle.scope.specs.Returned.{Returned, readReturned}
+use Rattle.scope.specs.Returned.{Returned}
 use Rattle.session.specs.declared.Size.{Size}
 use Rattle.recovery.specs.Entries.{rowCompletedBy, testedBy, completeOne, abortedBy, abortOne, applyAll}
 use Rattle.recovery.specs.RecoveryReply.{ReplyLists, rowsMeant, isWhole, settledOf, recoveryReplyOf}
 use Rattle.recovery.specs.declared.RecoveryReply.{RecoveryReply}
 use Rattle.recovery.specs.declared.Recovered.{Recovered}
-use Rattle.runs.proofs.Affected.{meant-affected, returned-tokens, ownTokens, placeMeant}
+use Rattle.runs.proofs.Affected.{meant-affected, ownTokens, placeMeant}
 use Rattle.runs.proofs.Ways.{recovery-all}
 use Rattle.runs.proofs.Entries.{Onward, entries-all}
-use Rattle.runs.proofs.Tokens.{tokensIn, Each, scope-each}
+use Rattle.runs.proofs.Tokens.{tokensIn, Each, scope-each, replyTokens}
 use Rattle.history.specs.Claim.{Spared}
 
 -- ---- a walk that changes marked rows only
@@ -77,7 +77,7 @@ module _ (marks : ℕ → Bool) where
     abbrev pub Marked : ℕ → Type 0
     Marked t = marks (place t) ≡ true
 
-    apply-spares : (z : Size) (l : ReplyLists) (m : Memory) → Each Marked (tokensIn (readReturned (l .tokens) (l .completions)) ++ l .aborted)
+    apply-spares : (z : Size) (l : ReplyLists) (m : Memory) → Each Marked (replyTokens l)
         → Spares (m .store .rows) (applyAll z (rowsMeant place l) m .lent .store .rows)
     unfolding completeOne abortOne
     apply-spares z l m a =
@@ -108,10 +108,8 @@ module _ (d : DeviceId) (endpoint : ℕ) (m : Memory) where
   pub scope-spares : (whole : Bool) (z : Size) (l : ReplyLists) → inScope whole (ownTokens d endpoint (m .store .rows)) (l .tokens ++ l .aborted) ≡ true
       → Spares affects (m .store .rows) (applyAll z (rowsMeant (placeMeant d endpoint (m .store .rows)) l) m .lent .store .rows)
   scope-spares whole z l s =
-      let ts = returned-tokens (l .tokens) (l .completions) in
       let place : ℕ → ℕ = placeMeant d endpoint (m .store .rows) in
-      apply-spares affects place z l m
-      (rw ts (scope-each (ownTokens d endpoint (m .store .rows)) whole (l .tokens ++ l .aborted) s (Marked affects place) (meant-affected d endpoint (m .store .rows))))
+      apply-spares affects place z l m (scope-each (ownTokens d endpoint (m .store .rows)) whole l s (Marked affects place) (meant-affected d endpoint (m .store .rows)))
 
 -- ---- the reply
 pub all-spared : (f : InFlight) (rows : List Row) → Spared f rows rows

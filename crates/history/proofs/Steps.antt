@@ -1,6 +1,6 @@
 -- Every call keeps the invariant. Assumes nothing.
 use Prim.Native.Nat.{ℕ, _<_}
-use mathlib.Core.Path.{_≡_, refl, ap}
+use mathlib.Core.Path.{_≡_, ap}
 use mathlib.Core.Bool.{true, false, cond, true≢false}
 use mathlib.Core.List.{List}
 use borrow.Author.Tests.{not-true}
@@ -14,13 +14,11 @@ use Rattle.models.specs.Requests.{deviceMayAccess, isPending}
 use Rattle.models.specs.declared.OptionError.{OptionError}
 use Rattle.models.specs.declared.OptionError.the-variants as error
 use Rattle.models.specs.declared.RequestId.{RequestId}
-use Rattle.models.specs.declared.RequestState.{RequestState}
-use Rattle.models.specs.declared.RequestState.the-variants.{Pending, Completed, Failed, Aborted}
 use Rattle.rows.specs.Store.{Store, putIn, emptied}
 use Rattle.rows.specs.Table.{isHeld, rowIn}
 use Rattle.rows.specs.declared.Row.{Row}
 use Rattle.ledger.specs.Apply.{applyBy}
-use Rattle.rules.specs.Rules.{moved, freed, whilePending, logicalCancel, timeOut, reclaimed, changeRow, flagged}
+use Rattle.rules.specs.Rules.{moved, freed, logicalCancel, timeOut, reclaimed, changeRow}
 use Rattle.rules.specs.declared.Change as rules
 use Rattle.rules.specs.declared.Step.{Step}
 use Rattle.rules.specs.declared.Step.the-variants as step
@@ -44,6 +42,7 @@ use Rattle.runs.specs.Sound.{Sound}
 use Rattle.runs.proofs.Held.{unheld-row}
 use Rattle.runs.proofs.Ways.{change-all}
 use Rattle.runs.proofs.Facts.{closed-unheld}
+use Rattle.runs.proofs.Rules.{while-all}
 use Rattle.history.specs.Journal.{Journal, isPass, releasedAll, journalStep}
 use Rattle.history.proofs.Led.{Alike}
 use Rattle.history.proofs.Changes.{flag-alike, empty-alike}
@@ -58,21 +57,9 @@ Stays r (step.Refused x) = Unit {0}
 Stays r (step.To next x) = Alike r next
 
 change-stays : (c : Changing) (r : Row) → Stays r (changeRow r (changeBy c))
-unfolding changeRow logicalCancel whilePending timeOut reclaimed freed moved
-change-stays Cancel r = go (r .state) refl
-  where
-    go : (s : RequestState) → r .state ≡ s → Stays r (whilePending s (λ cancel late. flagged r true late true (r .«timed_out»)))
-    go (Pending cancel late) e = flag-alike r true late true (r .«timed_out») (ap isPending e)
-    go (Completed a b c) e = tt
-    go (Failed a b c) e = tt
-    go Aborted e = tt
-change-stays Timeout r = go (r .state) refl
-  where
-    go : (s : RequestState) → r .state ≡ s → Stays r (whilePending s (λ cancel late. flagged r cancel true (r .«logical_cancel») true))
-    go (Pending cancel late) e = flag-alike r cancel true (r .«logical_cancel») true (ap isPending e)
-    go (Completed a b c) e = tt
-    go (Failed a b c) e = tt
-    go Aborted e = tt
+unfolding changeRow logicalCancel timeOut reclaimed freed moved
+change-stays Cancel r = while-all (r .state) _ (Stays r) (λ e. tt) (λ cancel late e. flag-alike r true late true (r .«timed_out») (ap isPending e))
+change-stays Timeout r = while-all (r .state) _ (Stays r) (λ e. tt) (λ cancel late e. flag-alike r cancel true (r .«logical_cancel») true (ap isPending e))
 -- 42: what is reclaimed is not held
 change-stays Reclaim r = if-by (Stays r) _ (deviceMayAccess (r .state)) _ (λ e. tt) (λ e. empty-alike r (unheld-row r e))
 

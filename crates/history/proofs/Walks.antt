@@ -28,7 +28,7 @@ use Rattle.checks.specs.Completion.{testCompletion}
 use Rattle.checks.specs.declared.completion.CompletionTest.{CompletionTest}
 use Rattle.checks.specs.declared.completion.CompletionTest.the-variants as test
 use Rattle.scope.specs.Scope.{isAmong}
-use Rattle.scope.specs.Returned.{Returned, readReturned}
+use Rattle.scope.specs.Returned.{Returned}
 use Rattle.scope.proofs.tokens.Laws.{in-cons}
 use Rattle.session.specs.Lent.{Memory, memory}
 use Rattle.session.specs.declared.Size.{Size}
@@ -37,7 +37,7 @@ use Rattle.recovery.specs.RecoveryReply.{ReplyLists, rowsMeant}
 use Rattle.runs.proofs.Held.{or-false}
 use Rattle.runs.proofs.Ids.{same-self}
 use Rattle.runs.proofs.Entries.{Onward, entries-all}
-use Rattle.runs.proofs.Tokens.{tokensIn, Each, Distinct}
+use Rattle.runs.proofs.Tokens.{tokensIn, Each, Distinct, replyTokens}
 use Rattle.history.specs.Journal.{Entry, isEntry, entryOf, atEntry, release, ReleasedTo, releasedTo, completesBy, goesOn, completesAll, abortedAfter, releasesAll, View}
 use Rattle.history.specs.Claim.{rowView}
 use Rattle.history.proofs.Led.{Led, Changed, led-at, ids-kept, entry-is}
@@ -209,7 +209,7 @@ module _ (place : ℕ → ℕ) (view : ℕ → View) where
 
   -- the lemma: every list of entries keeps rows and journal in step
   pub apply-kept : (z : Size) (l : ReplyLists) (m : Memory) (entries : List Entry) → Led (m .store .rows) entries
-      → Distinct (tokensIn (readReturned (l .tokens) (l .completions)) ++ l .aborted) → AllReady (m .store .rows) (tokensIn (readReturned (l .tokens) (l .completions)) ++ l .aborted)
+      → Distinct (replyTokens l) → AllReady (m .store .rows) (replyTokens l)
       → Kept (m .store .rows) entries (applyAll z (rowsMeant place l) m .lent .store .rows) (releasesAll view l entries) × LateBy (applyAll z (rowsMeant place l) m .result)
   apply-kept z l m entries k d a =
       let whole : List Entry = releasesAll view l entries in

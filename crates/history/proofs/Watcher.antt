@@ -1,34 +1,31 @@
--- Those who watch ports: a call that places neither the device nor the port leaves the device, and the port's generation rises or stays.
--- Assumes nothing.
-use Prim.Native.Nat.{ℕ, zero, suc, _+_, _-_, _<_, _≤_}
-use mathlib.Core.Bool.{Bool, true, false, not, _||_, Bool·beq, true≢false}
+-- Those who watch ports: a reading whose connected bit differs makes the ids of its port stale, and they stay so. Assumes nothing.
+use Prim.Native.Nat.{ℕ, _+_, _-_, _<_, _≤_}
+use mathlib.Core.Bool.{Bool, true, false}
 use mathlib.Core.List.{List, [], _∷_, _++_}
 use mathlib.Core.Path.{_≡_, refl, sym, ap, _∙_, subst}
 use native.Mathlib.Omega.{arith}
-use borrow.Author.Tests.{eqb-true, eqb-false, ltb-true, ltb-false, not-false}
-use lib.Dec.{eqb, ltb}
-use lib.ListN.{length, getD, set}
-use lib.Seq.{getD-set-same, getD-set-other, set-out}
+use borrow.Author.Tests.{ltb-true, ltb-false, not-false}
+use lib.Dec.{ltb}
+use lib.Seq.{getD-set-same}
 use Rattle.chain.specs.After.{After, after}
 use Rattle.chain.proofs.Chain.{caseB, if-all, if-by}
+use Rattle.chain.proofs.Lists.{inside}
 use Rattle.words.specs.declared.OptionU32.{OptionU32}
 use Rattle.words.specs.declared.OptionU32.the-variants as u32
 use Rattle.models.specs.declared.DeviceSnapshot.{DeviceSnapshot}
 use Rattle.models.specs.declared.OptionDevice.{OptionDevice}
 use Rattle.models.specs.declared.OptionDevice.the-variants as device
 use Rattle.models.specs.declared.OptionPorts.{OptionPorts}
-use Rattle.models.specs.declared.OptionPorts.the-variants as ports
 use Rattle.models.specs.declared.PortId.{PortId}
 use Rattle.models.specs.declared.PortReading.{PortReading}
-use Rattle.models.specs.declared.PortReading.the-variants.{Word, Error}
+use Rattle.models.specs.declared.PortReading.the-variants.{Word}
 use Rattle.models.specs.declared.Refusal.{Refusal}
 use Rattle.models.specs.declared.RequestMetadata.{RequestMetadata}
 use Rattle.models.specs.declared.Verdict.{Verdict}
 use Rattle.models.specs.declared.Verdict.the-variants as verdict
 use Rattle.standards.specs.Ports.{portConnected}
-use Rattle.bus.specs.Endpoints.{setEndpoints}
-use Rattle.bus.specs.Ports.{numberChecked, setPortBy, setPort, ofOpening, validatedRow, validatedBy, validated, raisedRow, observedBy, observedRow, observePortBy, observePort, freshWord, freshReading, freshPortBy, freshPort}
-use Rattle.bus.specs.Tables.{Bus, newPort, portIndex, portAt, deviceAt, putPort, putDevice, putEndpoints, putMark}
+use Rattle.bus.specs.Ports.{numberChecked, readingChecked, validatedRow, validatedBy, validated, raisedRow, observedBy, observedRow, observePortBy, observePort, freshObserved, freshWord, freshReading, freshPortBy, freshPort}
+use Rattle.bus.specs.Tables.{Bus, newPort, portIndex, portAt, deviceAt, putPort}
 use Rattle.bus.specs.declared.PortRow.{PortRow}
 use Rattle.bus.specs.declared.ports.Observed.{Observed}
 use Rattle.bus.specs.declared.ports.Observed.the-variants as observed
@@ -36,225 +33,196 @@ use Rattle.bus.specs.declared.ports.PortChecked.{PortChecked}
 use Rattle.bus.specs.declared.ports.PortChecked.the-variants as port
 use Rattle.checks.specs.Plan.{planOf}
 use Rattle.checks.specs.Prepare.{metadataOf}
-use Rattle.targets.specs.Target.{knownBy, knownDevice, preparedDevice, freshDevice, checkDeviceBy, checkDevice, checkEndpoint, checkTargetBy, checkTarget}
+use Rattle.targets.specs.Target.{knownBy, knownDevice, preparedDevice, freshDevice, checkDeviceBy, checkDevice, checkTargetBy, checkTarget}
 use Rattle.targets.specs.declared.Readings.{Readings}
 use Rattle.targets.specs.declared.target.DeviceChecked.{DeviceChecked}
-use Rattle.targets.specs.declared.target.DeviceChecked.the-variants as checked
 use Rattle.session.specs.Lent.{Lent, lent}
-use Rattle.session.specs.Place.{placed, setDeviceOf, setPortOf, setEndpointsOf, setReconcileOf}
 use Rattle.session.specs.Session.{isInitialized}
 use Rattle.session.specs.Sizes.{placeOf}
-use Rattle.session.specs.Start.{guarded}
-use Rattle.session.specs.declared.Session.{Session}
 use Rattle.submissions.specs.Begin.{Draft, draft, startRefused, targetBy, targetOf}
 use Rattle.submissions.specs.Submit.{submittedBy, submittedTo}
 use Rattle.submissions.specs.Plan.{planStarted, plannedTo}
 use Rattle.submissions.specs.declared.begin.Started.{Started}
 use Rattle.calls.specs.Answers.{ofSubmit, ofPlan}
-use Rattle.calls.specs.Calls.{Placing, Device, Port, Endpoints, Reconcile, Beginning, Submit, SubmitPlan, Poll, Recover, ToSubmit, ToPoll, ToRecovery, Call, Open, Place, Move, Begin, Reply, Change, Read}
-use Rattle.calls.specs.Step.{World, placedOf, begunOf, repliedOf, stepOf}
+use Rattle.calls.specs.Calls.{Beginning, Submit, SubmitPlan, Poll, Recover, Call, Begin, Read}
+use Rattle.calls.specs.Step.{World, begunOf, stepOf}
+use Rattle.calls.specs.declared.Answer.{Answer}
 use Rattle.calls.specs.declared.Answer.the-variants as answer
-use Rattle.runs.specs.Run.{Handed, own, rowsOnly, other, Event, next, leftBy, endOf, isOpening, Handing, Follows}
+use Rattle.runs.specs.Run.{Handed, own, rowsOnly, other, Event, next, leftBy, endOf, Handing, Follows}
 use Rattle.runs.proofs.Handings.{follows-at, follows-on, follows-front}
 use Rattle.runs.proofs.Stages.{submit-all, plan-all}
 use Rattle.history.specs.Claim.{calls}
-use Rattle.history.specs.Watcher.{Turned, placesOne, placesAt, LeavesBy, Leaves, Asks, UpTo, Watched}
+use Rattle.history.specs.Watcher.{Turned, LeavesBy, Leaves, Asks, Reads, UpTo, Noticed, unread, full, turned, Watched}
+use Rattle.history.proofs.Later.{SameBit, beq-same, Numbered, number-said, same-generation, Onward, step-later}
 
--- ---- a port's row and its later self
+-- ---- a submission that is refused at its device or at its first reading, for whatever is claimed of answer and bus
+module _ (slot : ℕ) (d : DeviceSnapshot) (w : World) (stands : deviceAt (w .lent .bus) slot ≡ device.Some d) (R : Answer → Bus → Type 0)
+    (early : (y : Refusal) → y .number ≤ 28 → R (answer.Refused y) (w .lent .bus)) where
+  abbrev PortStops : PortChecked → Bus → Type 0
+  PortStops (port.Refused r) b = R (answer.Refused r) b
+  PortStops (port.Read raw) b = ⊥
 
--- a reading has taken the place of none, or has the same connected bit
-abbrev SameBit : OptionU32 → OptionU32 → Type 0
-SameBit u32.None y = Unit {0}
-SameBit (u32.Some old) u32.None = ⊥
-SameBit (u32.Some old) (u32.Some raw) = portConnected old ≡ portConnected raw
+  abbrev Stops : Verdict → Bus → Type 0
+  Stops (verdict.Refused r) b = R (answer.Refused r) b
+  Stops verdict.Pass b = ⊥
 
-bit-same : (x : OptionU32) → SameBit x x
-bit-same u32.None = tt
-bit-same (u32.Some raw) = refl
+  -- the port with a reading
+  abbrev ReadStops : PortReading → Type 0
+  ReadStops x = let o = freshPort (w .session .ports) (d .port) x (w .lent .bus) in PortStops (o .result) (o .lent)
 
-bit-on : (x y z : OptionU32) → SameBit x y → SameBit y z → SameBit x z
-bit-on u32.None y z a b = tt
-bit-on (u32.Some x) u32.None z a b = absurd a
-bit-on (u32.Some x) (u32.Some y) u32.None a b = absurd b
-bit-on (u32.Some x) (u32.Some y) (u32.Some z) a b = a ∙ b
-
--- the generation rises, or it stays and so does the connected bit
-record Later (r r′ : PortRow) : Type 0 where
-  rises : r .generation ≤ r′ .generation
-  stays : r .generation ≡ r′ .generation → SameBit (r .reading) (r′ .reading)
-
-later-same : (r : PortRow) → Later r r
-later-same r = record { rises = omega arith; stays = λ e. bit-same (r .reading) }
-
-later-on : (r s t : PortRow) → Later r s → Later s t → Later r t
-later-on r s t a b = record {
-  rises = omega (arith, a .rises, b .rises);
-  stays = λ e. bit-on (r .reading) (s .reading) (t .reading) (a .stays (omega (arith, a .rises, b .rises))) (b .stays (omega (arith, a .rises, b .rises)));
-}
-
-beq-same : (a b : Bool) → Bool·beq a b ≡ true → a ≡ b
-beq-same true true e = refl
-beq-same true false e = sym e
-beq-same false true e = e
-beq-same false false e = refl
-
--- 34, or the row that a reading leaves
-abbrev Observes : PortRow → Observed → Type 0
-Observes r (observed.Refused x) = Unit {0}
-Observes r (observed.To row) = Later r row
-
-observed-later : (r : PortRow) (raw : ℕ) → Observes r (observedRow r raw)
-unfolding observedRow observedBy raisedRow
-observed-later r raw = go (r .reading) refl
-  where
-    kept : (o : OptionU32) → r .reading ≡ o → SameBit o (u32.Some raw) → Later r (record { generation = r .generation; reading = u32.Some raw })
-    kept o e k = record { rises = omega arith; stays = λ q. subst (λ (x : OptionU32). SameBit x (u32.Some raw)) (sym e) k }
-
-    go : (o : OptionU32) → r .reading ≡ o → Observes r (observedBy o r raw)
-    go u32.None e = kept u32.None e tt
-    go (u32.Some old) e =
-        if-by (Observes r) _ _ _ (λ t. if-all (Observes r) _ _ _ tt (record { rises = omega arith; stays = λ q. absurd (omega arith) }))
-        (λ t. kept (u32.Some old) e (beq-same (portConnected old) (portConnected raw) (not-false _ t)))
-
--- 29, 30, or the number is none of 0
-abbrev Numbered : ℕ → Verdict → Type 0
-Numbered n (verdict.Refused r) = r .number ≤ 31
-Numbered n verdict.Pass = 1 ≤ n
-
-number-said : (p : OptionPorts) (n : ℕ) → Numbered n (numberChecked p n)
-unfolding numberChecked
-number-said ports.None n = omega arith
-number-said (ports.Some p) n = if-by (Numbered n) _ _ _ (λ t. omega arith) (λ t. above n t)
-  where
-    above : (n : ℕ) → (eqb n 0 || ltb (p .count) n) ≡ false → 1 ≤ n
-    above zero t = absurd (true≢false t)
-    above (suc n) t = omega arith
-
--- ---- a slot's device and a port's row, and the later bus
-
-module _ (slot number : ℕ) where
-  record Onward (b b′ : Bus) : Type 0 where
-    same : deviceAt b′ slot ≡ deviceAt b slot
-    later : 1 ≤ number → Later (portAt b number) (portAt b′ number)
-
-  still : (b : Bus) → Onward b b
-  still b = record { same = refl; later = λ h. later-same (portAt b number) }
-
-  onward : (a b c : Bus) → Onward a b → Onward b c → Onward a c
-  onward a b c x y = record { same = y .same ∙ x .same; later = λ h. later-on (portAt a number) (portAt b number) (portAt c number) (x .later h) (y .later h) }
-
-  -- a port's row put, by a reading of that port or of another
-  put-later : (b : Bus) (n : ℕ) (row : PortRow) → (1 ≤ number → portIndex number ≡ portIndex n → Later (portAt b n) row) → Onward b (putPort b n row)
-  unfolding putPort
-  put-later b n row k = record { same = refl; later = go }
+  target-stops : (ready : Bool) (m : RequestMetadata) (x : Readings) → m .device .slot ≡ slot → ReadStops (x .first)
+      → (let o = checkTarget ready (w .session .ports) m x (w .lent .bus) in Stops (o .result) (o .lent))
+  unfolding checkTarget checkTargetBy checkDevice checkDeviceBy freshDevice preparedDevice knownDevice knownBy
+  target-stops ready m x e k =
+      if-all Known _ _ _ (early _ (omega arith))
+      (subst (λ (o : OptionDevice). Known (knownBy o ready (m .device))) (sym (ap (deviceAt (w .lent .bus)) e ∙ stands))
+      (if-all Known _ _ _ (early _ (omega arith)) (if-all Known _ _ _ (early _ (omega arith)) (by-port (seen .result) (seen .lent) k))))
     where
-      here : ℕ
-      here = portIndex number
+      seen : After PortChecked Bus
+      seen = freshPort (w .session .ports) (d .port) (x .first) (w .lent .bus)
 
-      go : 1 ≤ number → Later (getD (b .ports) here newPort) (getD (set (b .ports) (portIndex n) row) here newPort)
-      go h =
-          caseB (eqb here (portIndex n))
-          (λ e.
-          let q = eqb-true here (portIndex n) e in
-          caseB (ltb (portIndex n) (length (b .ports)))
-          (λ t. rw (q, getD-set-same (b .ports) (portIndex n) row newPort (ltb-true _ _ t)) (k h q))
-          (λ t. rw (set-out (b .ports) (portIndex n) row (ltb-false _ _ t)) (later-same (getD (b .ports) here newPort))))
-          (λ e. rw (getD-set-other (b .ports) (portIndex n) here row newPort (eqb-false here (portIndex n) e)) (later-same (getD (b .ports) here newPort)))
+      Ends : DeviceChecked → Bus → Type 0
+      Ends c b = let o = checkTargetBy c (w .session .ports) m (x .second) b in Stops (o .result) (o .lent)
 
-  fresh-later : (p : OptionPorts) (id : PortId) (x : PortReading) (b : Bus) → Onward b (freshPort p id x b .lent)
-  unfolding freshPort freshPortBy freshReading freshWord observePort observePortBy
-  fresh-later p id x b = by-port (validated p id b) x
-    where
-      by-observed : (o : Observed) → Observes (portAt b (id .number)) o → Onward b (observePortBy o (id .number) b .lent)
-      by-observed (observed.Refused r) k = still b
-      by-observed (observed.To row) k = put-later b (id .number) row (λ h e. k)
+      Known : DeviceChecked → Type 0
+      Known c = let o = checkDeviceBy c (w .session .ports) (x .first) (w .lent .bus) in Ends (o .result) (o .lent)
 
-      by-port : (c : PortChecked) (x : PortReading) → Onward b (freshPortBy c x p id b .lent)
-      by-port (port.Refused r) x = still b
-      by-port (port.Read raw) (Error e) = still b
-      by-port (port.Read raw) (Word now) = by-observed (observedRow (portAt b (id .number)) now) (observed-later (portAt b (id .number)) now)
+      by-port : (c : PortChecked) (b : Bus) → PortStops c b → Ends (preparedDevice c d) b
+      by-port (port.Refused r) b n = n
+      by-port (port.Read raw) b n = absurd n
 
-  target-later : (ready : Bool) (p : OptionPorts) (m : RequestMetadata) (x : Readings) (b : Bus) → Onward b (checkTarget ready p m x b .lent)
-  unfolding checkTarget checkTargetBy checkDevice checkDeviceBy freshDevice checkEndpoint
-  target-later ready p m x b = by-known (knownDevice ready (m .device) b)
-    where
-      second : (k : DeviceChecked) (c : Bus) → Onward c (checkTargetBy k p m (x .second) c .lent)
-      second (checked.Refused r) c = still c
-      second (checked.Ready d) c =
-          if-all (λ (o : After Verdict Bus). Onward c (o .lent)) _ _ _ (still c)
-          (if-all (λ (o : After Verdict Bus). Onward c (o .lent)) _ _ _ (still c) (fresh-later p (d .port) (x .second) c))
-
-      by-known : (k : DeviceChecked) → (let o = checkDeviceBy k p (x .first) b in Onward b (checkTargetBy (o .result) p m (x .second) (o .lent) .lent))
-      by-known (checked.Refused r) = still b
-      by-known (checked.Ready d) =
-          let c = freshPort p (d .port) (x .first) b .lent in
-          onward b c _ (fresh-later p (d .port) (x .first) b) (second (preparedDevice (freshPort p (d .port) (x .first) b .result) d) c)
-
-  targeted : (d : Draft) (x : Readings) (s : Session) (l : Lent) → Onward (l .bus) (targetOf d x s l .lent .bus)
+  start-stops : (r : Draft) (x : Readings) → r .metadata .device .slot ≡ slot → ReadStops (x .first) → (P : After Started Lent → Type 0)
+      → ((y : Refusal) (b : Bus) → R (answer.Refused y) b → P (after (startRefused (w .session) y) (lent b (w .lent .memory))))
+      → P (targetOf r x (w .session) (w .lent))
   unfolding targetOf targetBy
-  targeted d x s l = by-verdict (seen .result)
+  start-stops r x e k P stop = by-verdict (seen .result) (target-stops (isInitialized (w .session .state)) (r .metadata) x e k)
     where
       seen : After Verdict Bus
-      seen = checkTarget (isInitialized (s .state)) (s .ports) (d .metadata) x (l .bus)
+      seen = checkTarget (isInitialized (w .session .state)) (w .session .ports) (r .metadata) x (w .lent .bus)
 
-      reads : Onward (l .bus) (seen .lent)
-      reads = target-later (isInitialized (s .state)) (s .ports) (d .metadata) x (l .bus)
+      by-verdict : (v : Verdict) → Stops v (seen .lent) → P (targetBy v r (w .session) (lent (seen .lent) (w .lent .memory)))
+      by-verdict (verdict.Refused y) n = stop y (seen .lent) n
+      by-verdict verdict.Pass n = absurd n
 
-      by-verdict : (v : Verdict) → Onward (l .bus) (targetBy v d s (lent (seen .lent) (l .memory)) .lent .bus)
-      by-verdict (verdict.Refused r) = reads
-      by-verdict verdict.Pass = reads
+  asked : (f : Beginning) → Asks slot f → ((x : PortReading) → Reads x f → ReadStops x) → R (begunOf f w .result .answer) (begunOf f w .lent .bus)
+  unfolding begunOf submittedBy planStarted
+  asked (Submit packets q) e k =
+      submit-all q (w .session) (w .lent) (λ o. R (ofSubmit (o .result .answer)) (o .lent .bus)) (λ x n. early x (omega arith))
+      (λ i room size.
+      start-stops (draft (placeOf (w .session .size) i) (metadataOf (q .spec)) (q .bytes)) (q .readings) e (k _ refl)
+      (λ o. R (ofSubmit (submittedTo o (metadataOf (q .spec)) (q .given) .result .answer)) (o .lent .bus)) (λ y b n. n))
+      packets
+  asked (SubmitPlan q bytes first) e k =
+      plan-all q bytes first (w .session) (w .lent) (λ o. R (ofPlan (o .result .answer)) (o .lent .bus)) (λ x n. early x (omega arith))
+      (λ i room size.
+      start-stops (draft (placeOf (w .session .size) i) (planOf q .metadata) bytes) (record { first = first; second = first }) e (k _ refl)
+      (λ o. R (ofPlan (plannedTo o (planOf q) .result .answer)) (o .lent .bus)) (λ y b n. n))
+  asked (Poll id) e k = absurd e
+  asked (Recover id kind) e k = absurd e
 
-  place-later : (p : Placing) (w : World) → placesOne slot number p ≡ false → Onward (w .lent .bus) (placedOf p w .lent)
-  unfolding placedOf setDeviceOf setPortOf setEndpointsOf setReconcileOf placed guarded setPort setPortBy setEndpoints putDevice putEndpoints putMark
-  place-later q w e = go q e
+refused : {n : ℕ} (x : Refusal) → x .number ≤ n → UpTo n (answer.Refused x)
+refused x h = record { refusal = x; is = refl; low = h }
+
+-- ---- a reading whose connected bit differs
+abbrev isRead : OptionU32 → Bool
+isRead u32.None = false
+isRead (u32.Some raw) = true
+
+-- 29 to 32 passed
+valid-told : (p : OptionPorts) (id : PortId) (b : Bus) (old : ℕ) → validated p id b ≡ port.Read old
+    → (portAt b (id .number) .reading ≡ u32.Some old) × (id .generation ≡ portAt b (id .number) .generation)
+unfolding validated validatedBy validatedRow readingChecked
+valid-told p id b old = by-number (numberChecked p (id .number))
+  where
+    row : PortRow
+    row = portAt b (id .number)
+
+    Told : PortChecked → Type 0
+    Told c = c ≡ port.Read old → (row .reading ≡ u32.Some old) × (id .generation ≡ row .generation)
+
+    by-reading : (o : OptionU32) → readingChecked o ≡ port.Read old → o ≡ u32.Some old
+    by-reading u32.None e = let z : _≡_ {A = ℕ} 0 1 = cc in absurd (omega arith)
+    by-reading (u32.Some raw) e = cc
+
+    by-number : (v : Verdict) → Told (validatedBy v p id b)
+    by-number (verdict.Refused r) = λ e. let z : _≡_ {A = ℕ} 0 1 = cc in absurd (omega arith)
+    by-number verdict.Pass =
+        if-by Told _ _ _ (λ t e. let z : _≡_ {A = ℕ} 0 1 = cc in absurd (omega arith))
+        (λ t e. (by-reading (row .reading) e, same-generation p id row t))
+
+module _ (slot : ℕ) (d : DeviceSnapshot) (w : World) (stands : deviceAt (w .lent .bus) slot ≡ device.Some d) (old raw : ℕ)
+    (valid : validated (w .session .ports) (d .port) (w .lent .bus) ≡ port.Read old) (differs : portConnected old ≡ portConnected raw → ⊥) where
+  abbrev before : Bus
+  before = w .lent .bus
+
+  abbrev Notes : Answer → Bus → Type 0
+  Notes a b = Noticed (d .port) before a b
+
+  notes-early : (y : Refusal) → y .number ≤ 28 → Notes (answer.Refused y) before
+  notes-early y n = unread (refused y n)
+
+  abbrev row : PortRow
+  row = portAt before (d .port .number)
+
+  told : (row .reading ≡ u32.Some old) × (d .port .generation ≡ row .generation)
+  told = valid-told (w .session .ports) (d .port) before old valid
+
+  abbrev raised : PortRow
+  raised = record { generation = row .generation + 1; reading = u32.Some raw }
+
+  raised-turns : Turned (d .port) before (putPort before (d .port .number) raised)
+  unfolding putPort
+  raised-turns =
+      let h = inside (λ (r : PortRow). isRead (r .reading)) (before .ports) (portIndex (d .port .number)) newPort refl (ap isRead (told .0)) in
+      record {
+        old = old;
+        raw = raw;
+        last = told .0;
+        taken = ap (λ (r : PortRow). r .reading) (getD-set-same (before .ports) (portIndex (d .port .number)) raised newPort h);
+        differs = differs;
+        current = told .1;
+      }
+
+  reading-stops : ReadStops slot d w stands Notes notes-early (Word raw)
+  unfolding freshPort freshPortBy freshReading freshWord observePort observePortBy freshObserved observedRow observedBy raisedRow validatedRow
+  reading-stops =
+      subst Validating (sym valid) (subst (λ (o : OptionU32). Observing (observedBy o row raw)) (sym (told .0))
+      (if-by Observing _ _ _ (λ t. if-by Observing _ _ _ (λ y. full refl) (λ y. again))
+      (λ t. absurd (differs (beq-same (portConnected old) (portConnected raw) (not-false _ t))))))
     where
-      b : Bus
-      b = w .lent .bus
+      Validating : PortChecked → Type 0
+      Validating c =
+          let o = freshPortBy c (Word raw) (w .session .ports) (d .port) before in
+          PortStops slot d w stands Notes notes-early (o .result) (o .lent)
 
-      To : After Verdict Bus → Type 0
-      To o = Onward b (o .lent)
+      Observing : Observed → Type 0
+      Observing x =
+          let o = observePortBy x (d .port .number) before in
+          PortStops slot d w stands Notes notes-early (freshObserved (o .result) (w .session .ports) (d .port)) (o .lent)
 
-      by-number : (v : Verdict) (n : ℕ) (row : PortRow) → eqb n number ≡ false → Numbered n v → To (setPortBy v n row b)
-      by-number (verdict.Refused r) n row e k = still b
-      by-number verdict.Pass n row e k = put-later b n row (λ h q. absurd (eqb-false n number e (omega arith)))
+      again : Observing (observed.To raised)
+      again =
+          if-by (λ (c : PortChecked). PortStops slot d w stands Notes notes-early c (putPort before (d .port .number) raised)) _ _ _
+          (λ t. turned refl raised-turns)
+          (λ t. absurd (omega (arith, told .1, same-generation (w .session .ports) (d .port) raised t)))
 
-      go : (q : Placing) → placesOne slot number q ≡ false → To (placedOf q w)
-      go (Device d) e =
-          if-all To _ _ _ (still b) (if-all To _ _ _ (still b)
-          (record { same = getD-set-other (b .devices) (d .id .slot) slot _ _ (λ q. eqb-false _ _ e (sym q)); later = λ h. later-same (portAt b number) }))
-      go (Port n row) e =
-          if-all To _ _ _ (still b) (if-all To _ _ _ (still b)
-          (by-number (numberChecked (w .session .ports) n) n row e (number-said (w .session .ports) n)))
-      go (Endpoints n list) e =
-          if-all To _ _ _ (still b) (if-all To _ _ _ (still b)
-          (if-all To _ _ _ (still b) (record { same = refl; later = λ h. later-same (portAt b number) })))
-      go (Reconcile n mark) e =
-          if-all To _ _ _ (still b) (if-all To _ _ _ (still b) (record { same = refl; later = λ h. later-same (portAt b number) }))
+  one-reading : (f : Beginning) (x : PortReading) → Reads (Word raw) f → Reads x f → Word raw ≡ x
+  one-reading (Submit packets q) x a b = sym a ∙ b
+  one-reading (SubmitPlan q bytes first) x a b = sym a ∙ b
+  one-reading (Poll id) x a b = absurd a
+  one-reading (Recover id kind) x a b = absurd a
 
-  step-later : (c : Call) (w : World) → isOpening c ≡ false → placesAt slot number c ≡ false → Onward (w .lent .bus) (stepOf c w .lent .bus)
-  unfolding stepOf begunOf repliedOf
-  step-later (Open o) w e k = absurd (true≢false e)
-  step-later (Place p) w e k = place-later p w k
-  step-later (Move m) w e k = still (w .lent .bus)
-  step-later (Begin (Submit packets q)) w e k =
-      submit-all q (w .session) (w .lent) (λ o. Onward (w .lent .bus) (o .lent .bus)) (λ x early. still (w .lent .bus))
-      (λ i room size. targeted _ (q .readings) (w .session) (w .lent)) packets
-  step-later (Begin (SubmitPlan q bytes first)) w e k =
-      plan-all q bytes first (w .session) (w .lent) (λ o. Onward (w .lent .bus) (o .lent .bus)) (λ x early. still (w .lent .bus))
-      (λ i room size. targeted _ _ (w .session) (w .lent))
-  step-later (Begin (Poll id)) w e k = still (w .lent .bus)
-  step-later (Begin (Recover id kind)) w e k = still (w .lent .bus)
-  step-later (Reply (ToSubmit reply)) w e k = still (w .lent .bus)
-  step-later (Reply (ToPoll reply bytes)) w e k = still (w .lent .bus)
-  step-later (Reply (ToRecovery reply lists)) w e k = still (w .lent .bus)
-  step-later (Change id c) w e k = still (w .lent .bus)
-  step-later (Read r) w e k = still (w .lent .bus)
+  notes : (f : Beginning) → Asks slot f → Reads (Word raw) f → Notes (begunOf f w .result .answer) (begunOf f w .lent .bus)
+  notes f e k =
+      asked slot d w stands Notes notes-early f e
+      (λ x is. subst (ReadStops slot d w stands Notes notes-early) (one-reading f x k is) reading-stops)
 
 -- ---- a device whose port has a later generation
 
-or-right : (a b : Bool) → (a || not b) ≡ false → b ≡ true
-or-right true b e = absurd (true≢false e)
-or-right false b e = not-false b e
+-- refused by 31 or before it
+abbrev Cut : PortChecked → Type 0
+Cut (port.Refused r) = r .number ≤ 31
+Cut (port.Read raw) = ⊥
 
 module _ (slot : ℕ) (d : DeviceSnapshot) where
   record Stale (b : Bus) : Type 0 where
@@ -281,77 +249,36 @@ module _ (slot : ℕ) (d : DeviceSnapshot) where
           let j = subst (λ (o : OptionU32). SameBit o (is .reading)) (t .last) k in
           absurd (t .differs (subst (λ (o : OptionU32). SameBit (u32.Some (t .old)) o) (t .taken) j)))
 
-  -- refused by 31 or before it
-  abbrev CutPort : PortChecked → Type 0
-  CutPort (port.Refused r) = r .number ≤ 31
-  CutPort (port.Read raw) = ⊥
-
-  abbrev Cut : Verdict → Type 0
-  Cut (verdict.Refused r) = r .number ≤ 31
-  Cut verdict.Pass = ⊥
-
-  port-cut : (p : OptionPorts) (b : Bus) → Stale b → CutPort (validated p (d .port) b)
+  -- 29, 30 or 31
+  port-cut : (p : OptionPorts) (b : Bus) → Stale b → Cut (validated p (d .port) b)
   unfolding validated validatedBy validatedRow
   port-cut p b k = by-number (numberChecked p (d .port .number)) (number-said p (d .port .number))
     where
       row : PortRow
       row = portAt b (d .port .number)
 
-      by-number : (v : Verdict) → Numbered (d .port .number) v → CutPort (validatedBy v p (d .port) b)
+      by-number : (v : Verdict) → Numbered (d .port .number) v → Cut (validatedBy v p (d .port) b)
       by-number (verdict.Refused r) n = n
       by-number verdict.Pass n =
-          if-by CutPort _ _ _ (λ t. omega arith)
-          (λ t.
-          let same = or-right (not (ofOpening p (d .port .session))) (eqb (d .port .generation) (row .generation)) t in
-          absurd (omega (arith, k .below n, eqb-true (d .port .generation) (row .generation) same)))
+          if-by Cut _ _ _ (λ t. omega arith)
+          (λ t. absurd (omega (arith, k .below n, same-generation p (d .port) row t)))
 
-  target-cut : (ready : Bool) (p : OptionPorts) (m : RequestMetadata) (x : Readings) (b : Bus) → m .device .slot ≡ slot → Stale b
-      → Cut (checkTarget ready p m x b .result)
-  unfolding checkTarget checkTargetBy checkDevice checkDeviceBy freshDevice preparedDevice freshPort freshPortBy knownDevice knownBy
-  target-cut ready p m x b e k =
-      if-all Known _ _ _ (omega arith)
-      (subst (λ (o : OptionDevice). Known (knownBy o ready (m .device))) (sym (ap (deviceAt b) e ∙ k .stands))
-      (if-all Known _ _ _ (omega arith) (if-all Known _ _ _ (omega arith) (by-port (validated p (d .port) b) (port-cut p b k)))))
+  cut : (f : Beginning) (w : World) → Asks slot f → Stale (w .lent .bus) → UpTo 31 (begunOf f w .result .answer)
+  unfolding freshPort freshPortBy
+  cut f w e k =
+      asked slot d w (k .stands) Low early f e
+      (λ x is. by-port x (validated (w .session .ports) (d .port) (w .lent .bus)) (port-cut (w .session .ports) (w .lent .bus) k))
     where
-      Known : DeviceChecked → Type 0
-      Known c = let o = checkDeviceBy c p (x .first) b in Cut (checkTargetBy (o .result) p m (x .second) (o .lent) .result)
+      Low : Answer → Bus → Type 0
+      Low a b = UpTo 31 a
 
-      by-port : (c : PortChecked) → CutPort c
-          → (let o = freshPortBy c (x .first) p (d .port) b in Cut (checkTargetBy (preparedDevice (o .result) d) p m (x .second) (o .lent) .result))
-      by-port (port.Refused r) n = n
-      by-port (port.Read raw) n = absurd n
+      early : (y : Refusal) → y .number ≤ 28 → Low (answer.Refused y) (w .lent .bus)
+      early y n = refused y (omega arith)
 
-  -- 26 to 31, for whatever is claimed of it
-  cut-all : (r : Draft) (x : Readings) (s : Session) (l : Lent) → r .metadata .device .slot ≡ slot → Stale (l .bus) → (P : After Started Lent → Type 0)
-      → ((y : Refusal) → y .number ≤ 31 → (b : Bus) → P (after (startRefused s y) (lent b (l .memory)))) → P (targetOf r x s l)
-  unfolding targetOf targetBy
-  cut-all r x s l e k P stop = by-verdict (seen .result) (target-cut (isInitialized (s .state)) (s .ports) (r .metadata) x (l .bus) e k)
-    where
-      seen : After Verdict Bus
-      seen = checkTarget (isInitialized (s .state)) (s .ports) (r .metadata) x (l .bus)
-
-      by-verdict : (v : Verdict) → Cut v → P (targetBy v r s (lent (seen .lent) (l .memory)))
-      by-verdict (verdict.Refused y) n = stop y n (seen .lent)
-      by-verdict verdict.Pass n = absurd n
-
-  refused : (x : Refusal) → x .number ≤ 31 → UpTo 31 (answer.Refused x)
-  refused x n = record { refusal = x; is = refl; low = n }
-
-  asked : (f : Beginning) (w : World) → Asks slot f → Stale (w .lent .bus) → UpTo 31 (begunOf f w .result .answer)
-  unfolding begunOf submittedBy planStarted
-  asked (Submit packets q) w e k =
-      submit-all q (w .session) (w .lent) (λ o. UpTo 31 (ofSubmit (o .result .answer))) (λ x early. refused x (omega arith))
-      (λ i room size.
-      cut-all (draft (placeOf (w .session .size) i) (metadataOf (q .spec)) (q .bytes)) (q .readings) (w .session) (w .lent) e k
-      (λ o. UpTo 31 (ofSubmit (submittedTo o (metadataOf (q .spec)) (q .given) .result .answer))) (λ y n b. refused y n))
-      packets
-  asked (SubmitPlan q bytes first) w e k =
-      plan-all q bytes first (w .session) (w .lent) (λ o. UpTo 31 (ofPlan (o .result .answer))) (λ x early. refused x (omega arith))
-      (λ i room size.
-      cut-all (draft (placeOf (w .session .size) i) (planOf q .metadata) bytes) (record { first = first; second = first }) (w .session) (w .lent) e k
-      (λ o. UpTo 31 (ofPlan (plannedTo o (planOf q) .result .answer))) (λ y n b. refused y n))
-  asked (Poll id) w e k = absurd e
-  asked (Recover id kind) w e k = absurd e
+      by-port : (x : PortReading) (c : PortChecked) → Cut c
+          → (let o = freshPortBy c x (w .session .ports) (d .port) (w .lent .bus) in PortStops slot d w (k .stands) Low early (o .result) (o .lent))
+      by-port x (port.Refused r) n = refused r n
+      by-port x (port.Read raw) n = absurd n
 
   left-stale : (h : Handed) (c : Call) (w : World) → Handing h c → LeavesBy slot (d .port .number) h c → Stale (w .lent .bus) → Stale (leftBy h c w .lent .bus)
   left-stale own c w e l k = stale-on _ _ (step-later slot (d .port .number) c w e l) k
@@ -364,9 +291,12 @@ module _ (slot : ℕ) (d : DeviceSnapshot) where
 
 pub watched : (w : World) (es : List Event) → Follows es → Watched w es
 unfolding stepOf
-watched w es all slot d before mid after c f split stands turned leaves asks =
-    let run = subst Follows split all in
-    let on = step-later slot (d .port .number) c (endOf w before) (follows-at before (mid ++ (calls (Begin f) ∷ after)) (calls c) run) (leaves .0) in
-    let then = next (stepOf c (endOf w before)) in
-    let rest = follows-front mid (calls (Begin f) ∷ after) (follows-on before (mid ++ (calls (Begin f) ∷ after)) (calls c) run) in
-    asked slot d f (endOf then mid) asks (run-stale slot d mid then rest (leaves .1) (turned-stale slot d _ _ on stands turned))
+watched w es all = record {
+  noticed = λ slot d before after f old raw is stands asks reads valid differs. notes slot d (endOf w before) stands old raw valid differs f asks reads;
+  refused = λ slot d before mid after c f is stands turns leaves asks.
+      let run = subst Follows is all in
+      let on = step-later slot (d .port .number) c (endOf w before) (follows-at before (mid ++ (calls (Begin f) ∷ after)) (calls c) run) (leaves .0) in
+      let then = next (stepOf c (endOf w before)) in
+      let rest = follows-front mid (calls (Begin f) ∷ after) (follows-on before (mid ++ (calls (Begin f) ∷ after)) (calls c) run) in
+      cut slot d f (endOf then mid) asks (run-stale slot d mid then rest (leaves .1) (turned-stale slot d _ _ on stands turns));
+}

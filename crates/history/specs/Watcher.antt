@@ -1,17 +1,23 @@
--- For those who watch ports: once a reading's connected bit differs from the port's last, every submission to a device placed with the old
--- port id is refused by 31, or by what the table puts before it, until the device or the port's row is placed anew. Assumes nothing.
+-- For those who watch ports: once a reading's connected bit differs from the port's last, that submission and every later one to a device
+-- placed with the old port id is refused by 31, or by what the table puts before it, until the device or the port's row is placed anew.
+-- Assumes nothing.
 use Prim.Native.Nat.{ℕ, _≤_}
 use mathlib.Core.Bool.{Bool, false}
 use mathlib.Core.List.{List, [], _∷_, _++_}
 use mathlib.Core.Path.{_≡_}
 use lib.Dec.{eqb}
 use Rattle.words.specs.declared.OptionU32.the-variants as u32
+use Rattle.models.specs.Refusals.{refusalOf}
 use Rattle.models.specs.declared.DeviceSnapshot.{DeviceSnapshot}
 use Rattle.models.specs.declared.OptionDevice.the-variants as device
 use Rattle.models.specs.declared.PortId.{PortId}
+use Rattle.models.specs.declared.PortReading.{PortReading}
+use Rattle.models.specs.declared.PortReading.the-variants.{Word}
 use Rattle.models.specs.declared.Refusal.{Refusal}
 use Rattle.standards.specs.Ports.{portConnected}
+use Rattle.bus.specs.Ports.{validated}
 use Rattle.bus.specs.Tables.{Bus, deviceAt, portAt}
+use Rattle.bus.specs.declared.ports.PortChecked.the-variants as port
 use Rattle.calls.specs.Calls.{Placing, Device, Port, Endpoints, Reconcile, Beginning, Submit, SubmitPlan, Poll, Recover, Call, Open, Place, Move, Begin, Reply, Change, Read}
 use Rattle.calls.specs.Step.{World, stepOf}
 use Rattle.calls.specs.declared.Answer.{Answer}
@@ -67,11 +73,30 @@ pub record UpTo (n : ℕ) (a : Answer) : Type 0 where
   pub is : a ≡ answer.Refused refusal
   pub low : refusal .number ≤ n
 
--- wherever a call c of the list turns a port's last reading: the calls before it, between it and a later submission, and after that
-abbrev pub Watched : World → List Event → Type 0
-Watched w es =
-    (slot : ℕ) (d : DeviceSnapshot) (before mid after : List Event) (c : Call) (f : Beginning) → es ≡ before ++ (calls c ∷ (mid ++ (calls (Begin f) ∷ after)))
-    → (let at = endOf w before in
-    let then = next (stepOf c at) in
-    deviceAt (at .lent .bus) slot ≡ device.Some d → Turned (d .port) (at .lent .bus) (then .lent .bus)
-    → Leaves slot (d .port .number) (calls c ∷ mid) → Asks slot f → UpTo 31 (answerTo (endOf then mid) (calls (Begin f))))
+-- and its first reading
+abbrev pub Reads : PortReading → Beginning → Type 0
+Reads x (Submit packets q) = q .readings .first ≡ x
+Reads x (SubmitPlan q bytes first) = first ≡ x
+Reads x (Poll id) = ⊥
+Reads x (Recover id kind) = ⊥
+
+-- what a submission whose reading differs comes to: a refusal before the reading; 34, and nothing is written; or 31, and it is written
+pub data Noticed (id : PortId) (b : Bus) (a : Answer) (b′ : Bus) : Type 0 where
+  unread : UpTo 28 a → Noticed id b a b′
+  full : a ≡ answer.Refused (refusalOf 34) → Noticed id b a b′
+  turned : a ≡ answer.Refused (refusalOf 31) → Turned id b b′ → Noticed id b a b′
+
+pub record Watched (w : World) (es : List Event) : Type 0 where
+  -- a submission to the device d, whose port id is valid and observed (29 to 32), with a reading whose connected bit differs
+  pub noticed : (slot : ℕ) (d : DeviceSnapshot) (before after : List Event) (f : Beginning) (old raw : ℕ) → es ≡ before ++ (calls (Begin f) ∷ after)
+      → (let at = endOf w before in
+      deviceAt (at .lent .bus) slot ≡ device.Some d → Asks slot f → Reads (Word raw) f
+      → validated (at .session .ports) (d .port) (at .lent .bus) ≡ port.Read old → (portConnected old ≡ portConnected raw → ⊥)
+      → Noticed (d .port) (at .lent .bus) (answerTo at (calls (Begin f))) (stepOf (Begin f) at .lent .bus))
+  -- wherever a call c turned the port's last reading, every later submission to the device, unless it or the port's row was placed anew
+  pub refused : (slot : ℕ) (d : DeviceSnapshot) (before mid after : List Event) (c : Call) (f : Beginning)
+      → es ≡ before ++ (calls c ∷ (mid ++ (calls (Begin f) ∷ after)))
+      → (let at = endOf w before in
+      let then = next (stepOf c at) in
+      deviceAt (at .lent .bus) slot ≡ device.Some d → Turned (d .port) (at .lent .bus) (then .lent .bus)
+      → Leaves slot (d .port .number) (calls c ∷ mid) → Asks slot f → UpTo 31 (answerTo (endOf then mid) (calls (Begin f))))

@@ -15,7 +15,7 @@ use Rattle.session.specs.Lent.{Memory}
 use Rattle.session.specs.declared.Size.{Size}
 use Rattle.scope.specs.Scope.{meant}
 use Rattle.scope.specs.Returned.{broughtAt, Returned, returnedAt, readReturned, listsAgree}
-use Rattle.recovery.specs.Entries.{rowLists, Entry, entryAt, readEntries}
+use Rattle.recovery.specs.Entries.{rowLists, RowEntry, entryAt, readEntries}
 use Rattle.recovery.specs.Places.{Below, Places}
 use Rattle.recovery.specs.RecoveryReply.{ReplyLists, rowsMeant, settledOf}
 use Rattle.recovery.specs.declared.Recovered.{Recovered}
@@ -27,7 +27,7 @@ module _ (place : ℕ → ℕ) where
   map-at l k h = getD-any (map place l) k 0 (place 0) (omega (arith, length-map l place)) ∙ List·getD-map place l k 0
 
   -- what a token's row is brought
-  abbrev pub entryOf : Returned → Entry
+  abbrev pub entryOf : Returned → RowEntry
   entryOf e = record { row = place (e .token); brought = e .brought }
 
   pub entries-meant : (tokens words : List ℕ) → readEntries (map place tokens) words ≡ map entryOf (readReturned tokens words)

@@ -42,7 +42,7 @@ rowListsIn completed completions aborted bytes =
 
 -- ---- a completion of row i
 
--- 41: a Failed row. Else its data overwrites the first of the row's bytes only, cut at the row's end
+-- 41: a Failed row. Else the row changes, and the data overwrites the first of its bytes only, cut at their end
 unfoldable pub rowCompletedBy : Step → Size → ℕ → List ℕ → Memory → After Verdict Memory
 rowCompletedBy (step.Refused r) z i bytes m = after (verdict.Refused r) m
 rowCompletedBy (step.To next report) z i bytes m =
@@ -76,18 +76,18 @@ onwardBy (verdict.Refused r) o next = o
 onwardBy verdict.Pass o next = next (o .lent)
 
 -- an entry: the place of its row, and what came for it
-pub record Entry : Type 0 where
+pub record RowEntry : Type 0 where
   pub row : ℕ
   pub brought : Brought
 
-abbrev pub entryAt : List ℕ → List ℕ → ℕ → Entry
+abbrev pub entryAt : List ℕ → List ℕ → ℕ → RowEntry
 entryAt places words k = record { row = getD places k 0; brought = broughtAt words k }
 
-unfoldable pub readEntries : List ℕ → List ℕ → List Entry
+unfoldable pub readEntries : List ℕ → List ℕ → List RowEntry
 readEntries places words = tab (entryAt places words) (length places)
 
 -- completions in order, each with the next bytes of the data area
-abbrev pub completeAll : Size → List Entry → List ℕ → Memory → After Verdict Memory
+abbrev pub completeAll : Size → List RowEntry → List ℕ → Memory → After Verdict Memory
 completeAll z [] bytes m = after verdict.Pass m
 completeAll z (e ∷ es) bytes m =
     let one = completeOne z (e .row) (e .brought .completion) (take (e .brought .given) bytes) m in

@@ -111,7 +111,8 @@ fn complete_next(
     brought: Brought,
     left: &[u8],
 ) -> Verdict
-    requires { ⌜ Fit size (now rows) (now area) × (i < length (readRows (now rows))) × (brought .given ≤ length (now left)) ⌝ }
+    requires { ⌜ Fit size (now rows) (now area) × (i < length (readRows (now rows)))
+        × (brought .given ≤ length (now left)) ⌝ }
     ensures { λ r. ⌜ after r (memoryOut rows area)
         ≡ completeOne size i (brought .completion) (take (brought .given) (now (left .entry))) (memoryIn rows area) ⌝ }
 {

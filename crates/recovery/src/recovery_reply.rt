@@ -41,10 +41,10 @@ ghost use Rattle.recovery.specs.Reports.{noId, idsOf, idLists};
 ghost use Rattle.recovery.specs.RecoveryReply.{listsIn, rowsMeant, recoveryRefused, isWhole, isRevision, matching, restoredBy, resetBy, sessionAfter, refusedAfter, abortReport, concludedBy, settledOf, doneOf, replyBy, replySized, recoveryReplyOf};
 
 // A recovery whose reply is in: the session without it, the recovery, and what the backend says.
-struct Ended {
-    idle: Session,
-    recovery: Recovery,
-    outcome: Outcome,
+pub struct Ended {
+    pub idle: Session,
+    pub recovery: Recovery,
+    pub outcome: Outcome,
 }
 
 fn no_id() -> RequestId
@@ -282,7 +282,8 @@ fn reply_scoped(
     aborted: &[u64],
     bytes: &[u8],
 ) -> Recovered
-    requires { ⌜ Places (ended .idle .size) (now rows) (now area) (now affected) × Agree (now tokens) (now completions) (now bytes)
+    requires { ⌜ Places (ended .idle .size) (now rows) (now area) (now affected)
+        × Agree (now tokens) (now completions) (now bytes)
         × (length (now tokens) + length (now aborted) ≤ 128) ⌝ }
     ensures { λ r. ⌜ after r (memoryOut rows area)
         ≡ settledOf ended (rowsMeant (meant (now (affected .entry)) (now (own .entry)))
@@ -315,7 +316,8 @@ fn reply_affected(
     aborted: &[u64],
     bytes: &[u8],
 ) -> Recovered
-    requires { ⌜ Places (ended .idle .size) (now rows) (now area) (now affected) × Agree (now tokens) (now completions) (now bytes)
+    requires { ⌜ Places (ended .idle .size) (now rows) (now area) (now affected)
+        × Agree (now tokens) (now completions) (now bytes)
         × (length (now own) ≤ 128) ⌝ }
     ensures { λ r. ⌜ after r (memoryOut rows area)
         ≡ doneOf ended (now (affected .entry)) (now (own .entry)) (listsIn tokens completions aborted bytes)

@@ -251,7 +251,8 @@ pub fn completed_bytes<'a>(
     id: RequestId,
     number: &mut u16,
 ) -> &'a [u8]
-    ensures { λ r. ⌜ (now r ≡ bytesOf (completedPart id (length (now (area .entry))) session (storeIn rows)) (now (area .entry)))
+    ensures { λ r. ⌜ (now r
+        ≡ bytesOf (completedPart id (length (now (area .entry))) session (storeIn rows)) (now (area .entry)))
         × (now (number .exit) ≡ partNumber (completedPart id (length (now (area .entry))) session (storeIn rows))) ⌝ }
 {
     let answer = completed_part(session, rows, area.len(), id);

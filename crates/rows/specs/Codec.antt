@@ -23,6 +23,9 @@ readSetupWords present type request value index length =
     cond (eqb present 0) setup.None
     (setup.Some (record { «request_type» = type % 2 ^ 8; request = request % 2 ^ 8; value = value % 2 ^ 16; index = index % 2 ^ 16; length = length % 2 ^ 16 }))
 
+abbrev pub setupIn : SetupWords → OptionSetup
+setupIn p = readSetupWords (p .present) (p .«request_type») (p .request) (p .value) (p .index) (p .length)
+
 abbrev pub setupWords : OptionSetup → SetupWords
 setupWords setup.None = record { present = 0; «request_type» = 0; request = 0; value = 0; index = 0; length = 0 }
 setupWords (setup.Some p) = record { present = 1; «request_type» = p .«request_type»; request = p .request; value = p .value; index = p .index; length = p .length }
@@ -41,11 +44,11 @@ abbrev pub readErrorWords : ℕ → ℕ → ℕ → ℕ → OperationError
 readErrorWords a b d e = record { category = readCategory a; message = b % 2 ^ 16; «os_code» = readOptionI32 d; «completion_code» = readOptionU32 e }
 
 -- a report's state by its words; tags: 0 Pending, 1 Completed, 2 Failed, any other Aborted
-abbrev pub readStateWords : ℕ → ℕ → ℕ → ℕ → ℕ → ℕ → ℕ → RequestState
-readStateWords tag a b c d e f =
-    cond (eqb tag 0) (Pending (readFlag a) (readFlag b))
-    (cond (eqb tag 1) (Completed a (b % 2 ^ 32) (readFlag c))
-    (cond (eqb tag 2) (Failed (readErrorWords a b d e) (readOptionU32 f) (readFlag c))
+abbrev pub readStateWords : StateWords → RequestState
+readStateWords w =
+    cond (eqb (w .tag) 0) (Pending (readFlag (w .a)) (readFlag (w .b)))
+    (cond (eqb (w .tag) 1) (Completed (w .a) (w .b % 2 ^ 32) (readFlag (w .c)))
+    (cond (eqb (w .tag) 2) (Failed (readErrorWords (w .a) (w .b) (w .d) (w .e)) (readOptionU32 (w .f)) (readFlag (w .c)))
     Aborted))
 
 -- the words of a state: three beside its tag, or six where it has an error
@@ -89,6 +92,9 @@ stateByKind k a b d e f =
 -- which is 0 in a row that is used
 abbrev pub kindBy : ℕ → ℕ → ℕ
 kindBy status rest = cond (eqb status 0) rest status
+
+abbrev pub stateIn : StatusWords → RequestState
+stateIn w = stateByKind (kindBy (w .status) (w .rest)) (w .a) (w .b) (w .d) (w .e) (w .f)
 
 abbrev pub rowStatus : Bool → ℕ → ℕ
 rowStatus used kind = cond used kind 0

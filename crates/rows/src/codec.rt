@@ -15,7 +15,7 @@ ghost use mathlib.Core.Bool.{cond};
 ghost use lib.Dec.{eqb};
 ghost use lib.ListN.{length};
 ghost use Rattle.words.specs.Words.{readFlag, readOptionU32};
-ghost use Rattle.rows.specs.Codec.{readSetupWords, setupWords, readMetadata, readStateWords, shortWords, failedWords, stateWords, readErrorWords, kindWord, stateByKind, kindBy, rowStatusWords, statusWords, readRow, recordOf};
+ghost use Rattle.rows.specs.Codec.{readSetupWords, setupIn, setupWords, readMetadata, readStateWords, shortWords, failedWords, stateWords, readErrorWords, kindWord, stateByKind, kindBy, stateIn, rowStatusWords, statusWords, readRow, recordOf};
 ghost use Rattle.models.specs.declared.RequestState.the-variants as RequestState;
 
 // The kinds of a row's state: odd, where the row is held.
@@ -63,7 +63,7 @@ pub struct StatusWords {
 }
 
 pub fn setup_words(o: OptionSetup) -> SetupWords
-    ensures { λ r. ⌜ (readSetupWords (r .present) (r .«request_type») (r .request) (r .value) (r .index) (r .length) ≡ o) × (r ≡ setupWords o) ⌝ }
+    ensures { λ r. ⌜ (setupIn r ≡ o) × (r ≡ setupWords o) ⌝ }
 {
     match o {
         OptionSetup::None => SetupWords {
@@ -144,7 +144,8 @@ fn short_words(tag: u64, a: u64, b: u64, c: u64) -> StateWords
 }
 
 fn failed_words(error: OperationError, code: OptionU32, quiescent: bool) -> StateWords
-    ensures { λ r. ⌜ (readStateWords (r .tag) (r .a) (r .b) (r .c) (r .d) (r .e) (r .f) ≡ RequestState.Failed error code quiescent) × (r ≡ failedWords error code quiescent) ⌝ }
+    ensures { λ r. ⌜ (readStateWords r ≡ RequestState.Failed error code quiescent)
+        × (r ≡ failedWords error code quiescent) ⌝ }
 {
     let category = error.category;
     let os_code = error.os_code;
@@ -161,7 +162,7 @@ fn failed_words(error: OperationError, code: OptionU32, quiescent: bool) -> Stat
 }
 
 pub fn state_words(s: RequestState) -> StateWords
-    ensures { λ r. ⌜ (readStateWords (r .tag) (r .a) (r .b) (r .c) (r .d) (r .e) (r .f) ≡ s) × (r ≡ stateWords s) ⌝ }
+    ensures { λ r. ⌜ (readStateWords r ≡ s) × (r ≡ stateWords s) ⌝ }
 {
     match s {
         RequestState::Pending {
@@ -313,7 +314,7 @@ fn status_by(used: bool, kind: u64, w: StateWords) -> StatusWords
 }
 
 pub(crate) fn status_words(used: bool, s: RequestState) -> StatusWords
-    ensures { λ r. ⌜ (readFlag (r .status) ≡ used) × (stateByKind (kindBy (r .status) (r .rest)) (r .a) (r .b) (r .d) (r .e) (r .f) ≡ s) × (r ≡ statusWords used s) ⌝ }
+    ensures { λ r. ⌜ (readFlag (r .status) ≡ used) × (stateIn r ≡ s) × (r ≡ statusWords used s) ⌝ }
 {
     let w = state_words(s);
     let kind = kind_word(s);
@@ -355,7 +356,8 @@ pub(crate) fn decode(sequence: u64, status: u64, w: &[u64]) -> Row
 
 // The record of a row whose SETUP has the words p and whose state the words s.
 pub(crate) fn encode(r: Row, p: SetupWords, s: StatusWords) -> [u64; 24]
-    requires { ⌜ (readSetupWords (p .present) (p .«request_type») (p .request) (p .value) (p .index) (p .length) ≡ r .metadata .setup) × (p ≡ setupWords (r .metadata .setup)) × (readFlag (s .status) ≡ r .used) × (stateByKind (kindBy (s .status) (s .rest)) (s .a) (s .b) (s .d) (s .e) (s .f) ≡ r .state) × (s ≡ statusWords (r .used) (r .state)) ⌝ }
+    requires { ⌜ (setupIn p ≡ r .metadata .setup) × (p ≡ setupWords (r .metadata .setup))
+        × (readFlag (s .status) ≡ r .used) × (stateIn s ≡ r .state) × (s ≡ statusWords (r .used) (r .state)) ⌝ }
     ensures { λ w. ⌜ (readRow (r .id .sequence ∷ s .status ∷ w) ≡ r) × (w ≡ recordOf r) ⌝ }
 {
     let m = r.metadata;

@@ -33,7 +33,8 @@ const TOKEN: usize = 15;
 // Where the record of row i starts.
 pub(crate) fn record_at(rows: &[u64], i: usize) -> usize
     requires { ⌜ i < length (readRows (now rows)) ⌝ }
-    ensures { λ r. ⌜ (r ≡ recordAt (rowCount (now (rows .entry))) i) × (r + recordWords ≤ length (now (rows .entry))) ⌝ }
+    ensures { λ r. ⌜ (r ≡ recordAt (rowCount (now (rows .entry))) i)
+        × (r + recordWords ≤ length (now (rows .entry))) ⌝ }
 {
     let n = rows.len() / ROW_WORDS;
     n * COLUMN_WORDS + i * RECORD_WORDS

@@ -1,26 +1,20 @@
 -- The rows that a recovery affects, and those that a reply's tokens mean. Assumes nothing.
 use Prim.Native.Nat.{ℕ, zero, suc, _<_}
-use mathlib.Core.Path.{_≡_, _∙_}
+use mathlib.Core.Path.{_≡_}
 use mathlib.Core.Bool.{true, _&&_}
-use mathlib.Core.List.{List, [], _∷_, map}
+use mathlib.Core.List.{List, [], _∷_}
 use native.Mathlib.Omega.{arith}
 use native.Mathlib.Nat.{le-of-suc-le-suc}
 use borrow.Author.Tests.{ltb-true}
 use lib.Dec.{ltb}
 use lib.ListN.{length, getD, length-map}
 use Rattle.chain.proofs.Chain.{caseB, both}
-use Rattle.words.proofs.Records.{map-tab, tab-list}
 use Rattle.models.specs.declared.DeviceId.{DeviceId}
 use Rattle.rows.specs.Table.{isHeld, rowIn, idIn, tokenIn}
 use Rattle.rows.specs.declared.Row.{Row}
 use Rattle.scope.specs.Affected.{isAffected, comesBefore, insertRow, joined, affectedUpTo, affectedOf, tokensOf}
 use Rattle.scope.specs.Scope.{slotOf, isAmong, meant}
-use Rattle.scope.specs.Returned.{Returned, returnedAt, readReturned}
 use Rattle.scope.proofs.affected.Laws.{affected-bounded}
-
-pub returned-tokens : (tokens words : List ℕ) → map (λ (e : Returned). e .token) (readReturned tokens words) ≡ tokens
-unfolding readReturned
-returned-tokens tokens words = map-tab (λ (e : Returned). e .token) (returnedAt tokens words) (length tokens) ∙ tab-list tokens 0
 
 module _ (d : DeviceId) (endpoint : ℕ) (rows : List Row) where
   -- the tokens of the affected rows, and the place of the row that a token means

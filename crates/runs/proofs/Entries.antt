@@ -14,8 +14,9 @@ use Rattle.rows.specs.Store.{Store}
 use Rattle.session.specs.Lent.{Memory, memory}
 use Rattle.session.specs.declared.Size.{Size}
 use Rattle.scope.specs.Returned.{broughtAt, Returned, returnedAt, readReturned}
-use Rattle.recovery.specs.Entries.{Entry, entryAt, readEntries, completeOne, onwardBy, completeAll, abortOne, abortAll, abortsIn, applyAll}
+use Rattle.recovery.specs.Entries.{RowEntry, entryAt, readEntries, completeOne, onwardBy, completeAll, abortOne, abortAll, abortsIn, applyAll}
 use Rattle.recovery.specs.RecoveryReply.{ReplyLists, rowsMeant}
+use Rattle.runs.proofs.Tokens.{returnedIn}
 
 -- J: the entries that are left, their bytes, and the memory where the walk has come; P: where it ends
 module _ (place : ℕ → ℕ) (z : Size) (J : List Returned → List ℕ → List ℕ → Memory → Type 0) (P : Verdict → Memory → Type 0) where
@@ -32,7 +33,7 @@ module _ (place : ℕ → ℕ) (z : Size) (J : List Returned → List ℕ → Li
   bytesLeft (e ∷ es) bytes = bytesLeft es (drop (e .brought .given) bytes)
 
   -- the row that an entry's token means
-  abbrev rowOf : Returned → Entry
+  abbrev rowOf : Returned → RowEntry
   rowOf e = record { row = place (e .token); brought = e .brought }
 
   rows-meant : (tokens words : List ℕ) → readEntries (map place tokens) words ≡ map rowOf (readReturned tokens words)
@@ -44,7 +45,7 @@ module _ (place : ℕ → ℕ) (z : Size) (J : List Returned → List ℕ → Li
     where
       each : (k : ℕ) → k < length tokens → entryAt (map place tokens) words k ≡ rowOf (returnedAt tokens words k)
       each k h =
-          ap {B = Entry} (λ (i : ℕ). record { row = i; brought = broughtAt words k })
+          ap {B = RowEntry} (λ (i : ℕ). record { row = i; brought = broughtAt words k })
           (getD-any (map place tokens) k 0 (place 0) (omega (arith, length-map tokens place)) ∙ List·getD-map place tokens k 0)
 
   abbrev one : Returned → List ℕ → Memory → After Verdict Memory
@@ -80,7 +81,7 @@ module _ (place : ℕ → ℕ) (z : Size) (J : List Returned → List ℕ → Li
         go (verdict.Refused r) o ev h rest = subst (λ (v : Verdict). P v (memory (o .lent) (m .area))) (sym ev) h
         go verdict.Pass o ev h rest = rest (o .lent) h
 
-    module _ (l : ReplyLists) (m : Memory) (k : J (readReturned (l .tokens) (l .completions)) (l .aborted) (l .bytes) m) where
+    module _ (l : ReplyLists) (m : Memory) (k : J (returnedIn l) (l .aborted) (l .bytes) m) where
       abbrev Ended : After Verdict Memory → Type 0
       Ended o = P (o .result) (o .lent)
 
@@ -93,7 +94,7 @@ module _ (place : ℕ → ℕ) (z : Size) (J : List Returned → List ℕ → Li
       unfolding applyAll
       entries-all =
           subst
-          (λ (es : List Entry). Ended (onwardBy (completeAll z es (l .bytes) m .result) (completeAll z es (l .bytes) m) (abortsIn (map place (l .aborted)))))
+          (λ (es : List RowEntry). Ended (onwardBy (completeAll z es (l .bytes) m .result) (completeAll z es (l .bytes) m) (abortsIn (map place (l .aborted)))))
           (sym (rows-meant (l .tokens) (l .completions)))
-          (by-completed _ (completeAll z (map rowOf (readReturned (l .tokens) (l .completions))) (l .bytes) m) refl _
-          (completed (readReturned (l .tokens) (l .completions)) (l .aborted) (l .bytes) m k))
+          (by-completed _ (completeAll z (map rowOf (returnedIn l)) (l .bytes) m) refl _
+          (completed (returnedIn l) (l .aborted) (l .bytes) m k))

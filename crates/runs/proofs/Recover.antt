@@ -39,7 +39,7 @@ use Rattle.session.specs.declared.RecoveryKind.{RecoveryKind}
 use Rattle.session.specs.declared.RecoveryKind.the-variants as kind
 use Rattle.session.specs.declared.Session.{Session}
 use Rattle.scope.specs.Scope.{isAmong, inScope}
-use Rattle.scope.specs.Returned.{Returned, readReturned}
+use Rattle.scope.specs.Returned.{Returned}
 use Rattle.session.specs.declared.Size.{Size}
 use Rattle.session.specs.declared.Recovery.{Recovery}
 use Rattle.recovery.specs.Entries.{rowCompletedBy, testedBy, completeOne, abortedBy, abortOne, applyAll}
@@ -51,12 +51,12 @@ use Rattle.recovery.specs.declared.Outcome.{Outcome}
 use Rattle.recovery.specs.declared.RecoveryReply.{RecoveryReply}
 use Rattle.recovery.specs.declared.Recovered.{Recovered}
 use Rattle.runs.specs.Sound.{FlightReady, Sound}
-use Rattle.runs.proofs.Tokens.{tokensIn, Each, scope-each}
+use Rattle.runs.proofs.Tokens.{tokensIn, Each, scope-each, replyTokens}
 use Rattle.runs.proofs.Moves.{Idle, stays, marked-moves, marked-idle}
 use Rattle.runs.proofs.Rows.{one, Leads, kept, moved, moved-idle, RowChange, changed-certain}
 use Rattle.runs.proofs.Rules.{StepCertain, StepUsed, complete-step, complete-used, abort-step, abort-used}
 use Rattle.runs.proofs.Finish.{TestSound, test-sound}
-use Rattle.runs.proofs.Affected.{affected-is-held, meant-affected, meant-below, returned-tokens, ownTokens, placeMeant}
+use Rattle.runs.proofs.Affected.{affected-is-held, meant-affected, meant-below, ownTokens, placeMeant}
 use Rattle.runs.proofs.Held.{any-count, held-used}
 use Rattle.runs.proofs.Ids.{access-held, at-own}
 use Rattle.runs.proofs.Ways.{begin-all, recovery-all}
@@ -150,7 +150,7 @@ module _ (place : ℕ → ℕ) where
       unfolding abortOne
       aborted-one = aborted-by (changeRow (rowIn (store .rows) i) change.ConfirmAbort) (abort-step (rowIn (store .rows) i)) (abort-used (rowIn (store .rows) i))
 
-    applied-all : (z : Size) (l : ReplyLists) (m : Memory) → Sound s (m .store) → AllUsed (m .store .rows) (tokensIn (readReturned (l .tokens) (l .completions)) ++ l .aborted)
+    applied-all : (z : Size) (l : ReplyLists) (m : Memory) → Sound s (m .store) → AllUsed (m .store .rows) (replyTokens l)
         → Leads s (m .store) s (applyAll z (rowsMeant place l) m .lent .store)
     applied-all z l m k a =
         entries-all place z J P (λ bytes n h. h .leads)
@@ -252,9 +252,7 @@ module _ {s : Session} (m : Memory) (k : Sound s (m .store)) (l : ReplyLists) wh
   unfolding settledOf
   settled-sound x o n =
       let place : ℕ → ℕ = placeMeant (x .device) (x .endpoint) (m .store .rows) in
-      let ts = returned-tokens (l .tokens) (l .completions) in
-      let used : AllUsed place (m .store .rows) (tokensIn (readReturned (l .tokens) (l .completions)) ++ l .aborted) =
-      rw ts (scope-each (ownTokens (x .device) (x .endpoint) (m .store .rows)) (isWhole o) (l .tokens ++ l .aborted) n (Used place (m .store .rows)) (meant-used (x .device) (x .endpoint) (m .store .rows))) in
+      let used = scope-each (ownTokens (x .device) (x .endpoint) (m .store .rows)) (isWhole o) l n (Used place (m .store .rows)) (meant-used (x .device) (x .endpoint) (m .store .rows)) in
       let a = applied-all place quiet refl (quiet .size) l m (stilled .sound) used in
       let done : After Verdict Memory = applyAll (quiet .size) (rowsMeant place l) m in
       leads-then stilled (leads-then a (concluded-after (a .sound) refl (done .result) x o _ _))

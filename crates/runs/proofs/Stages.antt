@@ -136,7 +136,7 @@ by-answer (verdict.Refused r) stop go = stop r refl
 by-answer verdict.Pass stop go = go refl
 
 module _ (q : Request) (s : Session) (l : Lent) (P : After Submitted Lent → Type 0) (no : (x : Refusal) → x .number ≤ 25 → P (after (submitRefused s x) l))
-    (go : (i : ℕ) → Room (l .memory .store .rows) i → q .spec .length ≤ s .size .«row_bytes»
+    (go : (i : ℕ) → Room (l .memory .store .rows) i → (q .spec .length ≤ s .size .«row_bytes») × (length (q .bytes) ≤ s .size .«row_bytes»)
     → P (submittedTo (targetOf (draft (placeOf (s .size) i) (metadataOf (q .spec)) (q .bytes)) (q .readings) s l) (metadataOf (q .spec)) (q .given))) where
   by-prepared : (i : ℕ) → Room (l .memory .store .rows) i → P (preparedOf (placeOf (s .size) i) q s l)
   unfolding prepare.prepared prepare.preparedIf preparedOf
@@ -145,7 +145,7 @@ module _ (q : Request) (s : Session) (l : Lent) (P : After Submitted Lent → Ty
       (λ r e. rw (e, preparedOf) (no r (early-said _ (spec-early _) r e)))
       (λ e.
       let z : prepare.prepared (q .spec) (length (q .bytes)) (s .size .«row_bytes») ≡ prepared.Ready (metadataOf (q .spec)) = ap (λ (v : Verdict). prepare.preparedIf v (q .spec)) e in
-      rw (e, preparedOf) (go i room (ready-fits (q .spec) (length (q .bytes)) (s .size .«row_bytes») (metadataOf (q .spec)) z .0)))
+      rw (e, preparedOf) (go i room (ready-fits (q .spec) (length (q .bytes)) (s .size .«row_bytes») (metadataOf (q .spec)) z)))
 
   by-room : P (roomOf q s l)
   unfolding roomOf
@@ -163,7 +163,7 @@ module _ (q : Request) (s : Session) (l : Lent) (P : After Submitted Lent → Ty
 -- a plan
 module _ (q : ControlPlan) (bytes : List ℕ) (first : PortReading) (s : Session) (l : Lent) (P : After PlanSubmitted Lent → Type 0)
     (no : (x : Refusal) → x .number ≤ 25 → P (after (planRefused s x) l))
-    (go : (i : ℕ) → Room (l .memory .store .rows) i → planOf q .metadata .«requested_length» ≤ s .size .«row_bytes»
+    (go : (i : ℕ) → Room (l .memory .store .rows) i → (planOf q .metadata .«requested_length» ≤ s .size .«row_bytes») × (length bytes ≤ s .size .«row_bytes»)
     → P (plannedTo (targetOf (draft (placeOf (s .size) i) (planOf q .metadata) bytes) (record { first = first; second = first }) s l) (planOf q))) where
   by-planned : (i : ℕ) → Room (l .memory .store .rows) i → P (plannedOf (placeOf (s .size) i) q bytes first s l)
   unfolding plan.planned plan.plannedIf plannedOf
@@ -171,7 +171,7 @@ module _ (q : ControlPlan) (bytes : List ℕ) (first : PortReading) (s : Session
       by-answer (planChecked (planFacts q (length bytes) (s .size .«row_bytes»))) (λ r e. rw (e, plannedOf) (no r (early-said _ (plan-early _) r e)))
       (λ e.
       let z : plan.planned q (length bytes) (s .size .«row_bytes») ≡ planned.Ready (planOf q) = ap (λ (v : Verdict). plan.plannedIf v q) e in
-      rw (e, plannedOf) (go i room (planned-fits q (length bytes) (s .size .«row_bytes») (planOf q) z .0)))
+      rw (e, plannedOf) (go i room (planned-fits q (length bytes) (s .size .«row_bytes») (planOf q) z)))
 
   pub plan-all : P (submitPlanOf q bytes first s l)
   unfolding submitPlanOf guarded planRoomOf

@@ -103,7 +103,7 @@ module _ {s : Session} (l : Lent) (k : Sound s (l .memory .store)) where
       (λ i room size.
       target-all (draft (placeOf (s .size) i) (metadataOf (q .spec)) (q .bytes)) s (l .memory)
       (λ o. To (submittedTo o (metadataOf (q .spec)) (q .given) .result .session) (o .lent)) (λ x b. kept k)
-      (λ ready next later b. begun-sound k i (room .below) (room .few) (metadataOf (q .spec)) size ready next later) (q .readings) (l .bus))
+      (λ ready next later b. begun-sound k i (room .below) (room .few) (metadataOf (q .spec)) (size .0) ready next later) (q .readings) (l .bus))
       packets
 
   pub plan-sound : (q : ControlPlan) (bytes : List ℕ) (first : PortReading) → To (submitPlanOf q bytes first s l .result .session) (submitPlanOf q bytes first s l .lent)
@@ -113,4 +113,4 @@ module _ {s : Session} (l : Lent) (k : Sound s (l .memory .store)) where
       (λ i room size.
       target-all (draft (placeOf (s .size) i) (planOf q .metadata) bytes) s (l .memory)
       (λ o. To (plannedTo o (planOf q) .result .session) (o .lent)) (λ x b. kept k)
-      (λ ready next later b. begun-sound k i (room .below) (room .few) (planOf q .metadata) size ready next later) _ (l .bus))
+      (λ ready next later b. begun-sound k i (room .below) (room .few) (planOf q .metadata) (size .0) ready next later) _ (l .bus))

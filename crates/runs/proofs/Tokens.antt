@@ -4,14 +4,30 @@ use mathlib.Core.Path.{_≡_, refl, sym, ap, _∙_}
 use mathlib.Core.Bool.{Bool, true, false, not, _&&_, _||_, true≢false, false≢true}
 use mathlib.Core.List.{List, [], _∷_, _++_, map}
 use borrow.Author.Tests.{eq-eqb, eqb-true, not-true}
+use lib.ListN.{length}
 use lib.Dec.{eqb}
 use Rattle.chain.proofs.Chain.{caseB, both}
-use Rattle.scope.specs.Returned.{Returned}
+use Rattle.words.proofs.Records.{map-tab, tab-list}
+use Rattle.scope.specs.Returned.{Returned, returnedAt, readReturned}
 use Rattle.scope.specs.Scope.{isAmong, eachOnce, allIn, inScope}
 use Rattle.scope.proofs.tokens.Laws.{in-cons}
+use Rattle.recovery.specs.RecoveryReply.{ReplyLists}
 
 abbrev pub tokensIn : List Returned → List ℕ
 tokensIn es = map (λ (e : Returned). e .token) es
+
+-- what a reply completes, and the tokens of all that it names
+abbrev pub returnedIn : ReplyLists → List Returned
+returnedIn l = readReturned (l .tokens) (l .completions)
+
+abbrev pub replyTokens : ReplyLists → List ℕ
+replyTokens l = tokensIn (returnedIn l) ++ l .aborted
+
+pub reply-tokens : (l : ReplyLists) → replyTokens l ≡ l .tokens ++ l .aborted
+unfolding readReturned
+reply-tokens l =
+    ap (λ (ts : List ℕ). ts ++ l .aborted)
+    (map-tab (λ (e : Returned). e .token) (returnedAt (l .tokens) (l .completions)) (length (l .tokens)) ∙ tab-list (l .tokens) 0)
 
 abbrev pub Each : (ℕ → Type 0) → List ℕ → Type 0
 Each P [] = Unit {0}
@@ -65,13 +81,13 @@ module _ (own : List ℕ) where
       let p = and3 (isAmong t own) (not (isAmong t l)) (eachOnce own (t ∷ l) ts) e in
       (apart ts (t ∷ l) t (p .2) (self-in t l), each-apart ts (t ∷ l) (p .2))
 
-  module _ (whole : Bool) (ts : List ℕ) (scope : inScope whole own ts ≡ true) where
-    once : eachOnce own [] ts ≡ true
+  module _ (whole : Bool) (l : ReplyLists) (scope : inScope whole own (l .tokens ++ l .aborted) ≡ true) where
+    once : eachOnce own [] (replyTokens l) ≡ true
     unfolding inScope
-    once = both (eachOnce own [] ts) (not whole || allIn own ts) scope .0
+    once = let e = reply-tokens l in rw e (both (eachOnce own [] (l .tokens ++ l .aborted)) (not whole || allIn own (l .tokens ++ l .aborted)) scope .0)
 
-    pub scope-each : (P : ℕ → Type 0) → ((t : ℕ) → isAmong t own ≡ true → P t) → Each P ts
-    scope-each P h = each-own P h ts [] once
+    pub scope-each : (P : ℕ → Type 0) → ((t : ℕ) → isAmong t own ≡ true → P t) → Each P (replyTokens l)
+    scope-each P h = each-own P h (replyTokens l) [] once
 
-    pub scope-distinct : Distinct ts
-    scope-distinct = each-apart ts [] once
+    pub scope-distinct : Distinct (replyTokens l)
+    scope-distinct = each-apart (replyTokens l) [] once

@@ -103,7 +103,8 @@ fn new_session(o: Opening) -> Session
 
 // Opens a session on a store and a bus, whatever they held. 3: a size is wrong.
 pub fn open(o: Opening, rows: &mut [u64], area: &[u8], bus: &mut [u64]) -> Opened
-    ensures { λ r. ⌜ after r (lent (busOut bus) (memory (storeOut rows) (now (area .entry)))) ≡ openOf o (lentIn bus rows area) ⌝ }
+    ensures { λ r. ⌜ after r (lent (busOut bus) (memory (storeOut rows) (now (area .entry))))
+        ≡ openOf o (lentIn bus rows area) ⌝ }
 {
     let size = o.size;
     if !sizes::lent_fits(size, rows.len(), area.len(), bus.len()) {

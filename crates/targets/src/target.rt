@@ -100,7 +100,8 @@ fn check_device(
     reading: PortReading,
 ) -> DeviceChecked
     requires { ⌜ length (now bus) ≡ busWords ⌝ }
-    ensures { λ r. ⌜ after r (busOf (now (bus .exit))) ≡ checkDevice initialized ports id reading (busOf (now (bus .entry))) ⌝ }
+    ensures { λ r. ⌜ after r (busOf (now (bus .exit)))
+        ≡ checkDevice initialized ports id reading (busOf (now (bus .entry))) ⌝ }
 {
     let known = known_device(bus, initialized, id);
     match known {
@@ -156,7 +157,8 @@ fn check_endpoint(
     reading: PortReading,
 ) -> Verdict
     requires { ⌜ length (now bus) ≡ busWords ⌝ }
-    ensures { λ r. ⌜ after r (busOf (now (bus .exit))) ≡ checkEndpoint ports device metadata reading (busOf (now (bus .entry))) ⌝ }
+    ensures { λ r. ⌜ after r (busOf (now (bus .exit)))
+        ≡ checkEndpoint ports device metadata reading (busOf (now (bus .entry))) ⌝ }
 {
     let state = device.state;
     let configured = kinds::is_configured(state);
@@ -177,7 +179,8 @@ fn check_after(
     second: PortReading,
 ) -> Verdict
     requires { ⌜ length (now bus) ≡ busWords ⌝ }
-    ensures { λ r. ⌜ after r (busOf (now (bus .exit))) ≡ checkTargetBy checked ports metadata second (busOf (now (bus .entry))) ⌝ }
+    ensures { λ r. ⌜ after r (busOf (now (bus .exit)))
+        ≡ checkTargetBy checked ports metadata second (busOf (now (bus .entry))) ⌝ }
 {
     match checked {
         DeviceChecked::Refused(refusal) => Verdict::Refused(refusal),
@@ -201,7 +204,8 @@ pub fn check_target(
     readings: Readings,
 ) -> Verdict
     requires { ⌜ length (now bus) ≡ busWords ⌝ }
-    ensures { λ r. ⌜ after r (busOf (now (bus .exit))) ≡ checkTarget initialized ports metadata readings (busOf (now (bus .entry))) ⌝ }
+    ensures { λ r. ⌜ after r (busOf (now (bus .exit)))
+        ≡ checkTarget initialized ports metadata readings (busOf (now (bus .entry))) ⌝ }
 {
     let id = metadata.device;
     let first = readings.first;

@@ -3,7 +3,7 @@ use std::collections::VecDeque;
 
 use script::Call;
 
-use crate::opens;
+use crate::begins;
 
 /// How many calls are kept beside those since the last opening.
 const MOST: usize = 20_000;
@@ -18,7 +18,8 @@ pub struct History {
 
 impl History {
     pub fn add(&mut self, call: &Call) {
-        if opens(call) || self.openings.is_empty() {
+        let last = self.openings.back().and_then(|calls| calls.last());
+        if begins(call, last) || self.openings.is_empty() {
             self.earlier += self.openings.back().map_or(0, Vec::len);
             self.openings.push_back(Vec::new());
             while self.earlier > MOST && self.openings.len() > 1 {
@@ -58,6 +59,15 @@ mod tests {
         let history = history(&[open, "dump", open, "reports", "dump"]);
         let lengths: Vec<_> = history.since_openings().iter().map(Vec::len).collect();
         assert_eq!(lengths, [3, 5]);
+    }
+
+    #[test]
+    fn a_stores_size_belongs_to_its_opening() {
+        let open = "open session=1 seq=0 rev=0 ports=1";
+        let store = "store rows=1 bytes=8";
+        let history = history(&[store, open, "dump", store, open, open]);
+        let lengths: Vec<_> = history.since_openings().iter().map(Vec::len).collect();
+        assert_eq!(lengths, [1, 3, 6]);
     }
 
     #[test]

@@ -23,6 +23,17 @@ pub struct Plan {
     pub mix: Mix,
     /// With a phase, every call is of that phase.
     pub phase: Option<Phase>,
+    /// Whether every opening has a smaller store.
+    pub stores: bool,
+}
+
+impl Plan {
+    fn generator(&self) -> Generator {
+        match self.stores {
+            true => Generator::in_small_stores(self.seed, self.mix, self.phase),
+            false => Generator::new(self.seed, self.mix, self.phase),
+        }
+    }
 }
 
 /// The Rust's counts and the port's.
@@ -32,10 +43,19 @@ pub struct Tables {
 }
 
 impl Tables {
+    /// For calls of this mix.
     pub fn new(mix: Mix) -> Self {
         Self {
             rust: Table::new(mix),
             port: Table::new(mix),
+        }
+    }
+
+    /// For calls of this mix in smaller stores.
+    pub fn in_small_stores(mix: Mix) -> Self {
+        Self {
+            rust: Table::in_small_stores(mix),
+            port: Table::in_small_stores(mix),
         }
     }
 }
@@ -53,7 +73,7 @@ pub enum Stop {
 
 /// Runs the plan and counts the answers of both sides.
 pub fn compare(plan: Plan, new_port: NewSide<'_>, tables: &mut Tables) -> Result<(), Stop> {
-    let mut generator = Generator::new(plan.seed, plan.mix, plan.phase);
+    let mut generator = plan.generator();
     let mut port = new_port();
     let mut history = History::default();
     for after in 1..=plan.calls {
@@ -104,7 +124,10 @@ fn difference(rust: &Answer, port: &Result<Answer, String>) -> Option<(String, S
     }
 }
 
-/// Whether the call begins a new history.
-fn opens(call: &Call) -> bool {
-    matches!(call, Call::Open(_))
+/// Whether the call begins a new history: an opening, or the size of its store.
+fn begins(call: &Call, last: Option<&Call>) -> bool {
+    match call {
+        Call::Open(_) => !matches!(last, Some(Call::Store { .. })),
+        _ => matches!(call, Call::Store { .. }),
+    }
 }

@@ -6,10 +6,11 @@ use compare::{NewSide, Plan, Stop, Tables, compare};
 use generate::{Mix, Phase};
 use script::Side;
 
-const USAGE: &str = "usage: compare SEED CALLS [--seeds N] [--mix default|no-recovery] [--phase PHASE] [--side rattle|session] [--table]
+const USAGE: &str = "usage: compare SEED CALLS [--seeds N] [--mix default|no-recovery] [--phase PHASE] [--side rattle|session] [--stores] [--table]
   --seeds N: so many seeds from SEED on, CALLS calls each
   --mix: default without it, which has abort and reset
   --side: the port call by call (without it), or through UsbSession
+  --stores: every opening has a store of 1 to 200 rows of 1 to 4,096 bytes; the Rust is not asked what its limits refuse
   --table: how often each refusal and each kind of report came, on both sides";
 
 struct Options {
@@ -37,7 +38,10 @@ fn run() -> Result<(), String> {
         _ => return Err(USAGE.into()),
     };
     let start = Instant::now();
-    let mut tables = Tables::new(options.plan.mix);
+    let mut tables = match options.plan.stores {
+        true => Tables::in_small_stores(options.plan.mix),
+        false => Tables::new(options.plan.mix),
+    };
     for seed in (options.plan.seed..).take(options.seeds as usize) {
         let plan = Plan {
             seed,
@@ -71,6 +75,9 @@ fn report(options: &Options, tables: &Tables, start: Instant) {
     } else {
         println!("not met by these calls: refusals {numbers:?}, kinds {kinds:?}");
     }
+    if options.plan.stores {
+        println!("{}", tables.port.small_stores());
+    }
     println!(
         "compare: {} calls answered alike by the Rust and the port ({}), seeds {} to {}, {:.0} seconds",
         tables.port.calls,
@@ -82,12 +89,14 @@ fn report(options: &Options, tables: &Tables, start: Instant) {
 }
 
 fn options(mut words: impl Iterator<Item = String>) -> Result<Options, String> {
-    let (mut mix, mut phase, mut table) = (Mix::Default, None, false);
+    let (mut mix, mut phase) = (Mix::Default, None);
+    let (mut stores, mut table) = (false, false);
     let (mut seeds, mut side) = (1, "rattle".into());
     let mut numbers = Vec::new();
     while let Some(word) = words.next() {
         match word.as_str() {
             "--table" => table = true,
+            "--stores" => stores = true,
             "--mix" => mix = named(words.next(), Mix::from_name)?,
             "--phase" => phase = Some(named(words.next(), Phase::from_name)?),
             "--seeds" => seeds = named(words.next(), |it| it.parse().ok().filter(|n| *n > 0))?,
@@ -103,6 +112,7 @@ fn options(mut words: impl Iterator<Item = String>) -> Result<Options, String> {
         calls,
         mix,
         phase,
+        stores,
     };
     Ok(Options {
         plan,

@@ -1,7 +1,7 @@
 //! Cutting a script down to few calls that still show a difference.
 use std::fmt::{self, Display, Formatter};
 
-use oracle::Oracle;
+use generate::Bounded;
 use script::{Answer, Call, Side};
 
 use crate::{NewSide, difference};
@@ -70,11 +70,11 @@ pub fn shrink(calls: Vec<Call>, new_port: NewSide<'_>) -> Option<Difference> {
 
 /// The shortest prefix that shows a difference.
 fn first_difference(mut calls: Vec<Call>, new_port: NewSide<'_>) -> Option<Difference> {
-    let (mut oracle, mut port) = (Oracle::new(), new_port());
+    let (mut rust, mut port) = (Bounded::new(), new_port());
     for place in 0..calls.len() {
         let call = &calls[place];
-        let rust = oracle.apply(call).ok()?;
-        if let Some((rust, port)) = difference(&rust, &port.apply(call)) {
+        let answer = rust.apply(call).ok()?;
+        if let Some((rust, port)) = difference(&answer, &port.apply(call)) {
             calls.truncate(place + 1);
             return Some(Difference {
                 script: calls,

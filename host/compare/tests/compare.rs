@@ -1,7 +1,9 @@
 //! The two sides agree; where one lies, it is found and cut down.
+use std::collections::BTreeMap;
+
 use compare::{Plan, Stop, Tables, compare};
 use generate::Mix;
-use script::{Answer, Call, Outcome, RowState, Side};
+use script::{Answer, Call, DeviceId, Outcome, RowState, Side};
 
 fn plan(seed: u64, calls: u64) -> Plan {
     Plan {
@@ -9,11 +11,15 @@ fn plan(seed: u64, calls: u64) -> Plan {
         calls,
         mix: Mix::Default,
         phase: None,
+        stores: false,
     }
 }
 
 fn run(new_port: &dyn Fn() -> Box<dyn Side>, plan: Plan) -> Result<Tables, Stop> {
-    let mut tables = Tables::new(plan.mix);
+    let mut tables = match plan.stores {
+        true => Tables::in_small_stores(plan.mix),
+        false => Tables::new(plan.mix),
+    };
     compare(plan, new_port, &mut tables).map(|()| tables)
 }
 
@@ -27,6 +33,74 @@ fn the_port_answers_as_the_rust() {
 #[test]
 fn the_safe_session_answers_as_the_rust() {
     run(&|| Box::new(port::Session::new()), plan(12, 20_000)).unwrap();
+}
+
+fn in_small_stores(seed: u64, calls: u64) -> Plan {
+    Plan {
+        stores: true,
+        ..plan(seed, calls)
+    }
+}
+
+#[test]
+fn a_smaller_store_answers_as_the_rust_until_its_limit() {
+    let tables = run(&|| Box::new(port::Port::new()), in_small_stores(13, 20_000)).unwrap();
+    assert!(tables.port.times("5 with the only row of a store used") > 100);
+    assert!(tables.port.times("5 with all of more rows of a store used") > 100);
+    assert!(tables.port.times("7 by submit") > 100);
+    assert!(tables.port.times("7 by plan") > 50);
+    let session = || Box::new(port::Session::new()) as Box<dyn Side>;
+    run(&session, in_small_stores(14, 20_000)).unwrap();
+}
+
+/// The port, but its store has a row more than it should.
+struct Roomy(port::Port);
+
+impl Side for Roomy {
+    fn apply(&mut self, call: &Call) -> Result<Answer, String> {
+        match call {
+            Call::Store { rows, bytes } => self.0.apply(&Call::Store {
+                rows: rows + 1,
+                bytes: *bytes,
+            }),
+            call => self.0.apply(call),
+        }
+    }
+}
+
+#[test]
+fn a_store_with_a_row_too_many_is_found() {
+    let roomy = || Box::new(Roomy(port::Port::new())) as Box<dyn Side>;
+    let Err(Stop::Difference { found, .. }) = run(&roomy, in_small_stores(1, 20_000)) else {
+        panic!("it was not found");
+    };
+    assert!(found.rust.starts_with("refuse 5 V.5.-.- |"), "{found}");
+    assert!(!found.port.starts_with("refuse 5 "), "{found}");
+    assert!(matches!(found.script.first(), Some(Call::Store { .. })));
+}
+
+/// The port, but its rows have a byte less than they should.
+struct Tight(port::Port);
+
+impl Side for Tight {
+    fn apply(&mut self, call: &Call) -> Result<Answer, String> {
+        match call {
+            Call::Store { rows, bytes } if *bytes > 1 => self.0.apply(&Call::Store {
+                rows: *rows,
+                bytes: bytes - 1,
+            }),
+            call => self.0.apply(call),
+        }
+    }
+}
+
+#[test]
+fn a_row_with_a_byte_too_few_is_found() {
+    let tight = || Box::new(Tight(port::Port::new())) as Box<dyn Side>;
+    let Err(Stop::Difference { found, .. }) = run(&tight, in_small_stores(1, 20_000)) else {
+        panic!("it was not found");
+    };
+    assert!(found.port.starts_with("refuse 7 V.7.-.- |"), "{found}");
 }
 
 /// The port, but a request that timed out is shown as not timed out.
@@ -47,7 +121,7 @@ impl Side for Liar {
 #[test]
 fn a_difference_is_found_and_cut_down() {
     let lying = || Box::new(Liar(port::Port::new())) as Box<dyn Side>;
-    let stop = run(&lying, plan(1, 20_000));
+    let stop = run(&lying, plan(7, 20_000));
     let Err(Stop::Difference { after, found }) = stop else {
         panic!("it was not found");
     };
@@ -100,7 +174,7 @@ impl Side for Reversing {
 #[test]
 fn a_difference_in_a_recovery_is_found() {
     let reversing = || Box::new(Reversing(port::Port::new())) as Box<dyn Side>;
-    let Err(Stop::Difference { found, .. }) = run(&reversing, plan(5, 20_000)) else {
+    let Err(Stop::Difference { found, .. }) = run(&reversing, plan(10, 20_000)) else {
         panic!("it was not found");
     };
     let Some(Call::Recover {
@@ -113,4 +187,47 @@ fn a_difference_in_a_recovery_is_found() {
     // the reply names, and the recovery.
     let tokens = reply.completed.len() + reply.aborted.len();
     assert!(found.script.len() <= tokens + 8, "{found}");
+}
+
+/// The port, but it looks at the mark of a slot after its device (27 before 26).
+#[derive(Default)]
+struct Late {
+    port: port::Port,
+    devices: BTreeMap<u8, DeviceId>,
+}
+
+impl Side for Late {
+    fn apply(&mut self, call: &Call) -> Result<Answer, String> {
+        let mut answer = self.port.apply(call)?;
+        let device = match call {
+            Call::Open(_) => {
+                self.devices.clear();
+                None
+            }
+            Call::Device { id, .. } => self.devices.insert(id.slot, *id),
+            Call::Submit(submit) => Some(submit.device),
+            Call::Plan(plan) => Some(plan.device),
+            _ => None,
+        };
+        if let Outcome::Refused { number, error } = &mut answer.outcome
+            && *number == 26
+            && device.is_some_and(|id| self.devices.get(&id.slot) != Some(&id))
+        {
+            (*number, error.message) = (27, 27);
+        }
+        Ok(answer)
+    }
+}
+
+#[test]
+fn a_mark_that_is_looked_at_after_the_device_is_found_by_every_seed() {
+    let late = || Box::new(Late::default()) as Box<dyn Side>;
+    for seed in 1..=5 {
+        let Err(Stop::Difference { after, found }) = run(&late, plan(seed, 20_000)) else {
+            panic!("it was not found by seed {seed}");
+        };
+        println!("seed {seed}: call {after}");
+        assert!(found.rust.starts_with("refuse 26 "), "{found}");
+        assert!(found.port.starts_with("refuse 27 "), "{found}");
+    }
 }

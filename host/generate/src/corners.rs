@@ -3,7 +3,8 @@ use std::collections::BTreeSet;
 
 use oracle::{RowView, Stall, View};
 use script::{
-    AbortReply, AbortReport, AbortResult, Answer, Call, ControllerState, Outcome, Recovery,
+    AbortReply, AbortReport, AbortResult, Answer, Call, ControllerState, DeviceId, Outcome,
+    Recovery,
 };
 
 /// A recovery, what came of it, and what was there before.
@@ -16,11 +17,11 @@ pub struct Recovered<'a> {
     pub before: &'a View,
 }
 
-/// The slot that a submission names.
-pub fn slot(call: &Call) -> Option<u8> {
+/// The device that a submission names.
+pub fn device(call: &Call) -> Option<DeviceId> {
     match call {
-        Call::Submit(submit) => Some(submit.device.slot),
-        Call::Plan(plan) => Some(plan.device.slot),
+        Call::Submit(submit) => Some(submit.device),
+        Call::Plan(plan) => Some(plan.device),
         _ => None,
     }
 }

@@ -1,20 +1,23 @@
 //! Seeded random scripts. The oracle runs in step with the generator, so that
 //! the next call can aim at rows, tokens and states that are really there.
+mod bounded;
 mod corners;
 mod episode;
+mod marks;
 mod phase;
 mod poll;
 mod recover;
-mod rng;
 mod settings;
+mod stores;
 mod submit;
 mod table;
 mod values;
 mod world;
 
-use oracle::{Oracle, View};
+use oracle::View;
 use script::{Answer, Call, Side};
 
+pub use bounded::{Bounded, StoreSize};
 pub use phase::Phase;
 pub use table::Table;
 use world::World;
@@ -39,7 +42,7 @@ impl Mix {
 
 pub struct Generator {
     world: World,
-    oracle: Oracle,
+    rust: Bounded,
 }
 
 impl Generator {
@@ -47,8 +50,15 @@ impl Generator {
     pub fn new(seed: u64, mix: Mix, phase: Option<Phase>) -> Self {
         Self {
             world: World::new(seed, mix, phase),
-            oracle: Oracle::new(),
+            rust: Bounded::new(),
         }
+    }
+
+    /// The same, with a smaller store before every opening.
+    pub fn in_small_stores(seed: u64, mix: Mix, phase: Option<Phase>) -> Self {
+        let mut generator = Self::new(seed, mix, phase);
+        generator.world.small_stores = true;
+        generator
     }
 
     /// The next call, and the oracle's answer to it.
@@ -60,13 +70,13 @@ impl Generator {
 
     /// The next call. One that the oracle is not asked is as if never made.
     pub fn propose(&mut self) -> Call {
-        self.world.next_call(&self.oracle)
+        self.world.next_call(self.rust.oracle())
     }
 
     /// The oracle's answer to the call that was proposed.
     pub fn answer(&mut self, call: &Call) -> Result<Answer, String> {
         let answer = self
-            .oracle
+            .rust
             .apply(call)
             .map_err(|message| format!("{message}, at: {call}"))?;
         self.world.note(call, &answer);

@@ -4,8 +4,9 @@ use std::process::ExitCode;
 
 use generate::{Generator, Mix, Phase, Table};
 
-const USAGE: &str = "usage: generate SEED CALLS [--mix default|no-recovery] [--phase PHASE] [--table]
-  PHASE: mixed, checks, plans, ports, limits, hold, fill, stalls or lifecycle; all in turn without it
+const USAGE: &str = "usage: generate SEED CALLS [--mix default|no-recovery] [--phase PHASE] [--stores] [--table]
+  PHASE: mixed, checks, plans, ports, limits, hold, fill, stalls, lifecycle or marked; all in turn without it
+  --stores: every opening has a store of 1 to 200 rows of 1 to 4,096 bytes
   --table: how often each refusal and each kind of report came, in place of the script";
 
 struct Options {
@@ -13,6 +14,7 @@ struct Options {
     calls: u64,
     mix: Mix,
     phase: Option<Phase>,
+    stores: bool,
     table: bool,
 }
 
@@ -29,8 +31,14 @@ fn main() -> ExitCode {
 fn write_script() -> Result<(), String> {
     let options = options(std::env::args().skip(1))?;
     let mut out = io::BufWriter::new(io::stdout().lock());
-    let mut generator = Generator::new(options.seed, options.mix, options.phase);
-    let mut table = Table::new(options.mix);
+    let (seed, mix, phase) = (options.seed, options.mix, options.phase);
+    let (mut generator, mut table) = match options.stores {
+        true => (
+            Generator::in_small_stores(seed, mix, phase),
+            Table::in_small_stores(mix),
+        ),
+        false => (Generator::new(seed, mix, phase), Table::new(mix)),
+    };
     for _ in 0..options.calls {
         let (call, answer) = generator.step()?;
         if options.table {
@@ -50,11 +58,13 @@ fn unwritten(error: io::Error) -> String {
 }
 
 fn options(mut words: impl Iterator<Item = String>) -> Result<Options, String> {
-    let (mut mix, mut phase, mut table) = (Mix::Default, None, false);
+    let (mut mix, mut phase) = (Mix::Default, None);
+    let (mut stores, mut table) = (false, false);
     let mut numbers = Vec::new();
     while let Some(word) = words.next() {
         match word.as_str() {
             "--table" => table = true,
+            "--stores" => stores = true,
             "--mix" => mix = named(words.next(), Mix::from_name)?,
             "--phase" => phase = Some(named(words.next(), Phase::from_name)?),
             _ => numbers.push(word.parse::<u64>().map_err(|_| USAGE)?),
@@ -68,6 +78,7 @@ fn options(mut words: impl Iterator<Item = String>) -> Result<Options, String> {
         calls,
         mix,
         phase,
+        stores,
         table,
     })
 }

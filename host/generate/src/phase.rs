@@ -1,6 +1,7 @@
 //! What a stretch of a script is after: which calls come how often.
+use seeded::Rng;
+
 use crate::Mix;
-use crate::rng::Rng;
 
 #[derive(Debug, Clone, Copy, PartialEq, Eq)]
 pub enum Action {
@@ -53,6 +54,8 @@ pub enum Phase {
     Stalls,
     /// Openings, failed acquires, closes.
     Lifecycle,
+    /// Submissions to marked slots, most of them without a device (26 before 27).
+    Marked,
 }
 
 impl Phase {
@@ -67,6 +70,7 @@ impl Phase {
             "fill" => Self::Fill,
             "stalls" => Self::Stalls,
             "lifecycle" => Self::Lifecycle,
+            "marked" => Self::Marked,
             _ => return None,
         })
     }
@@ -78,10 +82,11 @@ impl Phase {
             (20, Self::Plans),
             (24, Self::Ports),
             (24, Self::Limits),
-            (10, Self::Hold),
+            (11, Self::Hold),
             (2, Self::Fill),
             (50, Self::Stalls),
             (12, Self::Lifecycle),
+            (20, Self::Marked),
         ])
     }
 
@@ -91,14 +96,15 @@ impl Phase {
             Self::Fill => 2_700 + rng.below(300),
             Self::Hold => 250 + rng.below(150),
             Self::Limits | Self::Lifecycle => 40 + rng.below(60),
+            Self::Marked => 15 + rng.below(20),
             _ => 80 + rng.below(250),
         }
     }
 
-    /// The next action, where so many rows are in use and so many held.
-    pub fn action(self, rng: &mut Rng, mix: Mix, rows: usize, held: usize) -> Action {
-        let weights = match (rows, held) {
-            (1_000.., _) => FULL,
+    /// The next action, where so many rows are held.
+    pub fn action(self, rng: &mut Rng, mix: Mix, full: bool, held: usize) -> Action {
+        let weights = match (full, held) {
+            (true, _) => FULL,
             (_, 124..) => HELD,
             _ => self.weights(),
         };
@@ -125,6 +131,7 @@ impl Phase {
             Self::Fill => FILL,
             Self::Stalls => STALLS,
             Self::Lifecycle => LIFECYCLE,
+            Self::Marked => MARKED,
         }
     }
 
@@ -301,3 +308,4 @@ const LIFECYCLE: &[(u32, Action)] = &[
     (4, Cancel),
     (6, Dump),
 ];
+const MARKED: &[(u32, Action)] = &[(45, Submit), (15, Plan), (30, Raw), (6, Device), (4, Dump)];

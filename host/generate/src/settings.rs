@@ -5,6 +5,7 @@ use script::{
 };
 
 use crate::Mix;
+use crate::bounded::StoreSize;
 use crate::phase::Phase;
 use crate::values;
 use crate::world::{Device, World};
@@ -36,6 +37,11 @@ impl World {
         self.endpoints.clear();
         self.marked.clear();
         let (session, ports) = (open.session, open.ports);
+        if self.small_stores {
+            self.store = self.small_store();
+            let StoreSize { rows, bytes } = self.store;
+            self.queue.push_back(Call::Store { rows, bytes });
+        }
         self.queue.push_back(Call::Open(open));
         // One endpoint alone lets a recovery affect all of 128 held rows.
         self.alone = self.phase == Phase::Hold && self.rng.chance(50);
@@ -244,7 +250,7 @@ impl World {
         let reading = match self.rng.below(8) {
             0 => None,
             1 => Some(0x2a0),
-            2 => Some(self.rng.next() as u32),
+            2 => Some(self.rng.next_u64() as u32),
             _ => Some(self.rng.pick(&WORDS)),
         };
         Call::Port {
@@ -275,7 +281,7 @@ impl World {
             return match self.rng.below(3) {
                 0 => Err(values::error(&mut self.rng)),
                 1 => Ok(word ^ 1),
-                _ => Ok(self.rng.next() as u32),
+                _ => Ok(self.rng.next_u64() as u32),
             };
         }
         if !self.phase.is_steady() && self.rng.chance(6) {

@@ -4,16 +4,10 @@ use script::{
     Call, Data, DeviceId, Direction, Error, Plan, PortRow, Profile, Setup, Submit, TransferType,
 };
 
+use crate::marks::NO_DEVICE;
 use crate::phase::Phase;
 use crate::values;
 use crate::world::{Device, World};
-
-/// The device of every submission in a session that has none set.
-const NO_DEVICE: DeviceId = DeviceId {
-    session: 1,
-    generation: 0,
-    slot: 1,
-};
 
 impl World {
     pub fn submit(&mut self, oracle: &Oracle, rows: &[RowView]) -> Call {
@@ -44,11 +38,16 @@ impl World {
 
     /// A device and its port's row.
     fn target(&mut self, oracle: &Oracle) -> (DeviceId, Option<PortRow>) {
+        if self.phase == Phase::Marked
+            && let Some(device) = self.marked_target()
+        {
+            return (device, None);
+        }
         if self.devices.is_empty() {
             return (NO_DEVICE, None);
         }
-        let placed = |slot: &u8| self.devices.iter().any(|device| device.id.slot == *slot);
-        let bare = self.marked.iter().copied().find(|slot| !placed(slot));
+        let mut marked = self.marked.iter().copied();
+        let bare = marked.find(|slot| !self.is_placed(*slot));
         if let Some(slot) = bare
             && self.rng.chance(40)
         {
@@ -103,7 +102,7 @@ impl World {
             endpoint: address,
             transfer_type,
             direction: direction_of(address),
-            length: values::length(&mut self.rng, 65_536),
+            length: self.length(65_536),
             setup: None,
             data: Data::Zeros(0),
             packets: None,
@@ -264,7 +263,7 @@ impl World {
     }
 
     fn right_plan(&mut self, device: DeviceId, row: Option<PortRow>) -> Plan {
-        let length = values::length(&mut self.rng, 65_535);
+        let length = self.length(65_535);
         let setup = self.setup(length as u16);
         let direction = direction_of(setup.request_type);
         let stage = (length > 0).then_some((direction, length));

@@ -1,11 +1,13 @@
 //! How often each refusal and each kind of answer came.
-use std::collections::{BTreeMap, BTreeSet};
+use std::collections::BTreeMap;
 use std::fmt::{self, Display, Formatter};
+use std::mem;
 
 use oracle::View;
-use script::{Answer, Asked, Call, ControllerState, Outcome, RowState};
+use script::{Answer, Asked, Call, ControllerState, DeviceId, Outcome, RowState};
 
 use crate::Mix;
+use crate::bounded::StoreSize;
 use crate::corners::{self, Recovered};
 
 /// The refusals of document 01's table, by who can meet them.
@@ -46,7 +48,7 @@ const KINDS: &[&str] = &[
     "asked: abort",
     "asked: reset",
     "5 with 128 held",
-    "5 with all 1,024 rows used",
+    FULL_STORE,
     "31 after 0 readings",
     "31 after 1 readings",
     "31 after 2 readings",
@@ -60,6 +62,7 @@ const KINDS: &[&str] = &[
     "47 by a recovery that keeps earlier entries",
     "48 by a recovery that keeps earlier entries",
     "26 of a slot without a device",
+    "26 of an id that is not its slot's",
     "46 by a token twice",
     "46 by a token that no affected row has",
     "46 by a token missing",
@@ -80,9 +83,29 @@ const KINDS: &[&str] = &[
     "reset, ready, without a stall noted",
 ];
 
+/// What only the whole store meets, and what only smaller ones do.
+const FULL_STORE: &str = "5 with all 1,024 rows used";
+const ONE_ROW: &str = "opening of a store of one row";
+const MORE_ROWS: &str = "opening of a store of more rows";
+const ONE_ROW_USED: &str = "5 with the only row of a store used";
+const MORE_ROWS_USED: &str = "5 with all of more rows of a store used";
+const SMALL_KINDS: [&str; 6] = [
+    ONE_ROW,
+    MORE_ROWS,
+    ONE_ROW_USED,
+    MORE_ROWS_USED,
+    "7 by plan",
+    "7 by submit",
+];
+
 pub struct Table {
     pub calls: u64,
     mix: Mix,
+    /// Whether every opening has a smaller store.
+    small_stores: bool,
+    /// The store, and the next opening's.
+    store: StoreSize,
+    next_store: StoreSize,
     refusals: BTreeMap<u16, u64>,
     kinds: BTreeMap<String, u64>,
     corners: BTreeMap<String, u64>,
@@ -91,8 +114,8 @@ pub struct Table {
     /// State and held rows before the call.
     state: ControllerState,
     held: u64,
-    /// Slots with a device.
-    slots: BTreeSet<u8>,
+    /// The device of each slot that has one.
+    devices: BTreeMap<u8, DeviceId>,
 }
 
 impl Table {
@@ -101,6 +124,9 @@ impl Table {
         Self {
             calls: 0,
             mix,
+            small_stores: false,
+            store: StoreSize::WHOLE,
+            next_store: StoreSize::WHOLE,
             refusals: BTreeMap::new(),
             kinds: BTreeMap::new(),
             corners: BTreeMap::new(),
@@ -108,7 +134,15 @@ impl Table {
             most_rows: 0,
             state: ControllerState::Closed,
             held: 0,
-            slots: BTreeSet::new(),
+            devices: BTreeMap::new(),
+        }
+    }
+
+    /// For calls of this mix in smaller stores.
+    pub fn in_small_stores(mix: Mix) -> Self {
+        Self {
+            small_stores: true,
+            ..Self::new(mix)
         }
     }
 
@@ -134,9 +168,21 @@ impl Table {
         self.held = answer.held;
         match call {
             Call::Device { id, .. } => {
-                self.slots.insert(id.slot);
+                self.devices.insert(id.slot, *id);
             }
-            Call::Open(_) => self.slots.clear(),
+            Call::Open(_) => {
+                self.devices.clear();
+                self.store = mem::replace(&mut self.next_store, StoreSize::WHOLE);
+                match self.store {
+                    StoreSize::WHOLE => {}
+                    StoreSize { rows: 1, .. } => self.corner(ONE_ROW),
+                    _ => self.corner(MORE_ROWS),
+                }
+            }
+            Call::Store { rows, bytes } => {
+                let (rows, bytes) = (*rows, *bytes);
+                self.next_store = StoreSize { rows, bytes };
+            }
             _ => {}
         }
     }
@@ -164,20 +210,58 @@ impl Table {
 
     fn refused(&mut self, call: &Call, answer: &Answer, number: u16, category: &str, rows: usize) {
         match number {
-            5 if rows >= 1024 => self.corner("5 with all 1,024 rows used"),
-            5 => self.corner("5 with 128 held"),
+            5 => self.corner(self.no_room(rows)),
+            7 => self.corner(format!("7 by {}", call.verb())),
             31 | 33 | 34 => self.corner(format!("{number} after {} readings", answer.reads)),
             45 => self.corner(format!("45 by {}, category {category}", call.verb())),
             41 | 47 | 48 => self.corner(format!("{number} by {}", call.verb())),
-            26 if corners::slot(call).is_some_and(|slot| !self.slots.contains(&slot)) => {
-                self.corner("26 of a slot without a device");
-            }
+            26 => self.marked(call),
             40 => self.corner(format!("40 by {}", call.verb())),
             _ => {}
         }
         if matches!(number, 41 | 47 | 48) && answer.held < self.held {
             self.corner(format!("{number} by a recovery that keeps earlier entries"));
         }
+    }
+
+    /// Why a submission is 5, where so many rows are used.
+    fn no_room(&self, rows: usize) -> &'static str {
+        match (self.store, rows as u64) {
+            (StoreSize::WHOLE, 1_024..) => FULL_STORE,
+            (StoreSize { rows: 1, .. }, 1..) => ONE_ROW_USED,
+            (store, rows) if rows >= store.rows => MORE_ROWS_USED,
+            _ => "5 with 128 held",
+        }
+    }
+
+    /// 26 of what would be 27 without the mark.
+    fn marked(&mut self, call: &Call) {
+        let Some(device) = corners::device(call) else {
+            return;
+        };
+        match self.devices.get(&device.slot) {
+            None => self.corner("26 of a slot without a device"),
+            Some(own) if *own != device => self.corner("26 of an id that is not its slot's"),
+            Some(_) => {}
+        }
+    }
+
+    /// How often a kind of report or a corner came.
+    pub fn times(&self, name: &str) -> u64 {
+        let found = self.kinds.get(name).or_else(|| self.corners.get(name));
+        found.copied().unwrap_or(0)
+    }
+
+    /// What smaller stores met, in a line.
+    pub fn small_stores(&self) -> String {
+        let [one, more, full_one, full, by_plan, by_submit] =
+            SMALL_KINDS.map(|name| self.times(name));
+        format!(
+            "smaller stores: {one} openings of one row, {more} of more; 5 with all rows used {} times, \
+             {full_one} of them with one row; 7 {} times",
+            full_one + full,
+            by_plan + by_submit
+        )
     }
 
     /// The numbers that this mix can meet and did not.
@@ -191,15 +275,20 @@ impl Table {
     /// The kinds of report and corners that this mix should bring and did not.
     pub fn missing_kinds(&self) -> Vec<&'static str> {
         let met = |name: &str| self.kinds.contains_key(name) || self.corners.contains_key(name);
-        let due = |name: &str| self.mix == Mix::Default || !is_of_recovery(name);
-        let missing = KINDS.iter().filter(|name| due(name) && !met(name));
+        let due = |name: &str| {
+            (self.mix == Mix::Default || !is_of_recovery(name))
+                && (self.small_stores || !SMALL_KINDS.contains(&name))
+                && !(self.small_stores && name == FULL_STORE)
+        };
+        let all = KINDS.iter().chain(&SMALL_KINDS);
+        let missing = all.filter(|name| due(name) && !met(name));
         missing.copied().collect()
     }
 
     /// Why a number was not met.
     fn why(&self, number: u16) -> &'static str {
         match number {
-            7 => "never: 6 comes first where rows have 65,536 bytes",
+            7 if !self.small_stores => "never: 6 comes first where rows have 65,536 bytes",
             25 => "never: 24 comes first",
             44 => "never: no row is held while Closed, AcquiredUnknown or Closing",
             _ if NO_RUST_SIDE.contains(&number) => "no Rust side",
@@ -232,11 +321,8 @@ impl Table {
         all.sort();
         all.dedup();
         for name in all {
-            let count = |it: &Self| {
-                let found = it.kinds.get(&name).or_else(|| it.corners.get(&name));
-                found.copied().unwrap_or(0)
-            };
-            text += &format!("{:>10} {:>9}  {name}\n", count(self), count(other));
+            let (own, others) = (self.times(&name), other.times(&name));
+            text += &format!("{own:>10} {others:>9}  {name}\n");
         }
         text
     }
@@ -245,7 +331,7 @@ impl Table {
     pub fn unexpected(&self) -> Vec<u16> {
         let never = CANNOT_BE_MET.iter().chain(&NO_RUST_SIDE);
         never
-            .filter(|number| self.refusals.contains_key(number))
+            .filter(|number| self.why(**number) != NOT_MET && self.refusals.contains_key(number))
             .copied()
             .collect()
     }

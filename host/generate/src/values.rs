@@ -1,7 +1,6 @@
 //! Random values, with the edges more often than chance would have them.
 use script::{Category, Completion, Data, Error};
-
-use crate::rng::Rng;
+use seeded::Rng;
 
 const CATEGORIES: [Category; 7] = [
     Category::Validation,
@@ -55,8 +54,8 @@ pub fn data(rng: &mut Rng, length: u64) -> Data {
     let length = length.min(70_000) as usize;
     match rng.below(4) {
         0 => Data::Zeros(length),
-        1 if length <= 8 => Data::Bytes((0..length).map(|_| rng.next() as u8).collect()),
-        _ => Data::Pattern(length, rng.next() as u8),
+        1 if length <= 8 => Data::Bytes((0..length).map(|_| rng.next_u64() as u8).collect()),
+        _ => Data::Pattern(length, rng.next_u64() as u8),
     }
 }
 

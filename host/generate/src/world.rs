@@ -5,11 +5,12 @@ use oracle::{Oracle, RowView, View};
 use script::{
     Answer, Call, ControllerState, DeviceId, DeviceState, Outcome, PortId, RequestId, TransferType,
 };
+use seeded::Rng;
 
 use crate::Mix;
+use crate::bounded::StoreSize;
 use crate::episode::Step;
 use crate::phase::{Action, Phase};
-use crate::rng::Rng;
 
 /// A device as it was last set.
 #[derive(Debug, Clone, Copy)]
@@ -44,6 +45,10 @@ pub struct World {
     /// The opening's session number, which port ids carry.
     pub opening: u64,
     pub next_token: u64,
+    /// Whether every opening has a smaller store.
+    pub small_stores: bool,
+    /// The latest opening's store.
+    pub store: StoreSize,
     /// What was there before the latest call.
     pub before: View,
 }
@@ -67,6 +72,8 @@ impl World {
             session: 0,
             opening: 0,
             next_token: 1,
+            small_stores: false,
+            store: StoreSize::WHOLE,
             before: View::default(),
         }
     }
@@ -107,13 +114,16 @@ impl World {
 
     fn free_call(&mut self, oracle: &Oracle, rows: &[RowView]) -> Call {
         let held = rows.iter().filter(|row| row.held).count();
-        let mut action = self.phase.action(&mut self.rng, self.mix, rows.len(), held);
+        let full = self.is_full(rows.len());
+        let mut action = self.phase.action(&mut self.rng, self.mix, full, held);
         let idle = rows.is_empty() && action.needs_a_row() && self.rng.chance(85);
         let early = matches!(action, Action::Abort | Action::Reset) && held < 124;
         if idle || (self.is_alone() && (early || action == Action::Plan)) {
             action = Action::Submit;
         }
-        let submits = matches!(action, Action::Submit | Action::Plan);
+        // A marked slot is refused in any state, and is to stay marked.
+        let submits =
+            matches!(action, Action::Submit | Action::Plan) && self.phase != Phase::Marked;
         let ready = self.state == ControllerState::Initialized;
         if submits && !ready && self.rng.chance(60) {
             return self.towards_initialized(rows);
@@ -136,12 +146,16 @@ impl World {
     fn eagerness(&self) -> u32 {
         match self.phase {
             Phase::Stalls | Phase::Lifecycle => 20,
+            Phase::Marked => 5,
             Phase::Hold | Phase::Fill => 90,
             _ => 60,
         }
     }
 
     fn next_phase(&mut self, no_ports: bool) {
+        if self.phase == Phase::Marked {
+            self.clear_marks();
+        }
         let phase = Phase::pick(&mut self.rng);
         self.phase = self.only.unwrap_or(phase);
         self.left = self.phase.duration(&mut self.rng);
@@ -149,7 +163,8 @@ impl World {
             self.phase,
             Phase::Limits | Phase::Lifecycle | Phase::Hold | Phase::Fill
         );
-        if fresh || no_ports || self.rng.chance(50) {
+        let stays = self.phase == Phase::Marked;
+        if fresh || no_ports || (!stays && self.rng.chance(50)) {
             self.plan_opening();
             self.left += self.queue.len();
         }
@@ -172,6 +187,7 @@ impl World {
             Action::Device => self.set_device(oracle),
             Action::Port => self.set_port(oracle),
             Action::Endpoints => self.set_endpoints(),
+            Action::Raw if self.phase == Phase::Marked => self.mark_slot(),
             Action::Raw => self.set_raw(),
             Action::Acquire => self.acquire(),
             Action::Initialise => self.initialise(),

@@ -22,6 +22,21 @@ fn a_long_script_meets_every_refusal_that_can_be_met() {
     assert_eq!(table.missing_kinds(), Vec::<&str>::new());
 }
 
+/// 26 comes before 27: every seed has enough submissions that show it.
+#[test]
+fn every_seed_meets_marked_slots_without_a_device() {
+    for seed in 1..=10 {
+        let mut generator = Generator::new(seed, Mix::Default, None);
+        let mut table = Table::new(Mix::Default);
+        for _ in 0..20_000 {
+            let (call, answer) = generator.step().unwrap();
+            table.count(&call, &answer, generator.before());
+        }
+        let times = table.times("26 of a slot without a device");
+        assert!(times >= 25, "seed {seed}: {times} times");
+    }
+}
+
 /// The last of the open points: what no calls from an opening lead to.
 #[test]
 fn at_most_one_row_is_uncertain_and_none_while_initialized() {

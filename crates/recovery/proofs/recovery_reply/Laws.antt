@@ -1,5 +1,5 @@
 -- One law for each way out of a recovery's reply: its premises are the facts in hand there. Assumes nothing.
-use Prim.Native.Nat.{ℕ, _+_, _*_, _≤_}
+use Prim.Native.Nat.{ℕ, _+_, _≤_}
 use mathlib.Core.Bool.{Bool, true, false, not, _&&_}
 use mathlib.Core.List.{List, _++_}
 use mathlib.Core.Path.{_≡_, refl, sym, ap, _∙_}
@@ -21,7 +21,7 @@ use Rattle.models.specs.declared.RequestId.{RequestId}
 use Rattle.models.specs.declared.Verdict.{Verdict}
 use Rattle.models.specs.declared.Verdict.the-variants as verdict
 use Rattle.rows.specs.Table.{readRows, isUncertain}
-use Rattle.rows.specs.Store.{Store, storeOf}
+use Rattle.rows.specs.Store.{storeOf}
 use Rattle.rows.specs.declared.Row.{Row}
 use Rattle.checks.specs.Completion.{hasError}
 use Rattle.session.specs.Session.{withController, withFlight, withStall, marked}
@@ -37,7 +37,7 @@ use Rattle.session.specs.declared.Session.{Session}
 use Rattle.scope.specs.Affected.{affectedOf, tokensOf}
 use Rattle.scope.specs.Scope.{meant, inScope}
 use Rattle.scope.specs.Returned.{listsAgree}
-use Rattle.recovery.specs.Entries.{RowLists, rowLists, readEntries, completeAll, abortAll, applyAll}
+use Rattle.recovery.specs.Entries.{RowLists, readEntries, completeAll, abortAll, applyAll}
 use Rattle.recovery.specs.Reports.{noId, idsOf, idLists}
 use Rattle.recovery.specs.Places.{Fit, Places}
 use Rattle.scope.proofs.affected.Laws.{affected-bounded}
@@ -47,7 +47,7 @@ use Rattle.session.specs.Sizes.{rowsFit, memorySizes}
 use Rattle.session.specs.declared.Size.{Size}
 use Rattle.session.proofs.sizes.Laws.{memory-rows, rows-sized}
 use borrow.Author.Tests.{not-false}
-use Rattle.recovery.specs.RecoveryReply.{ReplyLists, replyLists, rowsMeant, recoveryRefused, ended, isWhole, isRevision, matching, restoredBy, resetBy, sessionAfter, refusedAfter, abortReport, concludedBy, settledOf, doneOf, replyBy, replySized, replyIn, recoveryReplyOf}
+use Rattle.recovery.specs.RecoveryReply.{ReplyLists, rowsMeant, recoveryRefused, ended, isWhole, isRevision, matching, restoredBy, resetBy, sessionAfter, refusedAfter, abortReport, concludedBy, settledOf, doneOf, replyBy, replySized, replyIn, recoveryReplyOf}
 use Rattle.recovery.specs.declared.AbortReport.{AbortReport}
 use Rattle.recovery.specs.declared.Ids.{Ids}
 use Rattle.recovery.specs.declared.Outcome.{Outcome}

@@ -11,7 +11,7 @@ use Rattle.models.specs.Codes.{categoryWord}
 use Rattle.models.specs.declared.OperationError.{OperationError}
 use Rattle.models.specs.declared.RequestState.{RequestState}
 use Rattle.models.specs.declared.RequestState.the-variants.{Pending, Completed, Failed, Aborted}
-use Rattle.rows.specs.Codec.{readStateWords, failedWords, stateWords, kindWord, stateByKind, kindBy, rowStatus, restOf, rowStatusWords, statusWords}
+use Rattle.rows.specs.Codec.{readStateWords, failedWords, stateWords, kindWord, stateByKind, kindBy, stateIn, rowStatus, restOf, rowStatusWords, statusWords}
 use Rattle.rows.specs.declared.codec.StateWords.{StateWords}
 use Rattle.rows.specs.declared.codec.StatusWords.{StatusWords}
 
@@ -23,7 +23,7 @@ failed-exact x k q a c d e f ha hc hd he hf = rw (ha, hc, hd, he, hf)
 
 -- a state's kind and its words in a row say what its words in a report say
 kind-says : (s : RequestState) (w : StateWords) → w ≡ stateWords s
-    → stateByKind (kindWord s) (w .a) (w .b) (cond (eqb (kindWord s) 2) (w .c) (w .d)) (w .e) (w .f) ≡ readStateWords (w .tag) (w .a) (w .b) (w .c) (w .d) (w .e) (w .f)
+    → stateByKind (kindWord s) (w .a) (w .b) (cond (eqb (kindWord s) 2) (w .c) (w .d)) (w .e) (w .f) ≡ readStateWords w
 kind-says (Pending cancel late) w e = rw e
 kind-says (Completed actual code cancel) w e = rw e
 kind-says (Failed x code true) w e = rw e
@@ -47,8 +47,8 @@ status-back true s k a b d e f h n = (rw n, rw n h)
 status-back false s k a b d e f h n = (refl, kind-rest k a b d e f ∙ h)
 
 pub status-exact : (used : Bool) (s : RequestState) (k : ℕ) (w : StateWords) (z : StatusWords)
-    → readStateWords (w .tag) (w .a) (w .b) (w .c) (w .d) (w .e) (w .f) ≡ s → w ≡ stateWords s → k ≡ kindWord s → z ≡ rowStatusWords used k w
-    → (readFlag (z .status) ≡ used) × (stateByKind (kindBy (z .status) (z .rest)) (z .a) (z .b) (z .d) (z .e) (z .f) ≡ s) × (z ≡ statusWords used s)
+    → readStateWords w ≡ s → w ≡ stateWords s → k ≡ kindWord s → z ≡ rowStatusWords used k w
+    → (readFlag (z .status) ≡ used) × (stateIn z ≡ s) × (z ≡ statusWords used s)
 status-exact used s k w z h ew ek g =
     let e : z ≡ rowStatusWords used (kindWord s) w = rw ek at g in
     let b = status-back used s (kindWord s) (w .a) (w .b) (cond (eqb (kindWord s) 2) (w .c) (w .d)) (w .e) (w .f) (kind-says s w ew ∙ h) (kind-some s) in

@@ -7,7 +7,7 @@ impl Rng {
         Self(seed)
     }
 
-    pub fn next(&mut self) -> u64 {
+    pub fn next_u64(&mut self) -> u64 {
         self.0 = self.0.wrapping_add(0x9e37_79b9_7f4a_7c15);
         let mut z = self.0;
         z = (z ^ (z >> 30)).wrapping_mul(0xbf58_476d_1ce4_e5b9);
@@ -17,7 +17,7 @@ impl Rng {
 
     /// 0 to `bound - 1`.
     pub fn below(&mut self, bound: usize) -> usize {
-        (self.next() % bound as u64) as usize
+        (self.next_u64() % bound as u64) as usize
     }
 
     /// True in `percent` of 100 cases.
@@ -50,7 +50,7 @@ mod tests {
     #[test]
     fn splitmix64_gives_its_published_numbers() {
         let mut rng = Rng::new(1_234_567);
-        let first: Vec<_> = (0..3).map(|_| rng.next()).collect();
+        let first: Vec<_> = (0..3).map(|_| rng.next_u64()).collect();
         assert_eq!(
             first,
             [

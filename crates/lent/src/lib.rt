@@ -1,0 +1,54 @@
+// Document 01's lent form: poll, cancel, timeout and reclaim over a session that is lent for change. Each is the call by value.
+use models::RequestId;
+use polls::PollAnswer;
+use polls::poll;
+use reports::ReportAnswer;
+use reports::change;
+use session::Session;
+ghost use mathlib.Core.Path.{_≡_};
+ghost use Rattle.chain.specs.After.{after};
+ghost use Rattle.rules.specs.declared.Change.the-variants as Change;
+ghost use Rattle.session.specs.Lent.{storeIn, storeOut};
+ghost use Rattle.reports.specs.Change.{changeOf};
+ghost use Rattle.polls.specs.Poll.{pollOf};
+ghost use Rattle.lent.specs.Lent.{polledAs, reportedAs};
+
+// The rows are lent again, as the others lend theirs: one proof serves all four.
+pub fn poll_request(session: &mut Session, rows: &[u64], id: RequestId) -> PollAnswer
+    ensures { λ r. ⌜ polledAs r (now (session .exit)) ≡ pollOf id (now (session .entry)) (storeIn rows) ⌝ }
+{
+    let done = poll::poll_request(*session, &*rows, id);
+    *session = done.session;
+    done.answer
+}
+
+pub fn logical_cancel_request(
+    session: &mut Session,
+    rows: &mut [u64],
+    id: RequestId,
+) -> ReportAnswer
+    ensures { λ r. ⌜ after (reportedAs r (now (session .exit))) (storeOut rows)
+        ≡ changeOf id Change.LogicalCancel (now (session .entry)) (storeIn rows) ⌝ }
+{
+    let done = change::logical_cancel_request(*session, rows, id);
+    *session = done.session;
+    done.answer
+}
+
+pub fn timeout_request(session: &mut Session, rows: &mut [u64], id: RequestId) -> ReportAnswer
+    ensures { λ r. ⌜ after (reportedAs r (now (session .exit))) (storeOut rows)
+        ≡ changeOf id Change.Timeout (now (session .entry)) (storeIn rows) ⌝ }
+{
+    let done = change::timeout_request(*session, rows, id);
+    *session = done.session;
+    done.answer
+}
+
+pub fn reclaim_request(session: &mut Session, rows: &mut [u64], id: RequestId) -> ReportAnswer
+    ensures { λ r. ⌜ after (reportedAs r (now (session .exit))) (storeOut rows)
+        ≡ changeOf id Change.Reclaim (now (session .entry)) (storeIn rows) ⌝ }
+{
+    let done = change::reclaim_request(*session, rows, id);
+    *session = done.session;
+    done.answer
+}
