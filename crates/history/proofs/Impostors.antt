@@ -1,61 +1,55 @@
 -- The claim tells right from wrong: it is false of each of four steps that have one fault, on a script of which the theorem shows it of the
 -- calls' own step. Assumes nothing.
 use Prim.Native.Nat.{ℕ}
-use mathlib.Core.Bool.{Bool, true, false, true≢false}
+use mathlib.Core.Bool.{true, true≢false}
 use mathlib.Core.List.{List, [], _∷_, _++_}
-use mathlib.Core.Path.{_≡_, refl, sym, ap}
+use mathlib.Core.Path.{_≡_, refl, ap}
 use native.Mathlib.Omega.{arith}
 use lib.ListN.{replicate}
 use Rattle.chain.specs.Chain.{_if_else_}
-use Rattle.chain.specs.Lists.{foundIn, listed}
+use Rattle.chain.specs.Lists.{foundIn}
 use Rattle.words.specs.Records.{splice, part}
 use Rattle.models.specs.Requests.{requestBefore}
 use Rattle.models.specs.declared.DeviceId.{DeviceId}
 use Rattle.rows.specs.Codec.{readRow, recordOf}
 use Rattle.rows.specs.Store.{storeOf, putIn, emptied}
-use Rattle.rows.specs.Table.{emptyRow, isHeld, putRow, putWords, rowCount, readRows, isUncertain}
+use Rattle.rows.specs.Table.{emptyRow, isHeld, putRow, putWords, rowCount, readRows}
 use Rattle.ledger.specs.Apply.{applyBy, applyAt, applyOf}
-use Rattle.rules.specs.Rules.{pendingRow, spendSequence, moved, freed, accepted, whilePending, timeOut, completed, failed, abortConfirmed, reclaimed, changeRow}
+use Rattle.rules.specs.Rules.{pendingRow, spendSequence, moved, accepted, abortConfirmed, changeRow}
 use Rattle.ledger.specs.Search.{isAt, isFree}
-use Rattle.ledger.specs.Tally.{saturate, heldCount, heldBytes}
 use Rattle.bus.specs.Tables.{busOf, cleared, putDevice, putEndpoints, putPort}
 use Rattle.bus.specs.Layout as layout
 use Rattle.bus.specs.Ports as bus
 use Rattle.bus.specs.Endpoints as endpoints
-use Rattle.checks.specs.Completion.{codeTested, testCode, testLength, testCompletion}
 use Rattle.checks.specs.Packets.{packetsChecked}
 use Rattle.checks.specs.Prepare as prepare
 use Rattle.targets.specs.Target as target
-use Rattle.session.specs.Session.{raised, marked}
-use Rattle.session.specs.Lifecycle.{openOf, acquiredBy, acquireOf, initializedBy, initializeOf, closedBy, freshBy, closeOf}
+use Rattle.session.specs.Lifecycle.{openOf, acquiredBy, acquireOf, initializedBy, initializeOf}
 use Rattle.session.specs.Place.{placed, setDeviceOf, setPortOf, setEndpointsOf}
 use Rattle.session.specs.Start.{guarded}
 use Rattle.session.specs.Sizes.{rowsFit, areaFits}
 use Rattle.session.specs.declared.RecoveryKind.the-variants as kind
 use Rattle.reports.specs.Answers.{effect}
 use Rattle.reports.specs.Change.{reportedBy, changeOf}
-use Rattle.reports.specs.Status.{heldCountOf, heldBytesOf}
-use Rattle.polls.specs.Poll.{pollRow, pollBy, pollOf}
-use Rattle.polls.specs.PollReply.{pollReplyIn, pollReplyBy, pollReplyFound, stallOf, storedIn, failedAs, judgedTest, judgedBy, judged, settled, pollReplyAt, pollReplyOf}
 use Rattle.submissions.specs.Begin.{roomIn, writeOf, beginOf, targetBy, targetOf}
-use Rattle.submissions.specs.Submit.{submittedBy, submitOf, packetsOf, roomOf, preparedOf, request}
-use Rattle.submissions.specs.SubmitReply.{submitReplyIn, acceptedBy, discardedBy, submitReplyBy, submitReplyOf}
+use Rattle.submissions.specs.Submit.{submittedBy, submitOf, packetsOf, roomOf, preparedOf}
+use Rattle.submissions.specs.SubmitReply.{submitReplyIn, acceptedBy, submitReplyBy, submitReplyOf}
 use Rattle.submissions.specs.declared.SubmitReply.the-variants as submit
 use Rattle.scope.specs.Affected.{isAffected, joined, affectedOf}
-use Rattle.scope.specs.Returned.{readBrought, broughtAt, readReturned, listsAgree}
+use Rattle.scope.specs.Returned.{readReturned, listsAgree}
 use Rattle.scope.specs.Scope.{inScope}
-use Rattle.recovery.specs.Entries.{rowCompletedBy, testedBy, completeOne, abortedBy, abortOne, readEntries, applyAll}
+use Rattle.recovery.specs.Entries.{abortedBy, abortOne, readEntries, applyAll}
 use Rattle.recovery.specs.Recover.{recoverBy, beginRow, recoverOf, begunAs}
-use Rattle.recovery.specs.RecoveryReply.{doneOf, replyBy, replySized, replyIn, replyLists, restoredBy, resetBy, sessionAfter, refusedAfter, concludedBy, settledOf, recoveryReplyOf}
+use Rattle.recovery.specs.RecoveryReply.{doneOf, replyBy, replySized, replyIn, replyLists, concludedBy, settledOf, recoveryReplyOf}
 use Rattle.calls.specs.Calls.{Call, Open, Place, Device, Move, Begin, Recover, Reply, ToSubmit, ToPoll, ToRecovery, Change, Cancel, Timeout, Reclaim, Read, Status, Reports, CountReports, CompletedBytes, HeldCount, HeldBytes}
-use Rattle.calls.specs.Step.{World, placedOf, movedOf, begunOf, repliedOf, readOf, stepOf}
+use Rattle.calls.specs.Step.{World, placedOf, movedOf, begunOf, repliedOf, stepOf}
 use Rattle.calls.specs.declared.Answer.the-variants as answer
 use Rattle.runs.specs.Run.{Event, own, Stepping, next, FollowsBy, Follows, Fresh}
 use Rattle.history.specs.Journal.{journalStep}
 use Rattle.history.specs.Claim.{calls, returns, ClaimOf, Claim}
 use Rattle.history.specs.Impostors.{stepWith, rightWays, firstOnly, heldInvented, timeoutReleases, slotsCompared}
 use Rattle.history.proofs.Theorem.{history-claim}
-use Rattle.history.proofs.Examples.{opening, closed, busWords, before, start, camera, plugged, id, asks, asksOf, ready, whole, numberIn}
+use Rattle.history.proofs.Examples.{opening, closed, busWords, before, start, plugged, id, asks, asksOf, ready, whole, numberIn}
 
 -- ---- the scripts
 
@@ -95,17 +89,18 @@ pub record Refuted (step : Stepping) (es : List Event) : Type 0 where
   pub wrong : ClaimOf step (next (step (Open opening) before)) es → ⊥
 
 pub record Impostors : Type 0 where
-  -- 1 is held, and has its release
+  -- an impostor that goes the right way in each of its calls is the calls' own step
+  pub ways : (c : Call) (w : World) → stepWith rightWays c w ≡ stepOf c w
+  -- request 1 is held, though released
   pub first-entry : Refuted firstOnly two
-  -- 0, where 0 is held
+  -- the count is 0, and request 0 is held
   pub held-count : Refuted heldInvented one
-  -- 0 is not held, and has no release
+  -- request 0 is not held, though not released
   pub timeout : Refuted timeoutReleases late
-  -- 0 is aborted in place of 1
+  -- request 0 is aborted in place of 1
   pub slots : Refuted slotsCompared shared
 
--- a step that goes every way rightly is the calls' own
-pub only-ways : (c : Call) (w : World) → stepWith rightWays c w ≡ stepOf c w
+only-ways : (c : Call) (w : World) → stepWith rightWays c w ≡ stepOf c w
 unfolding stepOf
 only-ways (Open o) w = refl
 only-ways (Place p) w = refl
@@ -124,9 +119,9 @@ only-ways (Read (CompletedBytes x)) w = refl
 only-ways (Read HeldCount) w = refl
 only-ways (Read HeldBytes) w = refl
 
-refutes : {step : Stepping} {es : List Event} → step (Open opening) before .result .answer ≡ answer.Pass → FollowsBy step es → (FollowsBy step es → Follows es)
-    → Fresh (opening .session ∷ []) es → (ClaimOf step (next (step (Open opening) before)) es → ⊥) → Refuted step es
-unfolding stepOf placedOf movedOf begunOf repliedOf readOf openOf rowsFit areaFits cleared _if_else_ foundIn splice putIn emptied emptyRow isHeld putRow putWords rowCount readRow recordOf applyBy applyAt applyOf pendingRow spendSequence moved freed accepted whilePending timeOut completed failed reclaimed changeRow isAt isFree saturate heldCount heldBytes putDevice putEndpoints putPort codeTested testCode testLength testCompletion packetsChecked marked acquiredBy acquireOf initializedBy initializeOf placed setDeviceOf setPortOf setEndpointsOf effect roomIn writeOf beginOf targetBy targetOf reportedBy changeOf failedAs judgedTest judgedBy judged storedIn settled pollReplyAt pollReplyBy pollReplyFound pollReplyIn pollReplyOf pollRow pollBy pollOf acceptedBy discardedBy submitReplyBy submitReplyIn submitReplyOf heldCountOf heldBytesOf submittedBy preparedOf roomOf packetsOf guarded submitOf bus.numberChecked bus.setPortBy bus.setPort bus.readingChecked bus.validatedRow bus.validatedBy bus.validated bus.observedBy bus.observedRow bus.observePortBy bus.observePort bus.freshObserved bus.freshWord bus.freshReading bus.freshPortBy bus.freshPort endpoints.setEndpoints prepare.dataChecked prepare.otherChecked prepare.specChecked prepare.preparedIf prepare.prepared target.knownBy target.knownDevice target.preparedDevice target.freshDevice target.checkDeviceBy target.checkDevice target.speedChecked target.endpointBy target.checkEndpoint target.checkTargetBy target.checkTarget layout.deviceRecord journalStep closeOf recoverOf recoverBy beginRow begunAs listed isAffected joined affectedOf inScope readBrought broughtAt readReturned listsAgree readEntries rowCompletedBy testedBy completeOne abortedBy abortOne abortConfirmed restoredBy resetBy sessionAfter refusedAfter applyAll concludedBy settledOf doneOf replyBy replySized replyIn recoveryReplyOf part requestBefore storeOf readRows busOf raised stallOf freshBy closedBy isUncertain
+refutes : {step : Stepping} {es : List Event} → step (Open opening) before .result .answer ≡ answer.Pass → FollowsBy step es
+    → (FollowsBy step es → Follows es) → Fresh (opening .session ∷ []) es → (ClaimOf step (next (step (Open opening) before)) es → ⊥) → Refuted step es
+unfolding stepOf openOf rowsFit areaFits _if_else_ cleared storeOf busOf
 refutes passes follows same fresh wrong = record {
   passes = passes;
   follows = follows;
@@ -136,10 +131,23 @@ refutes passes follows same fresh wrong = record {
 }
 
 pub refuted : Impostors
-unfolding stepOf placedOf movedOf begunOf repliedOf readOf openOf rowsFit areaFits cleared _if_else_ foundIn splice putIn emptied emptyRow isHeld putRow putWords rowCount readRow recordOf applyBy applyAt applyOf pendingRow spendSequence moved freed accepted whilePending timeOut completed failed reclaimed changeRow isAt isFree saturate heldCount heldBytes putDevice putEndpoints putPort codeTested testCode testLength testCompletion packetsChecked marked acquiredBy acquireOf initializedBy initializeOf placed setDeviceOf setPortOf setEndpointsOf effect roomIn writeOf beginOf targetBy targetOf reportedBy changeOf failedAs judgedTest judgedBy judged storedIn settled pollReplyAt pollReplyBy pollReplyFound pollReplyIn pollReplyOf pollRow pollBy pollOf acceptedBy discardedBy submitReplyBy submitReplyIn submitReplyOf heldCountOf heldBytesOf submittedBy preparedOf roomOf packetsOf guarded submitOf bus.numberChecked bus.setPortBy bus.setPort bus.readingChecked bus.validatedRow bus.validatedBy bus.validated bus.observedBy bus.observedRow bus.observePortBy bus.observePort bus.freshObserved bus.freshWord bus.freshReading bus.freshPortBy bus.freshPort endpoints.setEndpoints prepare.dataChecked prepare.otherChecked prepare.specChecked prepare.preparedIf prepare.prepared target.knownBy target.knownDevice target.preparedDevice target.freshDevice target.checkDeviceBy target.checkDevice target.speedChecked target.endpointBy target.checkEndpoint target.checkTargetBy target.checkTarget layout.deviceRecord journalStep closeOf recoverOf recoverBy beginRow begunAs listed isAffected joined affectedOf inScope readBrought broughtAt readReturned listsAgree readEntries rowCompletedBy testedBy completeOne abortedBy abortOne abortConfirmed restoredBy resetBy sessionAfter refusedAfter applyAll concludedBy settledOf doneOf replyBy replySized replyIn recoveryReplyOf part requestBefore storeOf readRows busOf raised stallOf freshBy closedBy isUncertain
+unfolding stepOf placedOf movedOf begunOf repliedOf openOf rowsFit areaFits cleared _if_else_ foundIn splice putIn emptied emptyRow isHeld putRow putWords rowCount readRow recordOf applyBy applyAt applyOf pendingRow spendSequence moved accepted changeRow isAt isFree putDevice putEndpoints putPort packetsChecked acquiredBy acquireOf initializedBy initializeOf placed setDeviceOf setPortOf setEndpointsOf effect roomIn writeOf beginOf targetBy targetOf reportedBy changeOf acceptedBy submitReplyBy submitReplyIn submitReplyOf submittedBy preparedOf roomOf packetsOf guarded submitOf bus.numberChecked bus.setPortBy bus.setPort bus.readingChecked bus.validatedRow bus.validatedBy bus.validated bus.observedBy bus.observedRow bus.observePortBy bus.observePort bus.freshObserved bus.freshWord bus.freshReading bus.freshPortBy bus.freshPort endpoints.setEndpoints prepare.dataChecked prepare.otherChecked prepare.specChecked prepare.preparedIf prepare.prepared target.knownBy target.knownDevice target.preparedDevice target.freshDevice target.checkDeviceBy target.checkDevice target.speedChecked target.endpointBy target.checkEndpoint target.checkTargetBy target.checkTarget layout.deviceRecord journalStep recoverOf recoverBy beginRow begunAs isAffected joined affectedOf inScope readReturned listsAgree readEntries abortedBy abortOne abortConfirmed applyAll concludedBy settledOf doneOf replyBy replySized replyIn recoveryReplyOf part requestBefore storeOf readRows busOf
 refuted = record {
-  first-entry = refutes refl (refl, (refl, (refl, (refl, (refl, (refl, (refl, (refl, (refl, (refl, (refl, tt))))))))))) (λ f. f) (refl, (refl, (refl, (refl, (refl, (refl, (refl, (refl, (refl, (refl, (refl, tt))))))))))) (λ k. let z : _≡_ {A = ℕ} 1 0 = k .agrees (λ v. true) .number in absurd (omega arith));
-  held-count = refutes refl (refl, (refl, (refl, (refl, (refl, (refl, (refl, tt))))))) (λ f. f) (refl, (refl, (refl, (refl, (refl, (refl, (refl, tt))))))) (λ k. let z : _≡_ {A = ℕ} 0 1 = ap numberIn (k .count-is) in absurd (omega arith));
-  timeout = refutes refl (refl, (refl, (refl, (refl, (refl, (refl, (refl, (refl, tt)))))))) (λ f. f) (refl, (refl, (refl, (refl, (refl, (refl, (refl, (refl, tt)))))))) (λ k. let z : _≡_ {A = ℕ} 0 1 = k .agrees (λ v. true) .number in absurd (omega arith));
-  slots = refutes refl (refl, (refl, (refl, (refl, (refl, (refl, (refl, (refl, (refl, (refl, (refl, (refl, tt)))))))))))) (λ f. f) (refl, (refl, (refl, (refl, (refl, (refl, (refl, (refl, (refl, (refl, (refl, (refl, tt)))))))))))) (λ k. true≢false (k .agrees (λ v. true) .ids (id 1)));
+  ways = only-ways;
+  first-entry =
+      refutes refl (refl, (refl, (refl, (refl, (refl, (refl, (refl, (refl, (refl, (refl, (refl, tt))))))))))) (λ f. f)
+      (refl, (refl, (refl, (refl, (refl, (refl, (refl, (refl, (refl, (refl, (refl, tt)))))))))))
+      (λ k. let z : _≡_ {A = ℕ} 1 0 = k .agrees (λ v. true) .number in absurd (omega arith));
+  held-count =
+      refutes refl (refl, (refl, (refl, (refl, (refl, (refl, (refl, tt))))))) (λ f. f)
+      (refl, (refl, (refl, (refl, (refl, (refl, (refl, tt)))))))
+      (λ k. let z : _≡_ {A = ℕ} 0 1 = ap numberIn (k .count-is) in absurd (omega arith));
+  timeout =
+      refutes refl (refl, (refl, (refl, (refl, (refl, (refl, (refl, (refl, tt)))))))) (λ f. f)
+      (refl, (refl, (refl, (refl, (refl, (refl, (refl, (refl, tt))))))))
+      (λ k. let z : _≡_ {A = ℕ} 0 1 = k .agrees (λ v. true) .number in absurd (omega arith));
+  slots =
+      refutes refl (refl, (refl, (refl, (refl, (refl, (refl, (refl, (refl, (refl, (refl, (refl, (refl, tt)))))))))))) (λ f. f)
+      (refl, (refl, (refl, (refl, (refl, (refl, (refl, (refl, (refl, (refl, (refl, (refl, tt))))))))))))
+      (λ k. true≢false (k .agrees (λ v. true) .ids (id 1)));
 }

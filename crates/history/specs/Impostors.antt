@@ -1,6 +1,6 @@
 -- Four steps that the claim must refuse (document 01, "How the checks may be trusted"): each is the calls' own but for one fault. Assumes nothing.
 use Prim.Native.Nat.{ℕ, zero, suc}
-use mathlib.Core.Bool.{Bool, false, cond, _&&_}
+use mathlib.Core.Bool.{false, cond, _&&_}
 use mathlib.Core.List.{List, [], _∷_}
 use lib.Dec.{eqb}
 use lib.ListN.{length, take}
@@ -20,7 +20,7 @@ use Rattle.scope.specs.Returned.{completionWords, broughtAt}
 use Rattle.recovery.specs.RecoveryReply.{ReplyLists, replyLists, ended, doneOf}
 use Rattle.recovery.specs.declared.RecoveryReply.{RecoveryReply}
 use Rattle.recovery.specs.declared.RecoveryReply.the-variants as reply
-use Rattle.calls.specs.Calls.{Call, Open, Place, Move, Begin, Reply, ToSubmit, ToPoll, ToRecovery, Change, Cancel, Timeout, Reclaim, Read, Status, Reports, CountReports, CompletedBytes, HeldCount, HeldBytes}
+use Rattle.calls.specs.Calls.{Open, Place, Move, Begin, Reply, ToSubmit, ToPoll, ToRecovery, Change, Cancel, Timeout, Reclaim, Read, Status, Reports, CountReports, CompletedBytes, HeldCount, HeldBytes}
 use Rattle.calls.specs.Step.{World, worldStore, reports, recovers, reads, readOf, stepOf}
 use Rattle.calls.specs.declared.Answer.{Answer}
 use Rattle.calls.specs.declared.Answer.the-variants as answer
