@@ -1,6 +1,6 @@
 -- Short scripts of calls, computed by the definitions to their answers, journals and rows, with the theorem applied to each. Assumes nothing.
 use Prim.Native.Nat.{ℕ, zero, suc}
-use mathlib.Core.Bool.{Bool, true, false, cond}
+use mathlib.Core.Bool.{Bool, true, false, cond, true≢false}
 use mathlib.Core.List.{List, [], _∷_, _++_, map}
 use mathlib.Core.Path.{_≡_, refl, sym, ap, _∙_}
 use native.Mathlib.Omega.{arith}
@@ -74,14 +74,16 @@ use Rattle.recovery.specs.RecoveryReply.{doneOf, replyBy, replySized, replyIn, 
 use Rattle.recovery.specs.declared.AbortReport.{AbortReport}
 use Rattle.recovery.specs.declared.RecoveryReply.{RecoveryReply}
 use Rattle.recovery.specs.declared.RecoveryReply.the-variants as reply
-use Rattle.calls.specs.Calls.{Call, Open, Place, Device, Port, Endpoints, Move, Acquire, Initialize, Close, Begin, Submit, Poll, Recover, Reply, ToSubmit, ToPoll, Change, Timeout, Reclaim, Read, HeldCount, HeldBytes}
+use Rattle.calls.specs.Calls.{Beginning, Call, Open, Place, Device, Port, Endpoints, Move, Acquire, Initialize, Close, Begin, Submit, Poll, Recover, Reply, ToSubmit, ToPoll, Change, Timeout, Reclaim, Read, HeldCount, HeldBytes}
 use Rattle.calls.specs.Step.{World, placedOf, movedOf, begunOf, repliedOf, readOf, stepOf}
 use Rattle.calls.specs.declared.Answer.{Answer}
 use Rattle.calls.specs.declared.Answer.the-variants as answer
-use Rattle.runs.specs.Run.{Event, own, other, Answered, next, endOf, historyOf}
+use Rattle.runs.specs.Run.{Event, own, other, Answered, next, endOf, historyOf, answerTo}
 use Rattle.history.specs.Journal.{Entry, journalStep}
 use Rattle.history.specs.Claim.{calls, rowsAfter, entriesAfter, returns, Different, Recovered, Claim}
+use Rattle.history.specs.Watcher.{UpTo}
 use Rattle.history.proofs.Theorem.{history-claim, worldOf}
+use Rattle.history.proofs.Watcher.{watched}
 
 -- two rows of 8 bytes, one port
 abbrev pub opening : Opening
@@ -126,14 +128,14 @@ plugged d = record { id = d; port = record { session = 5; generation = 1; number
 abbrev pub id : ℕ → RequestId
 id n = record { session = 5; generation = 0; sequence = n }
 
--- n bytes from endpoint 81h of a device
-abbrev pub asksOf : DeviceId → ℕ → Call
-asksOf d n =
-    Begin (Submit [] (request (record { device = d; endpoint = 0x81; «transfer_type» = Bulk; direction = In; length = n; setup = setup.None }) [] false
-    (record { first = Word 0x403; second = Word 0x403 })))
+-- n bytes from endpoint 81h of a device, with a reading of the port
+abbrev pub asking : DeviceId → ℕ → ℕ → Beginning
+asking d n raw =
+    Submit [] (request (record { device = d; endpoint = 0x81; «transfer_type» = Bulk; direction = In; length = n; setup = setup.None }) [] false
+    (record { first = Word raw; second = Word raw }))
 
 abbrev pub asks : ℕ → Call
-asks n = asksOf camera n
+asks n = Begin (asking camera n 0x403)
 
 -- the camera is placed, and the controller Initialized
 abbrev pub ready : List Event
@@ -239,6 +241,16 @@ closing = calls (Read HeldCount) ∷ calls (Read HeldBytes) ∷ calls (Move (Clo
 abbrev stalled : List Event
 stalled = toAbort ++ (aborts ∷ closing)
 
+-- ---- a pulled cable: a reading without the connected bit, then a submission with the reading of before
+abbrev pulled : Call
+pulled = Begin (asking camera 8 0x402)
+
+abbrev between : List Event
+between = calls (Read HeldCount) ∷ []
+
+abbrev cable : List Event
+cable = ready ++ (calls pulled ∷ (between ++ (calls (asks 8) ∷ [])))
+
 -- ---- what they compute to
 -- an answer's refusal, or the number that it is, or 0
 abbrev pub numberIn : Answer → ℕ
@@ -294,6 +306,9 @@ pub record Shown : Type 0 where
   pub restored : isInitialized (endOf start (toReset ++ (aborts ∷ [])) .session .state) ≡ true
   -- a token means the lowest id that has it: 1 is aborted, 2 stays held
   pub one-token : map rowNumbers (rowsAfter start (toAbort ++ (aborts ∷ []))) ≡ (1 ∷ 4 ∷ 3 ∷ []) ∷ (2 ∷ 2 ∷ 0 ∷ []) ∷ []
+  -- both submissions are refused by 31, the second by the watcher's own words
+  pub cable-is : map (λ (h : Answered). numberIn (h .answer)) (historyOf start cable) ≡ 0 ∷ 0 ∷ 0 ∷ 0 ∷ 0 ∷ 31 ∷ 0 ∷ 31 ∷ []
+  pub stale : UpTo 31 (answerTo (endOf (next (stepOf pulled (endOf start ready))) between) (calls (asks 8)))
 
 -- two rows with the tokens 7 and 9
 two-apart : (l : List Row) → map (λ (r : Row). r .token) l ≡ 7 ∷ 9 ∷ [] → Different camera 0x81 l
@@ -318,7 +333,7 @@ two-apart (r ∷ q ∷ []) e = go
 two-apart (r ∷ q ∷ p ∷ l) e = let z : _≡_ {A = ℕ} 2 3 = ap (λ (m : List ℕ). length (take 3 m)) (sym e) ∙ refl in absurd (omega arith)
 
 pub shown : Shown
-unfolding stepOf placedOf movedOf begunOf repliedOf readOf openOf rowsFit areaFits cleared _if_else_ foundIn splice putIn emptied emptyRow isHeld putRow putWords rowCount readRow recordOf applyBy applyAt applyOf pendingRow spendSequence moved freed accepted whilePending timeOut completed failed reclaimed changeRow isAt isFree saturate heldCount heldBytes putDevice putEndpoints putPort codeTested testCode testLength testCompletion packetsChecked marked acquiredBy acquireOf initializedBy initializeOf placed setDeviceOf setPortOf setEndpointsOf effect roomIn writeOf beginOf targetBy targetOf reportedBy changeOf failedAs judgedTest judgedBy judged storedIn settled pollReplyAt pollReplyBy pollReplyFound pollReplyIn pollReplyOf pollRow pollBy pollOf acceptedBy discardedBy submitReplyBy submitReplyIn submitReplyOf heldCountOf heldBytesOf submittedBy preparedOf roomOf packetsOf guarded submitOf bus.numberChecked bus.setPortBy bus.setPort bus.readingChecked bus.validatedRow bus.validatedBy bus.validated bus.observedBy bus.observedRow bus.observePortBy bus.observePort bus.freshObserved bus.freshWord bus.freshReading bus.freshPortBy bus.freshPort endpoints.setEndpoints prepare.dataChecked prepare.otherChecked prepare.specChecked prepare.preparedIf prepare.prepared target.knownBy target.knownDevice target.preparedDevice target.freshDevice target.checkDeviceBy target.checkDevice target.speedChecked target.endpointBy target.checkEndpoint target.checkTargetBy target.checkTarget layout.deviceRecord journalStep closeOf recoverOf recoverBy beginRow begunAs listed isAffected joined affectedOf inScope readBrought broughtAt readReturned listsAgree readEntries rowCompletedBy testedBy completeOne abortedBy abortOne abortConfirmed restoredBy resetBy sessionAfter refusedAfter applyAll concludedBy settledOf doneOf replyBy replySized replyIn recoveryReplyOf part requestBefore storeOf readRows busOf raised stallOf freshBy closedBy isUncertain
+unfolding stepOf placedOf movedOf begunOf repliedOf readOf openOf rowsFit areaFits cleared _if_else_ foundIn splice putIn emptied emptyRow isHeld putRow putWords rowCount readRow recordOf applyBy applyAt applyOf pendingRow spendSequence moved freed accepted whilePending timeOut completed failed reclaimed changeRow isAt isFree saturate heldCount heldBytes putDevice putEndpoints putPort codeTested testCode testLength testCompletion packetsChecked marked acquiredBy acquireOf initializedBy initializeOf placed setDeviceOf setPortOf setEndpointsOf effect roomIn writeOf beginOf targetBy targetOf reportedBy changeOf failedAs judgedTest judgedBy judged storedIn settled pollReplyAt pollReplyBy pollReplyFound pollReplyIn pollReplyOf pollRow pollBy pollOf acceptedBy discardedBy submitReplyBy submitReplyIn submitReplyOf heldCountOf heldBytesOf submittedBy preparedOf roomOf packetsOf guarded submitOf bus.numberChecked bus.setPortBy bus.setPort bus.readingChecked bus.validatedRow bus.validatedBy bus.validated bus.raisedRow bus.observedBy bus.observedRow bus.observePortBy bus.observePort bus.freshObserved bus.freshWord bus.freshReading bus.freshPortBy bus.freshPort endpoints.setEndpoints prepare.dataChecked prepare.otherChecked prepare.specChecked prepare.preparedIf prepare.prepared target.knownBy target.knownDevice target.preparedDevice target.freshDevice target.checkDeviceBy target.checkDevice target.speedChecked target.endpointBy target.checkEndpoint target.checkTargetBy target.checkTarget layout.deviceRecord journalStep closeOf recoverOf recoverBy beginRow begunAs listed isAffected joined affectedOf inScope readBrought broughtAt readReturned listsAgree readEntries rowCompletedBy testedBy completeOne abortedBy abortOne abortConfirmed restoredBy resetBy sessionAfter refusedAfter applyAll concludedBy settledOf doneOf replyBy replySized replyIn recoveryReplyOf part requestBefore storeOf readRows busOf raised stallOf freshBy closedBy isUncertain
 shown =
     let of-recovery = history-claim opening closed busWords (replicate 52 0) (replicate 16 0) recovery refl
     (refl, (refl, (refl, (refl, (refl, (refl, (refl, (refl, (refl, (refl, (refl, (refl, (refl, (refl, (refl, (refl, (refl, tt)))))))))))))))))
@@ -345,4 +360,7 @@ shown =
       };
       restored = refl;
       one-token = refl;
+      cable-is = refl;
+      stale = watched start cable (refl, (refl, (refl, (refl, (refl, (refl, (refl, (refl, tt)))))))) .refused 1 (plugged camera) ready between [] pulled (asking camera 8 0x403) refl refl
+          (record { old = 0x403; raw = 0x402; last = refl; taken = refl; differs = true≢false; current = refl }) (refl, (refl, tt)) refl;
     }

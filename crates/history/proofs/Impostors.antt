@@ -49,7 +49,7 @@ use Rattle.history.specs.Journal.{journalStep}
 use Rattle.history.specs.Claim.{calls, returns, ClaimOf, Claim}
 use Rattle.history.specs.Impostors.{stepWith, rightWays, firstOnly, heldInvented, timeoutReleases, slotsCompared}
 use Rattle.history.proofs.Theorem.{history-claim}
-use Rattle.history.proofs.Examples.{opening, closed, busWords, before, start, plugged, id, asks, asksOf, ready, whole, numberIn}
+use Rattle.history.proofs.Examples.{opening, closed, busWords, before, start, plugged, id, asking, asks, ready, whole, numberIn}
 
 -- ---- the scripts
 
@@ -73,7 +73,7 @@ newcomer = record { session = 5; generation = 1; slot = 1 }
 
 abbrev shared : List Event
 shared =
-    one ++ (calls (Place (Device (plugged newcomer))) ∷ calls (asksOf newcomer 4) ∷ calls (Reply (ToSubmit (submit.Token 7)))
+    one ++ (calls (Place (Device (plugged newcomer))) ∷ calls (Begin (asking newcomer 4 0x403)) ∷ calls (Reply (ToSubmit (submit.Token 7)))
     ∷ calls (Begin (Recover (id 1) kind.Abort)) ∷ returns whole (replyLists [] [] (7 ∷ []) []) own
     ∷ [])
 

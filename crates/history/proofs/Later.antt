@@ -102,7 +102,7 @@ observed-later r raw = go (r .reading) refl
         if-by (Observes r) _ _ _ (λ t. if-all (Observes r) _ _ _ tt (record { rises = omega arith; stays = λ q. absurd (omega arith) }))
         (λ t. kept (u32.Some old) e (beq-same (portConnected old) (portConnected raw) (not-false _ t)))
 
--- 29, 30, or the number is none of 0
+-- 29, 30, or a number of 1 or more
 abbrev pub Numbered : ℕ → Verdict → Type 0
 Numbered n (verdict.Refused r) = r .number ≤ 31
 Numbered n verdict.Pass = 1 ≤ n

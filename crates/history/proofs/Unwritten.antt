@@ -11,7 +11,7 @@ use Rattle.chain.specs.After.{After, after}
 use Rattle.chain.specs.Chain.{_if_else_}
 use Rattle.chain.proofs.Chain.{caseB, if-all, if-by}
 use Rattle.chain.proofs.Lists.{inside}
-use Rattle.words.specs.Records.{splice}
+use Rattle.words.specs.Records.{splice, spliceCut}
 use Rattle.words.specs.declared.OptionU32.{OptionU32}
 use Rattle.words.proofs.Records.{splice-length, part-splice-apart, record-in, record-apart}
 use Rattle.models.specs.declared.BackendCompletion.{BackendCompletion}
@@ -129,7 +129,7 @@ module _ (z : Size) where
 
     -- data is cut at the row's end
     write-safe : (bytes : List ℕ) → Inside (length (m .area)) p
-        → Safe m (memory (putIn (n .store) p next) (splice (p * z .«row_bytes») (take (min (length bytes) (z .«row_bytes»)) bytes) (n .area)))
+        → Safe m (memory (putIn (n .store) p next) (spliceCut (p * z .«row_bytes») (z .«row_bytes») bytes (n .area)))
     unfolding putIn
     write-safe bytes h = record {
       size = splice-length (p * z .«row_bytes») cut (n .area) (omega (arith, small, k .size)) ∙ k .size;

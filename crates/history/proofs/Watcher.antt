@@ -159,7 +159,7 @@ module _ (slot : ℕ) (d : DeviceSnapshot) (w : World) (stands : deviceAt (w .le
   Notes a b = Noticed (d .port) before a b
 
   notes-early : (y : Refusal) → y .number ≤ 28 → Notes (answer.Refused y) before
-  notes-early y n = unread (refused y n)
+  notes-early y n = unread (refused y n) refl
 
   abbrev row : PortRow
   row = portAt before (d .port .number)
@@ -187,7 +187,7 @@ module _ (slot : ℕ) (d : DeviceSnapshot) (w : World) (stands : deviceAt (w .le
   unfolding freshPort freshPortBy freshReading freshWord observePort observePortBy freshObserved observedRow observedBy raisedRow validatedRow
   reading-stops =
       subst Validating (sym valid) (subst (λ (o : OptionU32). Observing (observedBy o row raw)) (sym (told .0))
-      (if-by Observing _ _ _ (λ t. if-by Observing _ _ _ (λ y. full refl) (λ y. again))
+      (if-by Observing _ _ _ (λ t. if-by Observing _ _ _ (λ y. full refl refl) (λ y. again))
       (λ t. absurd (differs (beq-same (portConnected old) (portConnected raw) (not-false _ t))))))
     where
       Validating : PortChecked → Type 0

@@ -1,5 +1,5 @@
--- For those who take completed bytes, as a camera's: no call writes into the bytes of a request that is held, and the bytes that come back
--- are those of a request with a release, apart from the bytes of every held one. Assumes nothing.
+-- For those who take completed bytes, as a camera's: no call writes into the bytes of a request that is held, so from its submission to its
+-- release, and bytes that come back are of a request with a release, apart from those of every held one. Assumes nothing.
 use Prim.Native.Nat.{ℕ, _+_, _*_, _≤_}
 use mathlib.Core.Bool.{true}
 use mathlib.Core.List.{List, _∷_, _++_}

@@ -67,12 +67,6 @@ Asks slot (SubmitPlan q bytes first) = q .device .slot ≡ slot
 Asks slot (Poll id) = ⊥
 Asks slot (Recover id kind) = ⊥
 
--- a refusal whose number is at most n
-pub record UpTo (n : ℕ) (a : Answer) : Type 0 where
-  pub refusal : Refusal
-  pub is : a ≡ answer.Refused refusal
-  pub low : refusal .number ≤ n
-
 -- and its first reading
 abbrev pub Reads : PortReading → Beginning → Type 0
 Reads x (Submit packets q) = q .readings .first ≡ x
@@ -80,20 +74,26 @@ Reads x (SubmitPlan q bytes first) = first ≡ x
 Reads x (Poll id) = ⊥
 Reads x (Recover id kind) = ⊥
 
--- what a submission whose reading differs comes to: a refusal before the reading; 34, and nothing is written; or 31, and it is written
+-- a refusal whose number is at most n
+pub record UpTo (n : ℕ) (a : Answer) : Type 0 where
+  pub refusal : Refusal
+  pub is : a ≡ answer.Refused refusal
+  pub low : refusal .number ≤ n
+
+-- what a submission whose reading differs comes to: a refusal before the reading or 34, and nothing is written; or 31, and the reading is
 pub data Noticed (id : PortId) (b : Bus) (a : Answer) (b′ : Bus) : Type 0 where
-  unread : UpTo 28 a → Noticed id b a b′
-  full : a ≡ answer.Refused (refusalOf 34) → Noticed id b a b′
+  unread : UpTo 28 a → b′ ≡ b → Noticed id b a b′
+  full : a ≡ answer.Refused (refusalOf 34) → b′ ≡ b → Noticed id b a b′
   turned : a ≡ answer.Refused (refusalOf 31) → Turned id b b′ → Noticed id b a b′
 
 pub record Watched (w : World) (es : List Event) : Type 0 where
-  -- a submission to the device d, whose port id is valid and observed (29 to 32), with a reading whose connected bit differs
+  -- a submission to the slot of a device d whose port id is valid and observed (29 to 32), with a reading whose connected bit differs
   pub noticed : (slot : ℕ) (d : DeviceSnapshot) (before after : List Event) (f : Beginning) (old raw : ℕ) → es ≡ before ++ (calls (Begin f) ∷ after)
       → (let at = endOf w before in
       deviceAt (at .lent .bus) slot ≡ device.Some d → Asks slot f → Reads (Word raw) f
       → validated (at .session .ports) (d .port) (at .lent .bus) ≡ port.Read old → (portConnected old ≡ portConnected raw → ⊥)
       → Noticed (d .port) (at .lent .bus) (answerTo at (calls (Begin f))) (stepOf (Begin f) at .lent .bus))
-  -- wherever a call c turned the port's last reading, every later submission to the device, unless it or the port's row was placed anew
+  -- where a call c turned the port's last reading: every later submission to the slot, unless its device or the port's row was placed anew
   pub refused : (slot : ℕ) (d : DeviceSnapshot) (before mid after : List Event) (c : Call) (f : Beginning)
       → es ≡ before ++ (calls c ∷ (mid ++ (calls (Begin f) ∷ after)))
       → (let at = endOf w before in
