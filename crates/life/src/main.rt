@@ -368,12 +368,16 @@ fn fail(s: Session, rows: &mut [u64], area: &mut [u8]) -> Session {
     reclaim(s, rows, 2)
 }
 
-// 45, which leaves the row free, then 5, then a completion that is not valid.
-fn trouble(s: Session, bus: &mut [u64], rows: &mut [u64], area: &mut [u8]) -> Session {
+// 45, which leaves the row free.
+fn send_failed(s: Session, bus: &mut [u64], rows: &mut [u64], area: &mut [u8]) -> Session {
     let failed = SubmitReply::Error(error(ErrorCategory::Unsupported));
-    let s = send(s, bus, rows, area, 8, failed);
-    let s = overfill(s, bus, rows, area);
-    fail(s, rows, area)
+    send(s, bus, rows, area, 8, failed)
+}
+
+// That, then 5.
+fn trouble(s: Session, bus: &mut [u64], rows: &mut [u64], area: &mut [u8]) -> Session {
+    let s = send_failed(s, bus, rows, area);
+    overfill(s, bus, rows, area)
 }
 
 // 52, 45, then a close that passes.
@@ -393,8 +397,7 @@ fn finish_life(s: Session, rows: &mut [u64]) {
 
 fn requests_of(s: Session, bus: &mut [u64], rows: &mut [u64], area: &mut [u8]) -> Session {
     let s = begin(s, bus, rows, area);
-    let s = one_request(s, rows, area);
-    trouble(s, bus, rows, area)
+    one_request(s, rows, area)
 }
 
 // A store of two rows of 8 bytes: 3 as one of three.
@@ -411,6 +414,8 @@ fn small_life() {
     };
     let s = prepare(s, &mut bus);
     let s = requests_of(s, &mut bus, &mut rows, &mut area);
+    let s = trouble(s, &mut bus, &mut rows, &mut area);
+    let s = fail(s, &mut rows, &mut area);
     finish_life(s, &mut rows);
 }
 
