@@ -1,12 +1,13 @@
-# make run: proves and runs the programs `examples` and `life`; make test: the merge gate; make fmt: lays every file out.
+# make run: proves and runs the programs `examples`, `life` and `recoveries`; make test: the merge gate; make fmt: lays every file out.
 SHELL := /bin/bash
 .SHELLFLAGS := -o pipefail -c
 .PHONY: run test fmt staticlib oracle compare fuzz mutants
 
 run:
-	@rt check examples life | .ci/progress examples life
+	@rt check examples life recoveries | .ci/progress examples life recoveries
 	./target/bin/examples
 	./target/bin/life
+	./target/bin/recoveries
 
 test:
 	.ci/run
