@@ -24,7 +24,7 @@ fn byte_at(w: &[u64], i: usize) -> u8
 }
 
 // 0 to 4: opening and the placing calls.
-pub fn place_call(
+pub(crate) fn place_call(
     number: u64,
     session: Session,
     bus: &mut [u64],
@@ -58,7 +58,7 @@ pub fn place_call(
 }
 
 // 5 to 7: the calls that move the controller's state, whatever the bus and the area.
-pub fn move_call(number: u64, session: Session, rows: &mut [u64], call: &[u64]) -> Outcome
+pub(crate) fn move_call(number: u64, session: Session, rows: &mut [u64], call: &[u64]) -> Outcome
     ensures { λ r. ⌜ StepsRows r (readMoving number (now (call .entry))) session rows ⌝ }
 {
     if number == 5 {

@@ -26,7 +26,7 @@ ghost use Rattle.call_words.specs.Decode.{readSubmission, readReplying, readCha
 ghost use Rattle.dispatch.specs.Slices.{worldIn, StepsRows, StepsMemory, ReadsMemory, RunsMemory};
 
 // 8 and 9: submissions.
-pub fn submit_call(
+pub(crate) fn submit_call(
     number: u64,
     session: Session,
     bus: &mut [u64],
@@ -61,7 +61,7 @@ pub fn submit_call(
 }
 
 // 10 to 12: their replies, and polls, whatever the bus.
-pub fn reply_call(
+pub(crate) fn reply_call(
     number: u64,
     session: Session,
     rows: &mut [u64],
@@ -84,7 +84,7 @@ pub fn reply_call(
 }
 
 // 13 to 15: changes of one request, whatever the bus and the area.
-pub fn change_call(number: u64, session: Session, rows: &mut [u64], call: &[u64]) -> Outcome
+pub(crate) fn change_call(number: u64, session: Session, rows: &mut [u64], call: &[u64]) -> Outcome
     ensures { λ r. ⌜ StepsRows r (readChanging number (now (call .entry))) session rows ⌝ }
 {
     let id = state::id_at(call, 1);
@@ -98,7 +98,7 @@ pub fn change_call(number: u64, session: Session, rows: &mut [u64], call: &[u64]
 }
 
 // 16 to 21: what leaves all as it is, whatever the bus.
-pub fn report_call(
+pub(crate) fn report_call(
     number: u64,
     session: Session,
     rows: &[u64],
@@ -135,7 +135,7 @@ fn report_answer(number: u64, session: Session, rows: &[u64], area: &[u8], call:
 }
 
 // 22 to 24: recoveries, whatever the bus.
-pub fn recover_call(
+pub(crate) fn recover_call(
     number: u64,
     session: Session,
     rows: &mut [u64],

@@ -74,7 +74,7 @@ pub struct Called {
     pub session: Session,
 }
 
-pub fn is_closed(s: ControllerState) -> bool
+pub(crate) fn is_closed(s: ControllerState) -> bool
     ensures { λ r. ⌜ r ≡ isClosed s ⌝ }
 {
     match s {
@@ -86,7 +86,7 @@ pub fn is_closed(s: ControllerState) -> bool
     }
 }
 
-pub fn is_acquired(s: ControllerState) -> bool
+pub(crate) fn is_acquired(s: ControllerState) -> bool
     ensures { λ r. ⌜ r ≡ isAcquired s ⌝ }
 {
     match s {
@@ -123,7 +123,7 @@ pub fn may_recover(s: ControllerState) -> bool
     }
 }
 
-pub fn is_busy(f: InFlight) -> bool
+pub(crate) fn is_busy(f: InFlight) -> bool
     ensures { λ r. ⌜ r ≡ isBusy f ⌝ }
 {
     match f {

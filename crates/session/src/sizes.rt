@@ -40,7 +40,7 @@ fn area_fits(size: Size, bytes: usize) -> bool
     bytes as u64 == size.row_count * size.row_bytes
 }
 
-pub fn bus_fits(words: usize) -> bool
+pub(crate) fn bus_fits(words: usize) -> bool
     ensures { λ r. ⌜ r ≡ busFits words ⌝ }
 {
     words == bus::WORDS
@@ -56,7 +56,7 @@ pub fn memory_fits(size: Size, words: usize, bytes: usize) -> bool
 }
 
 // The rows, the area and the bus.
-pub fn lent_fits(size: Size, words: usize, bytes: usize, bus_words: usize) -> bool
+pub(crate) fn lent_fits(size: Size, words: usize, bytes: usize, bus_words: usize) -> bool
     ensures { λ r. ⌜ r ≡ lentSizes size words bytes «bus_words» ⌝ }
 {
     let memory_fits = memory_fits(size, words, bytes);

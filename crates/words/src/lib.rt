@@ -90,7 +90,7 @@ pub fn to_option_u64(present: u64, value: u64) -> OptionU64
     OptionU64::Some(value)
 }
 
-pub fn signed_word(v: i32) -> u64
+fn signed_word(v: i32) -> u64
     ensures { λ r. ⌜ (readSigned r ≡ v) × (r < 4294967296) × (r ≡ signedWord v) ⌝ }
 {
     if v < 0 {
@@ -101,7 +101,7 @@ pub fn signed_word(v: i32) -> u64
     }
 }
 
-pub fn to_signed(w: u64) -> i32
+fn to_signed(w: u64) -> i32
     ensures { λ r. ⌜ r ≡ readSigned w ⌝ }
 {
     let y = w % VALUES;
