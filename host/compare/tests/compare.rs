@@ -174,7 +174,7 @@ impl Side for Reversing {
 #[test]
 fn a_difference_in_a_recovery_is_found() {
     let reversing = || Box::new(Reversing(port::Port::new())) as Box<dyn Side>;
-    let Err(Stop::Difference { found, .. }) = run(&reversing, plan(10, 20_000)) else {
+    let Err(Stop::Difference { found, .. }) = run(&reversing, plan(13, 20_000)) else {
         panic!("it was not found");
     };
     let Some(Call::Recover {

@@ -37,8 +37,7 @@ enum Likeness {
 impl World {
     /// Plans an episode, if there is a device for it.
     pub fn plan_episode(&mut self, oracle: &Oracle) {
-        let usable = self.devices.iter().copied();
-        let usable: Vec<_> = usable.filter(|it| self.is_usable(oracle, it)).collect();
+        let usable = self.usable_devices(oracle);
         if usable.is_empty() {
             return;
         }
@@ -86,6 +85,11 @@ impl World {
         });
     }
 
+    pub fn usable_devices(&self, oracle: &Oracle) -> Vec<Device> {
+        let devices = self.devices.iter().copied();
+        devices.filter(|it| self.is_usable(oracle, it)).collect()
+    }
+
     /// Whether bulk submissions to its endpoints 81h and 01h may pass.
     fn is_usable(&self, oracle: &Oracle, device: &Device) -> bool {
         let placed = |address| {
@@ -127,7 +131,7 @@ impl World {
         }
     }
 
-    fn plain_submit(
+    pub fn plain_submit(
         &mut self,
         device: DeviceId,
         endpoint: u8,

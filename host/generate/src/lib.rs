@@ -2,6 +2,7 @@
 //! the next call can aim at rows, tokens and states that are really there.
 mod bounded;
 mod corners;
+mod edges;
 mod episode;
 mod marks;
 mod phase;

@@ -5,7 +5,7 @@ use std::process::ExitCode;
 use generate::{Generator, Mix, Phase, Table};
 
 const USAGE: &str = "usage: generate SEED CALLS [--mix default|no-recovery] [--phase PHASE] [--stores] [--table]
-  PHASE: mixed, checks, plans, ports, limits, hold, fill, stalls, lifecycle or marked; all in turn without it
+  PHASE: mixed, checks, plans, ports, limits, hold, fill, stalls, lifecycle, marked or edges; all in turn without it
   --stores: every opening has a store of 1 to 200 rows of 1 to 4,096 bytes
   --table: how often each refusal and each kind of report came, in place of the script";
 

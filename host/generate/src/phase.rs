@@ -56,6 +56,9 @@ pub enum Phase {
     Lifecycle,
     /// Submissions to marked slots, most of them without a device (26 before 27).
     Marked,
+    /// Edges that chance meets too seldom. It is never picked: it comes before
+    /// another phase's opening.
+    Edges,
 }
 
 impl Phase {
@@ -71,6 +74,7 @@ impl Phase {
             "stalls" => Self::Stalls,
             "lifecycle" => Self::Lifecycle,
             "marked" => Self::Marked,
+            "edges" => Self::Edges,
             _ => return None,
         })
     }
@@ -86,7 +90,7 @@ impl Phase {
             (2, Self::Fill),
             (50, Self::Stalls),
             (12, Self::Lifecycle),
-            (20, Self::Marked),
+            (26, Self::Marked),
         ])
     }
 
@@ -97,6 +101,7 @@ impl Phase {
             Self::Hold => 250 + rng.below(150),
             Self::Limits | Self::Lifecycle => 40 + rng.below(60),
             Self::Marked => 15 + rng.below(20),
+            Self::Edges => 16 + rng.below(10),
             _ => 80 + rng.below(250),
         }
     }
@@ -117,7 +122,7 @@ impl Phase {
 
     /// Devices that can be used by every submission.
     pub fn is_steady(self) -> bool {
-        matches!(self, Self::Hold | Self::Fill)
+        matches!(self, Self::Hold | Self::Fill | Self::Edges)
     }
 
     fn weights(self) -> &'static [(u32, Action)] {
@@ -132,6 +137,7 @@ impl Phase {
             Self::Stalls => STALLS,
             Self::Lifecycle => LIFECYCLE,
             Self::Marked => MARKED,
+            Self::Edges => EDGES,
         }
     }
 
@@ -308,4 +314,6 @@ const LIFECYCLE: &[(u32, Action)] = &[
     (4, Cancel),
     (6, Dump),
 ];
+/// Between the edges.
+const EDGES: &[(u32, Action)] = &[(30, Submit), (40, Poll), (20, Reclaim), (10, Dump)];
 const MARKED: &[(u32, Action)] = &[(45, Submit), (15, Plan), (30, Raw), (6, Device), (4, Dump)];

@@ -11,12 +11,12 @@ use crate::values;
 use crate::world::{Device, World};
 
 /// Port words: connected and enabled at full, low, high and super speed.
-const WORDS: [u32; 4] = [0x403, 0x803, 0xc03, 0x1003];
+pub const WORDS: [u32; 4] = [0x403, 0x803, 0xc03, 0x1003];
 /// What may change in a word without a new connection.
 const NOISE: [u32; 5] = [0, 0, 1 << 4, 1 << 31, 0x00fe_0000];
 
 /// Each number in both directions, so that the whole endpoint byte counts.
-const ENDPOINTS: [(u8, TransferType); 8] = [
+pub const ENDPOINTS: [(u8, TransferType); 8] = [
     (0x81, TransferType::Bulk),
     (0x01, TransferType::Bulk),
     (0x82, TransferType::Interrupt),
@@ -32,17 +32,8 @@ impl World {
     pub fn plan_opening(&mut self) {
         let open = self.opening();
         self.queue.clear();
-        self.episode.clear();
-        self.devices.clear();
-        self.endpoints.clear();
-        self.marked.clear();
         let (session, ports) = (open.session, open.ports);
-        if self.small_stores {
-            self.store = self.small_store();
-            let StoreSize { rows, bytes } = self.store;
-            self.queue.push_back(Call::Store { rows, bytes });
-        }
-        self.queue.push_back(Call::Open(open));
+        self.queue_opening(open);
         // One endpoint alone lets a recovery affect all of 128 held rows.
         self.alone = self.phase == Phase::Hold && self.rng.chance(50);
         self.distinct = self.alone && self.rng.chance(50);
@@ -64,6 +55,20 @@ impl World {
             self.queue.push_back(Call::Acquire(Ok(())));
             self.queue.push_back(Call::Initialise(Ok(())));
         }
+    }
+
+    /// Queues an opening and its store, and forgets what was set before.
+    pub fn queue_opening(&mut self, open: Open) {
+        self.episode.clear();
+        self.devices.clear();
+        self.endpoints.clear();
+        self.marked.clear();
+        if self.small_stores {
+            self.store = self.small_store();
+            let StoreSize { rows, bytes } = self.store;
+            self.queue.push_back(Call::Store { rows, bytes });
+        }
+        self.queue.push_back(Call::Open(open));
     }
 
     fn opening(&mut self) -> Open {
@@ -99,7 +104,7 @@ impl World {
     }
 
     /// A port, a device on it, and the device's endpoints.
-    fn plan_device(
+    pub fn plan_device(
         &mut self,
         session: u64,
         number: u8,
@@ -151,7 +156,7 @@ impl World {
         }
     }
 
-    fn endpoints_of(&mut self, slot: u8, list: Vec<(u8, TransferType)>) -> Call {
+    pub fn endpoints_of(&mut self, slot: u8, list: Vec<(u8, TransferType)>) -> Call {
         self.endpoints.retain(|(other, _, _)| *other != slot);
         let placed = list.iter().map(|(address, kind)| (slot, *address, *kind));
         self.endpoints.extend(placed);

@@ -26,6 +26,8 @@ pub struct World {
     pub phase: Phase,
     /// The only phase, where one was asked for.
     only: Option<Phase>,
+    /// The phase whose opening edges come before.
+    put_off: Option<Phase>,
     /// Calls left of the phase.
     left: usize,
     /// Calls that are already decided.
@@ -60,6 +62,7 @@ impl World {
             mix,
             phase: Phase::Mixed,
             only,
+            put_off: None,
             left: 0,
             queue: VecDeque::new(),
             episode: VecDeque::new(),
@@ -89,6 +92,11 @@ impl World {
         }
         let rows = self.before.rows.clone();
         if let Some(call) = self.next_step(oracle, &rows) {
+            return call;
+        }
+        if self.phase == Phase::Edges
+            && let Some(call) = self.edge(oracle, &rows)
+        {
             return call;
         }
         if self.state != ControllerState::Initialized && self.rng.chance(self.eagerness()) {
@@ -156,18 +164,38 @@ impl World {
         if self.phase == Phase::Marked {
             self.clear_marks();
         }
+        if let Some(phase) = self.put_off.take() {
+            self.begin(phase);
+            return self.open();
+        }
         let phase = Phase::pick(&mut self.rng);
-        self.phase = self.only.unwrap_or(phase);
-        self.left = self.phase.duration(&mut self.rng);
+        self.begin(self.only.unwrap_or(phase));
         let fresh = matches!(
             self.phase,
-            Phase::Limits | Phase::Lifecycle | Phase::Hold | Phase::Fill
+            Phase::Limits | Phase::Lifecycle | Phase::Hold | Phase::Fill | Phase::Edges
         );
         let stays = self.phase == Phase::Marked;
         if fresh || no_ports || (!stays && self.rng.chance(50)) {
-            self.plan_opening();
-            self.left += self.queue.len();
+            // The session ends here anyway, so edges take nothing from a phase.
+            if self.only.is_none() && self.rng.chance(25) {
+                self.put_off = Some(self.phase);
+                self.begin(Phase::Edges);
+            }
+            self.open();
         }
+    }
+
+    fn begin(&mut self, phase: Phase) {
+        self.phase = phase;
+        self.left = phase.duration(&mut self.rng);
+    }
+
+    fn open(&mut self) {
+        match self.phase {
+            Phase::Edges => self.plan_edges(),
+            _ => self.plan_opening(),
+        }
+        self.left += self.queue.len();
     }
 
     fn act(&mut self, action: Action, oracle: &Oracle, rows: &[RowView]) -> Call {
