@@ -9,6 +9,7 @@ use Rattle.chain.specs.Chain.{_if_else_}
 use Rattle.chain.specs.Lists.{foundIn, listed}
 use Rattle.words.specs.Records.{splice, part}
 use Rattle.words.specs.declared.OptionI32.the-variants as i32
+use Rattle.words.specs.declared.OptionU32.{OptionU32}
 use Rattle.words.specs.declared.OptionU32.the-variants as u32
 use Rattle.words.specs.declared.OptionU64.the-variants as u64
 use Rattle.models.specs.Requests.{requestBefore}
@@ -36,7 +37,7 @@ use Rattle.ledger.specs.Apply.{applyBy, applyAt, applyOf}
 use Rattle.rules.specs.Rules.{pendingRow, spendSequence, moved, freed, accepted, whilePending, timeOut, completed, failed, abortConfirmed, reclaimed, changeRow}
 use Rattle.ledger.specs.Search.{isAt, isFree}
 use Rattle.ledger.specs.Tally.{saturate, heldCount, heldBytes}
-use Rattle.bus.specs.Tables.{busOf, cleared, putDevice, putEndpoints, putPort}
+use Rattle.bus.specs.Tables.{busOf, cleared, portAt, putDevice, putEndpoints, putPort}
 use Rattle.bus.specs.Layout as layout
 use Rattle.bus.specs.Ports as bus
 use Rattle.bus.specs.Endpoints as endpoints
@@ -81,7 +82,7 @@ use Rattle.calls.specs.declared.Answer.the-variants as answer
 use Rattle.runs.specs.Run.{Event, own, other, Answered, next, endOf, historyOf, answerTo}
 use Rattle.history.specs.Journal.{Entry, journalStep}
 use Rattle.history.specs.Claim.{calls, rowsAfter, entriesAfter, returns, Different, Recovered, Claim}
-use Rattle.history.specs.Watcher.{UpTo}
+use Rattle.history.specs.Watcher.{Reads, UpTo, Noticed, Watched}
 use Rattle.history.proofs.Theorem.{history-claim, worldOf}
 use Rattle.history.proofs.Watcher.{watched}
 
@@ -128,11 +129,14 @@ plugged d = record { id = d; port = record { session = 5; generation = 1; number
 abbrev pub id : ℕ → RequestId
 id n = record { session = 5; generation = 0; sequence = n }
 
--- n bytes from endpoint 81h of a device, with a reading of the port
-abbrev pub asking : DeviceId → ℕ → ℕ → Beginning
-asking d n raw =
+-- n bytes from endpoint 81h of a device, with two readings of the port
+abbrev askingBy : DeviceId → ℕ → ℕ → ℕ → Beginning
+askingBy d n first second =
     Submit [] (request (record { device = d; endpoint = 0x81; «transfer_type» = Bulk; direction = In; length = n; setup = setup.None }) [] false
-    (record { first = Word raw; second = Word raw }))
+    (record { first = Word first; second = Word second }))
+
+abbrev pub asking : DeviceId → ℕ → ℕ → Beginning
+asking d n raw = askingBy d n raw raw
 
 abbrev pub asks : ℕ → Call
 asks n = Begin (asking camera n 0x403)
@@ -241,15 +245,18 @@ closing = calls (Read HeldCount) ∷ calls (Read HeldBytes) ∷ calls (Move (Clo
 abbrev stalled : List Event
 stalled = toAbort ++ (aborts ∷ closing)
 
--- ---- a pulled cable: a reading without the connected bit, then a submission with the reading of before
-abbrev pulled : Call
-pulled = Begin (asking camera 8 0x402)
+-- ---- a pulled cable: a second reading without the connected bit after a first with it or without, then a submission with the reading of before
+abbrev pulled : ℕ → Beginning
+pulled first = askingBy camera 8 first 0x402
 
 abbrev between : List Event
 between = calls (Read HeldCount) ∷ []
 
-abbrev cable : List Event
-cable = ready ++ (calls pulled ∷ (between ++ (calls (asks 8) ∷ [])))
+abbrev cable : ℕ → List Event
+cable first = ready ++ (calls (Begin (pulled first)) ∷ (between ++ (calls (asks 8) ∷ [])))
+
+abbrev then : ℕ → World
+then first = next (stepOf (Begin (pulled first)) (endOf start ready))
 
 -- ---- what they compute to
 -- an answer's refusal, or the number that it is, or 0
@@ -287,6 +294,14 @@ pub record Computed (es : List Event) (answers : List ℕ) (journal rows : List 
   -- what is assumed of a list holds of this one, so the theorem speaks of it
   pub claim : Claim start es
 
+-- both submissions are refused by 31, each also by the watcher's own words
+pub record Pulled (first : ℕ) (earlier : OptionU32) : Type 0 where
+  pub answers-are : map (λ (h : Answered). numberIn (h .answer)) (historyOf start (cable first)) ≡ 0 ∷ 0 ∷ 0 ∷ 0 ∷ 0 ∷ 31 ∷ 0 ∷ 31 ∷ []
+  pub row-is : portAt (then first .lent .bus) 1 ≡ record { generation = 2; reading = u32.Some 0x402 }
+  pub noticed : Noticed (plugged camera .port) earlier (endOf start ready .lent .bus) (answerTo (endOf start ready) (calls (Begin (pulled first))))
+      (then first .lent .bus)
+  pub stale : UpTo 31 (answerTo (endOf (then first) between) (calls (asks 8)))
+
 pub record Shown : Type 0 where
   pub requests : Computed script
       (0 ∷ 0 ∷ 0 ∷ 0 ∷ 0 ∷ 0 ∷ 0 ∷ 0 ∷ 45 ∷ 7 ∷ 0 ∷ 0 ∷ 5 ∷ 0 ∷ 0 ∷ 0 ∷ 0 ∷ 0 ∷ 0 ∷ 0 ∷ 0 ∷ 42 ∷ 3 ∷ 2 ∷ 5 ∷ [])
@@ -306,9 +321,8 @@ pub record Shown : Type 0 where
   pub restored : isInitialized (endOf start (toReset ++ (aborts ∷ [])) .session .state) ≡ true
   -- a token means the lowest id that has it: 1 is aborted, 2 stays held
   pub one-token : map rowNumbers (rowsAfter start (toAbort ++ (aborts ∷ []))) ≡ (1 ∷ 4 ∷ 3 ∷ []) ∷ (2 ∷ 2 ∷ 0 ∷ []) ∷ []
-  -- both submissions are refused by 31, the second by the watcher's own words
-  pub cable-is : map (λ (h : Answered). numberIn (h .answer)) (historyOf start cable) ≡ 0 ∷ 0 ∷ 0 ∷ 0 ∷ 0 ∷ 31 ∷ 0 ∷ 31 ∷ []
-  pub stale : UpTo 31 (answerTo (endOf (next (stepOf pulled (endOf start ready))) between) (calls (asks 8)))
+  pub cable-is : Pulled 0x402 u32.None
+  pub between-readings : Pulled 0x401 (u32.Some 0x401)
 
 -- two rows with the tokens 7 and 9
 two-apart : (l : List Row) → map (λ (r : Row). r .token) l ≡ 7 ∷ 9 ∷ [] → Different camera 0x81 l
@@ -360,7 +374,24 @@ shown =
       };
       restored = refl;
       one-token = refl;
-      cable-is = refl;
-      stale = watched start cable (refl, (refl, (refl, (refl, (refl, (refl, (refl, (refl, tt)))))))) .refused 1 (plugged camera) ready between [] pulled (asking camera 8 0x403) refl refl
-          (record { old = 0x403; raw = 0x402; last = refl; taken = refl; differs = true≢false; current = refl }) (refl, (refl, tt)) refl;
+      cable-is = record { answers-are = refl; row-is = refl; noticed = by-watcher 0x402 u32.None refl; stale = stays 0x402 refl };
+      between-readings = record {
+        answers-are = refl;
+        row-is = refl;
+        noticed = by-watcher 0x401 (u32.Some 0x401) (record { readings = refl; agrees = refl; not-control = refl; configured = refl });
+        stale = stays 0x401 refl;
+      };
     }
+  where
+    watch : (first : ℕ) → Watched start (cable first)
+    watch first = watched start (cable first) (refl, (refl, (refl, (refl, (refl, (refl, (refl, (refl, tt))))))))
+
+    by-watcher : (first : ℕ) (earlier : OptionU32) → Reads (plugged camera) 0x403 earlier 0x402 (pulled first)
+        → Noticed (plugged camera .port) earlier (endOf start ready .lent .bus) (answerTo (endOf start ready) (calls (Begin (pulled first)))) (then first .lent .bus)
+    by-watcher first earlier k =
+        watch first .noticed 1 (plugged camera) ready (between ++ (calls (asks 8) ∷ [])) (pulled first) earlier 0x403 0x402 refl refl refl k refl true≢false
+
+    stays : (first : ℕ) → portAt (then first .lent .bus) 1 .reading ≡ u32.Some 0x402 → UpTo 31 (answerTo (endOf (then first) between) (calls (asks 8)))
+    stays first e =
+        watch first .refused 1 (plugged camera) ready between [] (Begin (pulled first)) (asking camera 8 0x403) refl refl
+        (record { old = 0x403; raw = 0x402; last = refl; taken = e; differs = true≢false; current = refl }) (refl, (refl, tt)) refl

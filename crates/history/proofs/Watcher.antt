@@ -1,18 +1,23 @@
 -- Those who watch ports: a reading whose connected bit differs makes the ids of its port stale, and they stay so. Assumes nothing.
-use Prim.Native.Nat.{ℕ, _+_, _-_, _<_, _≤_}
-use mathlib.Core.Bool.{Bool, true, false}
+use Prim.Native.Nat.{ℕ, _+_, _<_, _≤_}
+use mathlib.Core.Bool.{Bool, true, false, not, _||_, Bool·beq, true≢false}
 use mathlib.Core.List.{List, [], _∷_, _++_}
 use mathlib.Core.Path.{_≡_, refl, sym, ap, _∙_, subst}
 use native.Mathlib.Omega.{arith}
 use borrow.Author.Tests.{ltb-true, ltb-false, not-false}
-use lib.Dec.{ltb}
+use lib.Dec.{eqb, ltb}
 use lib.Seq.{getD-set-same}
 use Rattle.chain.specs.After.{After, after}
+use Rattle.chain.specs.Chain.{_if_else_}
 use Rattle.chain.proofs.Chain.{caseB, if-all, if-by}
 use Rattle.chain.proofs.Lists.{inside}
 use Rattle.words.specs.declared.OptionU32.{OptionU32}
 use Rattle.words.specs.declared.OptionU32.the-variants as u32
+use Rattle.models.specs.Kinds.{isControl, isPrepared, isConfigured}
+use Rattle.models.specs.Refusals.{refusalOf}
 use Rattle.models.specs.declared.DeviceSnapshot.{DeviceSnapshot}
+use Rattle.models.specs.declared.DeviceState.{DeviceState}
+use Rattle.models.specs.declared.DeviceState.the-variants.{Configured}
 use Rattle.models.specs.declared.OptionDevice.{OptionDevice}
 use Rattle.models.specs.declared.OptionDevice.the-variants as device
 use Rattle.models.specs.declared.OptionPorts.{OptionPorts}
@@ -24,7 +29,7 @@ use Rattle.models.specs.declared.RequestMetadata.{RequestMetadata}
 use Rattle.models.specs.declared.Verdict.{Verdict}
 use Rattle.models.specs.declared.Verdict.the-variants as verdict
 use Rattle.standards.specs.Ports.{portConnected}
-use Rattle.bus.specs.Ports.{numberChecked, readingChecked, validatedRow, validatedBy, validated, raisedRow, observedBy, observedRow, observePortBy, observePort, freshObserved, freshWord, freshReading, freshPortBy, freshPort}
+use Rattle.bus.specs.Ports.{numberChecked, readingChecked, ofOpening, validatedRow, validatedBy, validated, raisedRow, observedBy, observedRow, observePortBy, observePort, freshObserved, freshWord, freshReading, freshPortBy, freshPort}
 use Rattle.bus.specs.Tables.{Bus, newPort, portIndex, portAt, deviceAt, putPort}
 use Rattle.bus.specs.declared.PortRow.{PortRow}
 use Rattle.bus.specs.declared.ports.Observed.{Observed}
@@ -33,14 +38,14 @@ use Rattle.bus.specs.declared.ports.PortChecked.{PortChecked}
 use Rattle.bus.specs.declared.ports.PortChecked.the-variants as port
 use Rattle.checks.specs.Plan.{planOf}
 use Rattle.checks.specs.Prepare.{metadataOf}
-use Rattle.targets.specs.Target.{knownBy, knownDevice, preparedDevice, freshDevice, checkDeviceBy, checkDevice, checkTargetBy, checkTarget}
+use Rattle.targets.specs.Target.{knownBy, knownDevice, preparedDevice, freshDevice, checkDeviceBy, checkDevice, endpointBy, checkEndpoint, checkTargetBy, checkTarget}
 use Rattle.targets.specs.declared.Readings.{Readings}
 use Rattle.targets.specs.declared.target.DeviceChecked.{DeviceChecked}
 use Rattle.session.specs.Lent.{Lent, lent}
 use Rattle.session.specs.Session.{isInitialized}
 use Rattle.session.specs.Sizes.{placeOf}
 use Rattle.submissions.specs.Begin.{Draft, draft, startRefused, targetBy, targetOf}
-use Rattle.submissions.specs.Submit.{submittedBy, submittedTo}
+use Rattle.submissions.specs.Submit.{Request, submittedBy, submittedTo}
 use Rattle.submissions.specs.Plan.{planStarted, plannedTo}
 use Rattle.submissions.specs.declared.begin.Started.{Started}
 use Rattle.calls.specs.Answers.{ofSubmit, ofPlan}
@@ -52,10 +57,10 @@ use Rattle.runs.specs.Run.{Handed, own, rowsOnly, other, Event, next, leftBy, e
 use Rattle.runs.proofs.Handings.{follows-at, follows-on, follows-front}
 use Rattle.runs.proofs.Stages.{submit-all, plan-all}
 use Rattle.history.specs.Claim.{calls}
-use Rattle.history.specs.Watcher.{Turned, LeavesBy, Leaves, Asks, Reads, UpTo, Noticed, unread, full, turned, Watched}
+use Rattle.history.specs.Watcher.{Turned, LeavesBy, Leaves, Asks, Second, Reads, foundBy, UpTo, Noticed, unread, full, turned, Watched}
 use Rattle.history.proofs.Later.{SameBit, beq-same, Numbered, number-said, same-generation, Onward, step-later}
 
--- ---- a submission that is refused at its device or at its first reading, for whatever is claimed of answer and bus
+-- ---- a submission that is refused at its device or at one of its readings, for whatever is claimed of answer and bus
 module _ (slot : ℕ) (d : DeviceSnapshot) (w : World) (stands : deviceAt (w .lent .bus) slot ≡ device.Some d) (R : Answer → Bus → Type 0)
     (early : (y : Refusal) → y .number ≤ 28 → R (answer.Refused y) (w .lent .bus)) where
   abbrev PortStops : PortChecked → Bus → Type 0
@@ -66,32 +71,58 @@ module _ (slot : ℕ) (d : DeviceSnapshot) (w : World) (stands : deviceAt (w .le
   Stops (verdict.Refused r) b = R (answer.Refused r) b
   Stops verdict.Pass b = ⊥
 
-  -- the port with a reading
-  abbrev ReadStops : PortReading → Type 0
-  ReadStops x = let o = freshPort (w .session .ports) (d .port) x (w .lent .bus) in PortStops (o .result) (o .lent)
+  -- from the device's answer on
+  abbrev DeviceStops : RequestMetadata → PortReading → DeviceChecked → Bus → Type 0
+  DeviceStops m second c b = let o = checkTargetBy c (w .session .ports) m second b in Stops (o .result) (o .lent)
 
-  target-stops : (ready : Bool) (m : RequestMetadata) (x : Readings) → m .device .slot ≡ slot → ReadStops (x .first)
+  -- from the first reading on
+  abbrev ReadStops : RequestMetadata → Readings → Type 0
+  ReadStops m x = let o = freshPort (w .session .ports) (d .port) (x .first) (w .lent .bus) in DeviceStops m (x .second) (preparedDevice (o .result) d) (o .lent)
+
+  abbrev BeginStops : Beginning → Type 0
+  BeginStops (Submit packets q) = ReadStops (metadataOf (q .spec)) (q .readings)
+  BeginStops (SubmitPlan q bytes first) = ReadStops (planOf q .metadata) (record { first = first; second = first })
+  BeginStops (Poll id) = Unit {0}
+  BeginStops (Recover id kind) = Unit {0}
+
+  -- at the first reading
+  first-stops : (m : RequestMetadata) (second : PortReading) (c : PortChecked) (b : Bus) → PortStops c b → DeviceStops m second (preparedDevice c d) b
+  unfolding preparedDevice checkTargetBy
+  first-stops m second (port.Refused r) b n = n
+  first-stops m second (port.Read raw) b n = absurd n
+
+  -- at the second
+  second-stops : (m : RequestMetadata) (second : PortReading) (raw : ℕ) (b : Bus) → isControl (m .«transfer_type») ≡ false → d .state ≡ Configured
+      → (let o = freshPort (w .session .ports) (d .port) second b in PortStops (o .result) (o .lent))
+      → DeviceStops m second (preparedDevice (port.Read raw) d) b
+  unfolding preparedDevice checkTargetBy checkEndpoint endpointBy
+  second-stops m second raw b not-control is k =
+      if-by (λ (c : DeviceChecked). DeviceStops m second c b) _ _ _ (λ t. absurd (true≢false (sym t ∙ ap (λ (s : DeviceState). not (isPrepared s)) is)))
+      (λ t. if-by Ends _ _ _ (λ t. absurd (true≢false (sym t ∙ not-control)))
+      (λ t. if-by Ends _ _ _ (λ t. absurd (true≢false (sym t ∙ ap (λ (s : DeviceState). not (isConfigured s)) is))) (λ t. by-port (seen .result) k)))
+    where
+      seen : After PortChecked Bus
+      seen = freshPort (w .session .ports) (d .port) second b
+
+      Ends : After Verdict Bus → Type 0
+      Ends o = Stops (o .result) (o .lent)
+
+      by-port : (c : PortChecked) → PortStops c (seen .lent) → Stops (endpointBy c m (seen .lent)) (seen .lent)
+      by-port (port.Refused r) n = n
+      by-port (port.Read raw) n = absurd n
+
+  target-stops : (ready : Bool) (m : RequestMetadata) (x : Readings) → m .device .slot ≡ slot → ReadStops m x
       → (let o = checkTarget ready (w .session .ports) m x (w .lent .bus) in Stops (o .result) (o .lent))
-  unfolding checkTarget checkTargetBy checkDevice checkDeviceBy freshDevice preparedDevice knownDevice knownBy
+  unfolding checkTarget checkTargetBy checkDevice checkDeviceBy freshDevice knownDevice knownBy
   target-stops ready m x e k =
       if-all Known _ _ _ (early _ (omega arith))
       (subst (λ (o : OptionDevice). Known (knownBy o ready (m .device))) (sym (ap (deviceAt (w .lent .bus)) e ∙ stands))
-      (if-all Known _ _ _ (early _ (omega arith)) (if-all Known _ _ _ (early _ (omega arith)) (by-port (seen .result) (seen .lent) k))))
+      (if-all Known _ _ _ (early _ (omega arith)) (if-all Known _ _ _ (early _ (omega arith)) k)))
     where
-      seen : After PortChecked Bus
-      seen = freshPort (w .session .ports) (d .port) (x .first) (w .lent .bus)
-
-      Ends : DeviceChecked → Bus → Type 0
-      Ends c b = let o = checkTargetBy c (w .session .ports) m (x .second) b in Stops (o .result) (o .lent)
-
       Known : DeviceChecked → Type 0
-      Known c = let o = checkDeviceBy c (w .session .ports) (x .first) (w .lent .bus) in Ends (o .result) (o .lent)
+      Known c = let o = checkDeviceBy c (w .session .ports) (x .first) (w .lent .bus) in DeviceStops m (x .second) (o .result) (o .lent)
 
-      by-port : (c : PortChecked) (b : Bus) → PortStops c b → Ends (preparedDevice c d) b
-      by-port (port.Refused r) b n = n
-      by-port (port.Read raw) b n = absurd n
-
-  start-stops : (r : Draft) (x : Readings) → r .metadata .device .slot ≡ slot → ReadStops (x .first) → (P : After Started Lent → Type 0)
+  start-stops : (r : Draft) (x : Readings) → r .metadata .device .slot ≡ slot → ReadStops (r .metadata) x → (P : After Started Lent → Type 0)
       → ((y : Refusal) (b : Bus) → R (answer.Refused y) b → P (after (startRefused (w .session) y) (lent b (w .lent .memory))))
       → P (targetOf r x (w .session) (w .lent))
   unfolding targetOf targetBy
@@ -104,18 +135,18 @@ module _ (slot : ℕ) (d : DeviceSnapshot) (w : World) (stands : deviceAt (w .le
       by-verdict (verdict.Refused y) n = stop y (seen .lent) n
       by-verdict verdict.Pass n = absurd n
 
-  asked : (f : Beginning) → Asks slot f → ((x : PortReading) → Reads x f → ReadStops x) → R (begunOf f w .result .answer) (begunOf f w .lent .bus)
+  asked : (f : Beginning) → Asks slot f → BeginStops f → R (begunOf f w .result .answer) (begunOf f w .lent .bus)
   unfolding begunOf submittedBy planStarted
   asked (Submit packets q) e k =
       submit-all q (w .session) (w .lent) (λ o. R (ofSubmit (o .result .answer)) (o .lent .bus)) (λ x n. early x (omega arith))
       (λ i room size.
-      start-stops (draft (placeOf (w .session .size) i) (metadataOf (q .spec)) (q .bytes)) (q .readings) e (k _ refl)
+      start-stops (draft (placeOf (w .session .size) i) (metadataOf (q .spec)) (q .bytes)) (q .readings) e k
       (λ o. R (ofSubmit (submittedTo o (metadataOf (q .spec)) (q .given) .result .answer)) (o .lent .bus)) (λ y b n. n))
       packets
   asked (SubmitPlan q bytes first) e k =
       plan-all q bytes first (w .session) (w .lent) (λ o. R (ofPlan (o .result .answer)) (o .lent .bus)) (λ x n. early x (omega arith))
       (λ i room size.
-      start-stops (draft (placeOf (w .session .size) i) (planOf q .metadata) bytes) (record { first = first; second = first }) e (k _ refl)
+      start-stops (draft (placeOf (w .session .size) i) (planOf q .metadata) bytes) (record { first = first; second = first }) e k
       (λ o. R (ofPlan (plannedTo o (planOf q) .result .answer)) (o .lent .bus)) (λ y b n. n))
   asked (Poll id) e k = absurd e
   asked (Recover id kind) e k = absurd e
@@ -123,99 +154,158 @@ module _ (slot : ℕ) (d : DeviceSnapshot) (w : World) (stands : deviceAt (w .le
 refused : {n : ℕ} (x : Refusal) → x .number ≤ n → UpTo n (answer.Refused x)
 refused x h = record { refusal = x; is = refl; low = h }
 
--- ---- a reading whose connected bit differs
+-- ---- a reading of a port whose id is valid and observed
 abbrev isRead : OptionU32 → Bool
 isRead u32.None = false
 isRead (u32.Some raw) = true
 
+beq-self : (a : Bool) → Bool·beq a a ≡ true
+beq-self true = refl
+beq-self false = refl
+
 -- 29 to 32 passed
-valid-told : (p : OptionPorts) (id : PortId) (b : Bus) (old : ℕ) → validated p id b ≡ port.Read old
-    → (portAt b (id .number) .reading ≡ u32.Some old) × (id .generation ≡ portAt b (id .number) .generation)
+record Valid (p : OptionPorts) (id : PortId) (b : Bus) (old : ℕ) : Type 0 where
+  numbered : numberChecked p (id .number) ≡ verdict.Pass
+  current : (not (ofOpening p (id .session)) || not (eqb (id .generation) (portAt b (id .number) .generation))) ≡ false
+  last : portAt b (id .number) .reading ≡ u32.Some old
+
+valid-told : (p : OptionPorts) (id : PortId) (b : Bus) (old : ℕ) → validated p id b ≡ port.Read old → Valid p id b old
 unfolding validated validatedBy validatedRow readingChecked
-valid-told p id b old = by-number (numberChecked p (id .number))
+valid-told p id b old = by-number (numberChecked p (id .number)) refl
   where
     row : PortRow
     row = portAt b (id .number)
 
     Told : PortChecked → Type 0
-    Told c = c ≡ port.Read old → (row .reading ≡ u32.Some old) × (id .generation ≡ row .generation)
+    Told c = c ≡ port.Read old → Valid p id b old
 
     by-reading : (o : OptionU32) → readingChecked o ≡ port.Read old → o ≡ u32.Some old
     by-reading u32.None e = let z : _≡_ {A = ℕ} 0 1 = cc in absurd (omega arith)
     by-reading (u32.Some raw) e = cc
 
-    by-number : (v : Verdict) → Told (validatedBy v p id b)
-    by-number (verdict.Refused r) = λ e. let z : _≡_ {A = ℕ} 0 1 = cc in absurd (omega arith)
-    by-number verdict.Pass =
+    by-number : (v : Verdict) → numberChecked p (id .number) ≡ v → Told (validatedBy v p id b)
+    by-number (verdict.Refused r) n = λ e. let z : _≡_ {A = ℕ} 0 1 = cc in absurd (omega arith)
+    by-number verdict.Pass n =
         if-by Told _ _ _ (λ t e. let z : _≡_ {A = ℕ} 0 1 = cc in absurd (omega arith))
-        (λ t e. (by-reading (row .reading) e, same-generation p id row t))
+        (λ t e. record { numbered = n; current = t; last = by-reading (row .reading) e })
 
+module _ (p : OptionPorts) (id : PortId) (b : Bus) (old raw : ℕ) (valid : validated p id b ≡ port.Read old) where
+  told : Valid p id b old
+  told = valid-told p id b old valid
+
+  abbrev row : PortRow
+  row = portAt b (id .number)
+
+  generation-is : id .generation ≡ row .generation
+  generation-is = same-generation p id row (told .current)
+
+  -- the row with that reading
+  abbrev with-reading : ℕ → PortRow
+  with-reading g = record { generation = g; reading = u32.Some raw }
+
+  put-is : (r : PortRow) → portAt (putPort b (id .number) r) (id .number) ≡ r
+  unfolding putPort
+  put-is r =
+      getD-set-same (b .ports) (portIndex (id .number)) r newPort
+      (inside (λ (r : PortRow). isRead (r .reading)) (b .ports) (portIndex (id .number)) newPort refl (ap isRead (told .last)))
+
+  -- by what is observed
+  observed-all : (P : PortChecked → Bus → Type 0)
+      → (let o = observePortBy (observedBy (u32.Some old) row raw) (id .number) b in P (freshObserved (o .result) p id) (o .lent))
+      → (let o = freshPort p id (Word raw) b in P (o .result) (o .lent))
+  unfolding freshPort freshPortBy freshReading freshWord observePort observedRow
+  observed-all P k =
+      subst (λ (c : PortChecked). let o = freshPortBy c (Word raw) p id b in P (o .result) (o .lent)) (sym valid)
+      (subst (λ (x : OptionU32). let o = observePortBy (observedBy x row raw) (id .number) b in P (freshObserved (o .result) p id) (o .lent)) (sym (told .last)) k)
+
+  -- its connected bit differs: 34, or 31 and the row is written
+  differing : (portConnected old ≡ portConnected raw → ⊥) → (P : PortChecked → Bus → Type 0) → P (port.Refused (refusalOf 34)) b
+      → ((b′ : Bus) → portAt b′ (id .number) .reading ≡ u32.Some raw → P (port.Refused (refusalOf 31)) b′)
+      → (let o = freshPort p id (Word raw) b in P (o .result) (o .lent))
+  unfolding observedBy raisedRow observePortBy freshObserved validatedRow
+  differing differs P most stale =
+      observed-all P (if-by Observing _ _ _ (λ t. if-all Observing _ _ _ most again)
+      (λ t. absurd (differs (beq-same (portConnected old) (portConnected raw) (not-false _ t)))))
+    where
+      Observing : Observed → Type 0
+      Observing x = let o = observePortBy x (id .number) b in P (freshObserved (o .result) p id) (o .lent)
+
+      raised : PortRow
+      raised = with-reading (row .generation + 1)
+
+      again : Observing (observed.To raised)
+      again =
+          if-by (λ (c : PortChecked). P c (putPort b (id .number) raised)) _ _ _
+          (λ t. stale _ (ap (λ (r : PortRow). r .reading) (put-is raised)))
+          (λ t. absurd (omega (arith, generation-is, same-generation p id raised t)))
+
+  -- it is the same: the row is written, and the id stays valid
+  agreeing : portConnected old ≡ portConnected raw → (P : PortChecked → Bus → Type 0) → P (port.Read raw) (foundBy id (u32.Some raw) b)
+      → (let o = freshPort p id (Word raw) b in P (o .result) (o .lent))
+  unfolding observedBy observePortBy freshObserved validatedRow readingChecked _if_else_
+  agreeing same P k = observed-all P (rw (same, beq-self (portConnected raw), told .current) k)
+
+  still-valid : validated p id (foundBy id (u32.Some raw) b) ≡ port.Read raw
+  unfolding validated validatedBy validatedRow readingChecked _if_else_
+  still-valid = rw (told .numbered, put-is (with-reading (row .generation)), told .current) refl
+
+-- ---- a submission with a reading whose connected bit differs
 module _ (slot : ℕ) (d : DeviceSnapshot) (w : World) (stands : deviceAt (w .lent .bus) slot ≡ device.Some d) (old raw : ℕ)
     (valid : validated (w .session .ports) (d .port) (w .lent .bus) ≡ port.Read old) (differs : portConnected old ≡ portConnected raw → ⊥) where
   abbrev before : Bus
   before = w .lent .bus
 
-  abbrev Notes : Answer → Bus → Type 0
-  Notes a b = Noticed (d .port) before a b
+  abbrev Notes : OptionU32 → Answer → Bus → Type 0
+  Notes earlier a b = Noticed (d .port) earlier before a b
 
-  notes-early : (y : Refusal) → y .number ≤ 28 → Notes (answer.Refused y) before
-  notes-early y n = unread (refused y n) refl
+  notes-early : (earlier : OptionU32) (y : Refusal) → y .number ≤ 28 → Notes earlier (answer.Refused y) before
+  notes-early earlier y n = unread (refused y n) refl
 
-  abbrev row : PortRow
-  row = portAt before (d .port .number)
+  turns : (earlier : OptionU32) (b : Bus) → portAt b (d .port .number) .reading ≡ u32.Some raw → Notes earlier (answer.Refused (refusalOf 31)) b
+  turns earlier b e = turned refl (record {
+    old = old;
+    raw = raw;
+    last = told (w .session .ports) (d .port) before old raw valid .last;
+    taken = e;
+    differs = differs;
+    current = generation-is (w .session .ports) (d .port) before old raw valid;
+  })
 
-  told : (row .reading ≡ u32.Some old) × (d .port .generation ≡ row .generation)
-  told = valid-told (w .session .ports) (d .port) before old valid
+  abbrev Stop : OptionU32 → PortChecked → Bus → Type 0
+  Stop earlier = PortStops slot d w stands (Notes earlier) (notes-early earlier)
 
-  abbrev raised : PortRow
-  raised = record { generation = row .generation + 1; reading = u32.Some raw }
+  abbrev Stopped : OptionU32 → RequestMetadata → Readings → Type 0
+  Stopped earlier = ReadStops slot d w stands (Notes earlier) (notes-early earlier)
 
-  raised-turns : Turned (d .port) before (putPort before (d .port .number) raised)
-  unfolding putPort
-  raised-turns =
-      let h = inside (λ (r : PortRow). isRead (r .reading)) (before .ports) (portIndex (d .port .number)) newPort refl (ap isRead (told .0)) in
-      record {
-        old = old;
-        raw = raw;
-        last = told .0;
-        taken = ap (λ (r : PortRow). r .reading) (getD-set-same (before .ports) (portIndex (d .port .number)) raised newPort h);
-        differs = differs;
-        current = told .1;
-      }
+  notes-first : (m : RequestMetadata) (x : Readings) → x .first ≡ Word raw → Stopped u32.None m x
+  notes-first m x e =
+      subst (λ (r : PortReading). Stopped u32.None m (record { first = r; second = x .second })) (sym e)
+      (first-stops slot d w stands (Notes u32.None) (notes-early u32.None) m (x .second) _ _
+      (differing (w .session .ports) (d .port) before old raw valid differs (Stop u32.None) (full refl refl) (turns u32.None)))
 
-  reading-stops : ReadStops slot d w stands Notes notes-early (Word raw)
-  unfolding freshPort freshPortBy freshReading freshWord observePort observePortBy freshObserved observedRow observedBy raisedRow validatedRow
-  reading-stops =
-      subst Validating (sym valid) (subst (λ (o : OptionU32). Observing (observedBy o row raw)) (sym (told .0))
-      (if-by Observing _ _ _ (λ t. if-by Observing _ _ _ (λ y. full refl refl) (λ y. again))
-      (λ t. absurd (differs (beq-same (portConnected old) (portConnected raw) (not-false _ t))))))
-    where
-      Validating : PortChecked → Type 0
-      Validating c =
-          let o = freshPortBy c (Word raw) (w .session .ports) (d .port) before in
-          PortStops slot d w stands Notes notes-early (o .result) (o .lent)
+  notes-second : (first : ℕ) (q : Request) → Second d old first raw q → Stopped (u32.Some first) (metadataOf (q .spec)) (q .readings)
+  notes-second first q k =
+      let p = w .session .ports in
+      let m = metadataOf (q .spec) in
+      let earlier = u32.Some first in
+      let found = foundBy (d .port) earlier before in
+      subst (Stopped earlier m) (sym (k .readings))
+      (agreeing p (d .port) before old first valid (k .agrees)
+      (λ c b. DeviceStops slot d w stands (Notes earlier) (notes-early earlier) m (Word raw) (preparedDevice c d) b)
+      (second-stops slot d w stands (Notes earlier) (notes-early earlier) m (Word raw) first found (k .not-control) (k .configured)
+      (differing p (d .port) found first raw (still-valid p (d .port) before old first valid) (λ e. differs (k .agrees ∙ e)) (Stop earlier)
+      (full refl refl) (turns earlier))))
 
-      Observing : Observed → Type 0
-      Observing x =
-          let o = observePortBy x (d .port .number) before in
-          PortStops slot d w stands Notes notes-early (freshObserved (o .result) (w .session .ports) (d .port)) (o .lent)
+  read-stops : (f : Beginning) (earlier : OptionU32) → Reads d old earlier raw f → BeginStops slot d w stands (Notes earlier) (notes-early earlier) f
+  read-stops (Submit packets q) u32.None k = notes-first (metadataOf (q .spec)) (q .readings) k
+  read-stops (Submit packets q) (u32.Some first) k = notes-second first q k
+  read-stops (SubmitPlan q bytes first) u32.None k = notes-first (planOf q .metadata) (record { first = first; second = first }) k
+  read-stops (SubmitPlan q bytes first) (u32.Some x) k = absurd k
+  read-stops (Poll id) earlier k = tt
+  read-stops (Recover id kind) earlier k = tt
 
-      again : Observing (observed.To raised)
-      again =
-          if-by (λ (c : PortChecked). PortStops slot d w stands Notes notes-early c (putPort before (d .port .number) raised)) _ _ _
-          (λ t. turned refl raised-turns)
-          (λ t. absurd (omega (arith, told .1, same-generation (w .session .ports) (d .port) raised t)))
-
-  one-reading : (f : Beginning) (x : PortReading) → Reads (Word raw) f → Reads x f → Word raw ≡ x
-  one-reading (Submit packets q) x a b = sym a ∙ b
-  one-reading (SubmitPlan q bytes first) x a b = sym a ∙ b
-  one-reading (Poll id) x a b = absurd a
-  one-reading (Recover id kind) x a b = absurd a
-
-  notes : (f : Beginning) → Asks slot f → Reads (Word raw) f → Notes (begunOf f w .result .answer) (begunOf f w .lent .bus)
-  notes f e k =
-      asked slot d w stands Notes notes-early f e
-      (λ x is. subst (ReadStops slot d w stands Notes notes-early) (one-reading f x k is) reading-stops)
+  notes : (f : Beginning) (earlier : OptionU32) → Asks slot f → Reads d old earlier raw f → Notes earlier (begunOf f w .result .answer) (begunOf f w .lent .bus)
+  notes f earlier e k = asked slot d w stands (Notes earlier) (notes-early earlier) f e (read-stops f earlier k)
 
 -- ---- a device whose port has a later generation
 
@@ -265,9 +355,7 @@ module _ (slot : ℕ) (d : DeviceSnapshot) where
 
   cut : (f : Beginning) (w : World) → Asks slot f → Stale (w .lent .bus) → UpTo 31 (begunOf f w .result .answer)
   unfolding freshPort freshPortBy
-  cut f w e k =
-      asked slot d w (k .stands) Low early f e
-      (λ x is. by-port x (validated (w .session .ports) (d .port) (w .lent .bus)) (port-cut (w .session .ports) (w .lent .bus) k))
+  cut f w e k = asked slot d w (k .stands) Low early f e (stops f)
     where
       Low : Answer → Bus → Type 0
       Low a b = UpTo 31 a
@@ -279,6 +367,17 @@ module _ (slot : ℕ) (d : DeviceSnapshot) where
           → (let o = freshPortBy c x (w .session .ports) (d .port) (w .lent .bus) in PortStops slot d w (k .stands) Low early (o .result) (o .lent))
       by-port x (port.Refused r) n = refused r n
       by-port x (port.Read raw) n = absurd n
+
+      reads : (m : RequestMetadata) (x : Readings) → ReadStops slot d w (k .stands) Low early m x
+      reads m x =
+          first-stops slot d w (k .stands) Low early m (x .second) _ _
+          (by-port (x .first) (validated (w .session .ports) (d .port) (w .lent .bus)) (port-cut (w .session .ports) (w .lent .bus) k))
+
+      stops : (f : Beginning) → BeginStops slot d w (k .stands) Low early f
+      stops (Submit packets q) = reads (metadataOf (q .spec)) (q .readings)
+      stops (SubmitPlan q bytes first) = reads (planOf q .metadata) (record { first = first; second = first })
+      stops (Poll id) = tt
+      stops (Recover id kind) = tt
 
   left-stale : (h : Handed) (c : Call) (w : World) → Handing h c → LeavesBy slot (d .port .number) h c → Stale (w .lent .bus) → Stale (leftBy h c w .lent .bus)
   left-stale own c w e l k = stale-on _ _ (step-later slot (d .port .number) c w e l) k
@@ -292,7 +391,8 @@ module _ (slot : ℕ) (d : DeviceSnapshot) where
 pub watched : (w : World) (es : List Event) → Follows es → Watched w es
 unfolding stepOf
 watched w es all = record {
-  noticed = λ slot d before after f old raw is stands asks reads valid differs. notes slot d (endOf w before) stands old raw valid differs f asks reads;
+  noticed = λ slot d before after f earlier old raw is stands asks reads valid differs.
+      notes slot d (endOf w before) stands old raw valid differs f earlier asks reads;
   refused = λ slot d before mid after c f is stands turns leaves asks.
       let run = subst Follows is all in
       let on = step-later slot (d .port .number) c (endOf w before) (follows-at before (mid ++ (calls (Begin f) ∷ after)) (calls c) run) (leaves .0) in

@@ -6,18 +6,21 @@ use mathlib.Core.Bool.{Bool, false}
 use mathlib.Core.List.{List, [], _∷_, _++_}
 use mathlib.Core.Path.{_≡_}
 use lib.Dec.{eqb}
+use Rattle.words.specs.declared.OptionU32.{OptionU32}
 use Rattle.words.specs.declared.OptionU32.the-variants as u32
+use Rattle.models.specs.Kinds.{isControl}
 use Rattle.models.specs.Refusals.{refusalOf}
 use Rattle.models.specs.declared.DeviceSnapshot.{DeviceSnapshot}
+use Rattle.models.specs.declared.DeviceState.the-variants.{Configured}
 use Rattle.models.specs.declared.OptionDevice.the-variants as device
 use Rattle.models.specs.declared.PortId.{PortId}
-use Rattle.models.specs.declared.PortReading.{PortReading}
 use Rattle.models.specs.declared.PortReading.the-variants.{Word}
 use Rattle.models.specs.declared.Refusal.{Refusal}
 use Rattle.standards.specs.Ports.{portConnected}
 use Rattle.bus.specs.Ports.{validated}
-use Rattle.bus.specs.Tables.{Bus, deviceAt, portAt}
+use Rattle.bus.specs.Tables.{Bus, deviceAt, portAt, putPort}
 use Rattle.bus.specs.declared.ports.PortChecked.the-variants as port
+use Rattle.submissions.specs.Submit.{Request}
 use Rattle.calls.specs.Calls.{Placing, Device, Port, Endpoints, Reconcile, Beginning, Submit, SubmitPlan, Poll, Recover, Call, Open, Place, Move, Begin, Reply, Change, Read}
 use Rattle.calls.specs.Step.{World, stepOf}
 use Rattle.calls.specs.declared.Answer.{Answer}
@@ -67,12 +70,26 @@ Asks slot (SubmitPlan q bytes first) = q .device .slot ≡ slot
 Asks slot (Poll id) = ⊥
 Asks slot (Recover id kind) = ⊥
 
--- and its first reading
-abbrev pub Reads : PortReading → Beginning → Type 0
-Reads x (Submit packets q) = q .readings .first ≡ x
-Reads x (SubmitPlan q bytes first) = first ≡ x
-Reads x (Poll id) = ⊥
-Reads x (Recover id kind) = ⊥
+-- a request's second reading, which is taken: not for control, for a Configured device (36), after a first with the connected bit of the port's last
+pub record Second (d : DeviceSnapshot) (old first raw : ℕ) (q : Request) : Type 0 where
+  pub readings : q .readings ≡ record { first = Word first; second = Word raw }
+  pub agrees : portConnected old ≡ portConnected first
+  pub not-control : isControl (q .spec .«transfer_type») ≡ false
+  pub configured : d .state ≡ Configured
+
+-- and a reading of it: the first, or the second after an earlier one
+abbrev pub Reads : DeviceSnapshot → ℕ → OptionU32 → ℕ → Beginning → Type 0
+Reads d old u32.None raw (Submit packets q) = q .readings .first ≡ Word raw
+Reads d old (u32.Some first) raw (Submit packets q) = Second d old first raw q
+Reads d old u32.None raw (SubmitPlan q bytes first) = first ≡ Word raw
+Reads d old (u32.Some x) raw (SubmitPlan q bytes first) = ⊥
+Reads d old earlier raw (Poll id) = ⊥
+Reads d old earlier raw (Recover id kind) = ⊥
+
+-- the bus that a reading finds: an earlier one is written, and its connected bit was the port's last
+abbrev pub foundBy : PortId → OptionU32 → Bus → Bus
+foundBy id u32.None b = b
+foundBy id (u32.Some raw) b = putPort b (id .number) (record { generation = portAt b (id .number) .generation; reading = u32.Some raw })
 
 -- a refusal whose number is at most n
 pub record UpTo (n : ℕ) (a : Answer) : Type 0 where
@@ -80,19 +97,20 @@ pub record UpTo (n : ℕ) (a : Answer) : Type 0 where
   pub is : a ≡ answer.Refused refusal
   pub low : refusal .number ≤ n
 
--- what a submission whose reading differs comes to: a refusal before the reading or 34, and nothing is written; or 31, and the reading is
-pub data Noticed (id : PortId) (b : Bus) (a : Answer) (b′ : Bus) : Type 0 where
-  unread : UpTo 28 a → b′ ≡ b → Noticed id b a b′
-  full : a ≡ answer.Refused (refusalOf 34) → b′ ≡ b → Noticed id b a b′
-  turned : a ≡ answer.Refused (refusalOf 31) → Turned id b b′ → Noticed id b a b′
+-- what a submission whose reading differs comes to: a refusal before any reading, or 34, and that reading isn't written; or 31, and it is
+pub data Noticed (id : PortId) (earlier : OptionU32) (b : Bus) (a : Answer) (b′ : Bus) : Type 0 where
+  unread : UpTo 28 a → b′ ≡ b → Noticed id earlier b a b′
+  full : a ≡ answer.Refused (refusalOf 34) → b′ ≡ foundBy id earlier b → Noticed id earlier b a b′
+  turned : a ≡ answer.Refused (refusalOf 31) → Turned id b b′ → Noticed id earlier b a b′
 
 pub record Watched (w : World) (es : List Event) : Type 0 where
-  -- a submission to the slot of a device d whose port id is valid and observed (29 to 32), with a reading whose connected bit differs
-  pub noticed : (slot : ℕ) (d : DeviceSnapshot) (before after : List Event) (f : Beginning) (old raw : ℕ) → es ≡ before ++ (calls (Begin f) ∷ after)
+  -- a submission to the slot of a device d whose port id is valid and observed (29 to 32), with a first or second reading whose connected bit differs
+  pub noticed : (slot : ℕ) (d : DeviceSnapshot) (before after : List Event) (f : Beginning) (earlier : OptionU32) (old raw : ℕ)
+      → es ≡ before ++ (calls (Begin f) ∷ after)
       → (let at = endOf w before in
-      deviceAt (at .lent .bus) slot ≡ device.Some d → Asks slot f → Reads (Word raw) f
+      deviceAt (at .lent .bus) slot ≡ device.Some d → Asks slot f → Reads d old earlier raw f
       → validated (at .session .ports) (d .port) (at .lent .bus) ≡ port.Read old → (portConnected old ≡ portConnected raw → ⊥)
-      → Noticed (d .port) (at .lent .bus) (answerTo at (calls (Begin f))) (stepOf (Begin f) at .lent .bus))
+      → Noticed (d .port) earlier (at .lent .bus) (answerTo at (calls (Begin f))) (stepOf (Begin f) at .lent .bus))
   -- where a call c turned the port's last reading: every later submission to the slot, unless its device or the port's row was placed anew
   pub refused : (slot : ℕ) (d : DeviceSnapshot) (before mid after : List Event) (c : Call) (f : Beginning)
       → es ≡ before ++ (calls c ∷ (mid ++ (calls (Begin f) ∷ after)))
