@@ -12,7 +12,7 @@ use Rattle.models.specs.Requests.{sameRequest, requestBefore}
 use Rattle.models.specs.declared.RequestId.{RequestId}
 use Rattle.models.specs.declared.RequestState.{RequestState}
 use Rattle.models.specs.declared.RequestState.the-variants.{Pending, Completed, Failed, Aborted}
-use Rattle.rows.specs.Table.{emptyRow}
+use Rattle.rows.specs.Table.{emptyRow, rowIn}
 use Rattle.rows.specs.Store.{Store}
 use Rattle.rows.specs.declared.Row.{Row}
 use Rattle.rules.specs.Rules.{reportOf}
@@ -72,12 +72,24 @@ beats (next.Refused r) id = false
 beats next.None id = true
 beats (next.Report best) id = requestBefore id (best .id)
 
+-- whether the row has a report, after the id and before the best so far
+abbrev pub isBetter : InFlight → OptionId → NextReport → Row → Bool
+isBetter f after best r = isShown f r && comesAfter after (r .id) && beats best (r .id)
+
 unfoldable pub better : InFlight → OptionId → NextReport → Row → NextReport
-better f after best r = next.Report (reportOf r) if isShown f r && comesAfter after (r .id) && beats best (r .id) else best
+better f after best r = next.Report (reportOf r) if isBetter f after best r else best
 
 abbrev pub bestFrom : InFlight → OptionId → NextReport → List Row → NextReport
 bestFrom f after best [] = best
 bestFrom f after best (r ∷ rows) = bestFrom f after (better f after best r) rows
+
+-- the same by places, for a scan that reads no row whole: the report of a place, and the better place
+abbrev pub reportAt : Found → List Row → NextReport
+reportAt (found.At i) rows = next.Report (reportOf (rowIn rows i))
+reportAt found.Nothing rows = next.None
+
+unfoldable pub betterAt : InFlight → OptionId → List Row → Found → ℕ → Found
+betterAt f after rows best i = found.At i if isBetter f after (reportAt best rows) (rowIn rows i) else best
 
 unfoldable pub nextOf : OptionId → Session → Store → NextReport
 nextOf from s store =

@@ -10,18 +10,19 @@ use ledger::search;
 use ledger::tally;
 use models::RequestId;
 use models::RequestState;
-use rows::Row;
+use rows::columns;
 use session::InFlight;
 use session::Session;
 use session::sizes;
 ghost use mathlib.Core.Path.{_≡_};
 ghost use lib.ListN.{length};
-ghost use mathlib.Core.Bool.{_&&_, cond};
+ghost use mathlib.Core.Bool.{cond};
 ghost use Rattle.chain.specs.Lists.{count};
+ghost use Rattle.rows.specs.Table.{readRows, rowIn};
 ghost use Rattle.session.specs.Lent.{rowsIn, storeIn};
 ghost use Rattle.reports.specs.declared.NextReport.the-variants as NextReport;
 ghost use Prim.Native.Nat.{_+_, _<_, min};
-ghost use Rattle.reports.specs.Status.{isSubmitting, shownAt, statusOf, isShown, comesAfter, beats, better, bestFrom, nextOf, shownCount, completedLength, completedPart, partOf, partNumber, bytesOf, heldCountOf, heldBytesOf};
+ghost use Rattle.reports.specs.Status.{isSubmitting, shownAt, statusOf, isShown, comesAfter, beats, reportAt, betterAt, bestFrom, nextOf, shownCount, completedLength, completedPart, partOf, partNumber, bytesOf, heldCountOf, heldBytesOf};
 
 // The id's submission is in flight.
 fn is_submitting(flight: InFlight, id: RequestId) -> bool
@@ -62,23 +63,17 @@ pub fn request_status(session: Session, rows: &[u64], id: RequestId) -> ReportAn
     ReportAnswer::Report(rules::report_of(row))
 }
 
-// The row is a request that has a report.
-fn is_shown(row: Row, flight: InFlight) -> bool
-    ensures { λ r. ⌜ r ≡ isShown flight row ⌝ }
+// Row i is a request that has a report.
+fn is_shown(rows: &[u64], i: usize, flight: InFlight) -> bool
+    requires { ⌜ i < length (readRows (now rows)) ⌝ }
+    ensures { λ r. ⌜ r ≡ isShown flight (rowIn (rowsIn rows) i) ⌝ }
 {
-    let id = row.id;
+    if !columns::used_at(rows, i) {
+        return false;
+    }
+    let id = columns::id_at(rows, i);
     let submitting = is_submitting(flight, id);
-    row.used & !submitting
-}
-
-// It has a report, and comes after the id.
-fn is_next(row: Row, flight: InFlight, after: OptionId) -> bool
-    ensures { λ r. ⌜ r ≡ (isShown flight row && comesAfter after (row .id)) ⌝ }
-{
-    let id = row.id;
-    let shown = is_shown(row, flight);
-    let later = comes_after(after, id);
-    shown & later
+    !submitting
 }
 
 fn comes_after(after: OptionId, id: RequestId) -> bool
@@ -90,28 +85,31 @@ fn comes_after(after: OptionId, id: RequestId) -> bool
     }
 }
 
-fn beats_best(best: NextReport, id: RequestId) -> bool
-    ensures { λ r. ⌜ r ≡ beats best id ⌝ }
+fn beats_best(rows: &[u64], best: Found, id: RequestId) -> bool
+    ensures { λ r. ⌜ r ≡ beats (reportAt best (rowsIn rows)) id ⌝ }
 {
     match best {
-        NextReport::Refused(_) => false,
-        NextReport::None => true,
-        NextReport::Report(own) => {
-            let own_id = own.id;
-            models::request_before(id, own_id)
+        Found::At(i) => {
+            let own = columns::id_in(rows, i);
+            models::request_before(id, own)
         }
+        Found::Nothing => true,
     }
 }
 
-// The better of the best report so far and the row's.
-fn better_of(best: NextReport, row: Row, flight: InFlight, after: OptionId) -> NextReport
-    ensures { λ r. ⌜ r ≡ better flight after best row ⌝ }
+// The better of the best row so far and row i.
+fn better_of(rows: &[u64], best: Found, i: usize, flight: InFlight, after: OptionId) -> Found
+    requires { ⌜ i < length (readRows (now rows)) ⌝ }
+    ensures { λ r. ⌜ r ≡ betterAt flight after (rowsIn rows) best i ⌝ }
 {
-    let id = row.id;
-    let shown = is_next(row, flight, after);
-    let wins = beats_best(best, id);
-    if shown & wins {
-        return NextReport::Report(rules::report_of(row));
+    if !is_shown(rows, i, flight) {
+        return best;
+    }
+    let id = columns::id_at(rows, i);
+    let later = comes_after(after, id);
+    let wins = beats_best(rows, best, id);
+    if later & wins {
+        return Found::At(i);
     }
     best
 }
@@ -128,18 +126,22 @@ pub fn request_reports(session: Session, rows: &[u64], after: OptionId) -> NextR
     best_of(rows, flight, after)
 }
 
+// The best is kept by its place, and read whole at the end.
 fn best_of(rows: &[u64], flight: InFlight, after: OptionId) -> NextReport
     ensures { λ r. ⌜ r ≡ bestFrom flight after NextReport.None (rowsIn rows) ⌝ }
 {
     let n = rows::count(rows);
-    let mut best = NextReport::None;
+    let mut best = Found::Nothing;
     let mut i = 0;
     while i < n {
-        let row = rows::read_row(rows, i);
-        best = better_of(best, row, flight, after);
+        best = better_of(rows, best, i, flight, after);
         i += 1;
     }
-    best
+    let Found::At(place) = best else {
+        return NextReport::None;
+    };
+    let row = rows::read_row(rows, place);
+    NextReport::Report(rules::report_of(row))
 }
 
 fn add_shown(total: u64, shown: bool) -> u64
@@ -159,8 +161,7 @@ fn count_shown(rows: &[u64], flight: InFlight) -> u64
     let mut total: u64 = 0;
     let mut i = 0;
     while i < n {
-        let row = rows::read_row(rows, i);
-        let shown = is_shown(row, flight);
+        let shown = is_shown(rows, i, flight);
         total = add_shown(total, shown);
         i += 1;
     }

@@ -65,7 +65,7 @@ pub fn sequence_at(rows: &[u64], i: usize) -> u64
     column(rows, i, SEQUENCE)
 }
 
-fn id_at(rows: &[u64], i: usize) -> RequestId
+pub fn id_at(rows: &[u64], i: usize) -> RequestId
     requires { ⌜ i < length (readRows (now rows)) ⌝ }
     ensures { λ r. ⌜ r ≡ rowAt (now (rows .entry)) i .id ⌝ }
 {

@@ -8,20 +8,21 @@ use native.Mathlib.Numerals.{add-one}
 use native.Mathlib.Omega.{arith}
 use lib.ListN.{length, getD, take, drop}
 use lib.Seq.{take-all}
+use borrow.Author.Tests.{not-true, not-false}
 use mir.Syntax.{w64}
 use mir.Val.{Fits}
 use Rattle.chain.specs.Chain.{_if_else_}
 use Rattle.chain.specs.Lists.{only, count, foundIn}
 use Rattle.chain.specs.declared.Found.{Found}
 use Rattle.chain.specs.declared.Found.the-variants as found
-use Rattle.chain.proofs.Chain.{takes, passes, through, not-through}
+use Rattle.chain.proofs.Chain.{caseB, takes, passes, through, not-through, if-all}
 use Rattle.chain.proofs.Lists.{sum-suc}
 use Rattle.models.specs.Refusals.{refusalOf}
 use Rattle.models.specs.Requests.{sameRequest, requestBefore}
 use Rattle.models.specs.declared.Refusal.{Refusal}
 use Rattle.models.specs.declared.RequestId.{RequestId}
 use Rattle.models.specs.declared.RequestReport.{RequestReport}
-use Rattle.rows.specs.Table.{emptyRow, readRows}
+use Rattle.rows.specs.Table.{emptyRow, readRows, rowIn, idIn}
 use Rattle.rows.specs.Store.{Store, storeOf}
 use Rattle.rows.specs.declared.Row.{Row}
 use Rattle.rules.specs.Rules.{reportOf}
@@ -34,7 +35,7 @@ use Rattle.session.specs.declared.InFlight.{InFlight}
 use Rattle.session.specs.declared.InFlight.the-variants as flight
 use Rattle.session.specs.declared.Session.{Session}
 use Rattle.session.proofs.sizes.Laws.{place-in}
-use Rattle.reports.specs.Status.{isSubmitting, shownAt, statusBy, statusOf, isShown, comesAfter, beats, better, bestFrom, nextOf, shownCount, completedLength, bytesPart, partBy, completedPart, partOf, partNumber, bytesOf, heldCountOf, heldBytesOf}
+use Rattle.reports.specs.Status.{isSubmitting, shownAt, statusBy, statusOf, isShown, comesAfter, beats, isBetter, better, bestFrom, reportAt, betterAt, nextOf, shownCount, completedLength, bytesPart, partBy, completedPart, partOf, partNumber, bytesOf, heldCountOf, heldBytesOf}
 use Rattle.reports.specs.declared.OptionId.{OptionId}
 use Rattle.reports.specs.declared.OptionId.the-variants as option
 use Rattle.reports.specs.declared.Part.{Part}
@@ -91,26 +92,37 @@ module _ (id : RequestId) (s : Session) (store : Store) (f : Bool) (ef : f ≡ s
 pub after-some : (o : OptionId) (id own : RequestId) (b : Bool) → o ≡ option.Some own → b ≡ requestBefore own id → b ≡ comesAfter o id
 after-some o id own b e eb = eb ∙ rw e
 
-pub beats-report : (best : NextReport) (id : RequestId) (own : RequestReport) (b : Bool) → best ≡ next.Report own → b ≡ requestBefore id (own .id) → b ≡ beats best id
-beats-report best id own b e eb = eb ∙ rw e
+pub beats-at : (rows : List Row) (best : Found) (id own : RequestId) (i : ℕ) (b : Bool) → best ≡ found.At i → own ≡ idIn rows i → b ≡ requestBefore id own
+    → b ≡ beats (reportAt best rows) id
+beats-at rows best id own i b e eo eb = eb ∙ rw (e, eo)
 
--- whether a row has a report, and comes next
-pub shown-is : (f : InFlight) (row : Row) (a : Bool) → a ≡ isSubmitting f (row .id) → (row .used && not a) ≡ isShown f row
-unfolding isShown
-shown-is f row a e = rw e
+-- whether a row has a report
+module _ (f : InFlight) (row : Row) (u : Bool) (eu : u ≡ row .used) where
+  pub shown-free : not u ≡ true → false ≡ isShown f row
+  unfolding isShown
+  shown-free t = rw (sym eu ∙ not-true u t)
 
-module _ (f : InFlight) (o : OptionId) (row : Row) where
-  pub next-is : (a b : Bool) → a ≡ isShown f row → b ≡ comesAfter o (row .id) → (a && b) ≡ (isShown f row && comesAfter o (row .id))
-  next-is a b ea eb = rw (ea, eb)
+  pub shown-used : (id : RequestId) (a : Bool) → not u ≡ false → id ≡ row .id → a ≡ isSubmitting f id → not a ≡ isShown f row
+  unfolding isShown
+  shown-used id a t ei ea = rw (sym eu ∙ not-false u t, ea, ei)
 
-  module _ (best : NextReport) (a b : Bool) (ea : a ≡ (isShown f row && comesAfter o (row .id))) (eb : b ≡ beats best (row .id)) where
-    pub better-row : (x : RequestReport) → (a && b) ≡ true → x ≡ reportOf row → next.Report x ≡ better f o best row
-    unfolding better
-    better-row x t e = takes NextReport _ _ _ _ (rw (ea, eb) at t) (rw e)
+-- the better place
+module _ (f : InFlight) (o : OptionId) (rows : List Row) (best : Found) (i : ℕ) (a : Bool) (ea : a ≡ isShown f (rowIn rows i)) where
+  pub place-hidden : not a ≡ true → best ≡ betterAt f o rows best i
+  unfolding betterAt
+  place-hidden t = passes Found _ _ _ _ (rw (sym ea ∙ not-true a t)) refl
 
-    pub better-best : (a && b) ≡ false → best ≡ better f o best row
-    unfolding better
-    better-best t = passes NextReport _ _ _ _ (rw (ea, eb) at t) refl
+  module _ (t : not a ≡ false) (id : RequestId) (b c : Bool) (ei : id ≡ idIn rows i) (eb : b ≡ comesAfter o id) (ec : c ≡ beats (reportAt best rows) id) where
+    wins : (v : Bool) → (b && c) ≡ v → isBetter f o (reportAt best rows) (rowIn rows i) ≡ v
+    wins v e = rw (sym ea ∙ not-false a t, ← ei, ← eb, ← ec) e
+
+    pub place-next : (b && c) ≡ true → found.At i ≡ betterAt f o rows best i
+    unfolding betterAt
+    place-next e = takes Found _ _ _ _ (wins true e) refl
+
+    pub place-best : (b && c) ≡ false → best ≡ betterAt f o rows best i
+    unfolding betterAt
+    place-best e = passes Found _ _ _ _ (wins false e) refl
 
 -- the best of the rows: what is left leads to the whole
 best-suc : (f : InFlight) (o : OptionId) (l : List Row) (best : NextReport) (i : ℕ) → i < length l
@@ -125,26 +137,51 @@ best-past f o [] best (suc i) h = refl
 best-past f o (r ∷ rows) best zero h = absurd (omega arith)
 best-past f o (r ∷ rows) best (suc i) h = best-past f o rows best i (le-of-suc-le-suc h)
 
-abbrev pub Leads : InFlight → OptionId → List Row → ℕ → ℕ → NextReport → Type 0
-Leads f o l n i best = (n ≡ length l) × (i ≤ n) × (bestFrom f o best (drop i l) ≡ bestFrom f o next.None l)
+-- the best by place is the best by report
+place-report : (f : InFlight) (o : OptionId) (l : List Row) (best : Found) (i : ℕ) → reportAt (betterAt f o l best i) l ≡ better f o (reportAt best l) (rowIn l i)
+unfolding betterAt better _if_else_
+place-report f o l best i = caseB (isBetter f o (reportAt best l) (rowIn l i)) (λ e. rw e) (λ e. rw e)
 
-module _ (f : InFlight) (o : OptionId) (l : List Row) (n i : ℕ) (best : NextReport) (e : n ≡ length l) (k : bestFrom f o best (drop i l) ≡ bestFrom f o next.None l) where
-  pub best-on : (row : Row) (after : NextReport) → i < n → row ≡ getD l i emptyRow → after ≡ better f o best row
-      → bestFrom f o after (drop (i + 1) l) ≡ bestFrom f o next.None l
-  best-on row after h er ea = rw (ea, er, add-one) (sym (best-suc f o l best i (omega arith)) ∙ k)
+-- how many rows there are up to a place, with its own
+abbrev pub upTo : Found → ℕ
+upTo (found.At i) = i + 1
+upTo found.Nothing = 0
 
-  pub best-end : n ≤ i → best ≡ bestFrom f o next.None l
-  best-end h = sym (best-past f o l best i (omega arith)) ∙ k
+abbrev pub Leads : InFlight → OptionId → List Row → ℕ → ℕ → Found → Type 0
+Leads f o l n i best = (n ≡ length l) × (i ≤ n) × (upTo best ≤ i) × (bestFrom f o (reportAt best l) (drop i l) ≡ bestFrom f o next.None l)
+
+pub best-near : (f : InFlight) (o : OptionId) (l : List Row) (i : ℕ) (best after : Found) → upTo best ≤ i → after ≡ betterAt f o l best i → upTo after ≤ i + 1
+unfolding betterAt
+best-near f o l i best after h e = rw e (if-all (λ x. upTo x ≤ i + 1) (found.At i) _ best (omega arith) (omega arith))
+
+module _ (f : InFlight) (o : OptionId) (l : List Row) (n i : ℕ) (best : Found) (e : n ≡ length l) (k : bestFrom f o (reportAt best l) (drop i l) ≡ bestFrom f o next.None l) where
+  pub best-on : (after : Found) → i < n → after ≡ betterAt f o l best i → bestFrom f o (reportAt after l) (drop (i + 1) l) ≡ bestFrom f o next.None l
+  best-on after h ea =
+      rw (ea, place-report f o l best i, add-one) (sym (best-suc f o l (reportAt best l) i (omega arith)) ∙ k)
+
+  module _ (h : n ≤ i) where
+    best-end : reportAt best l ≡ bestFrom f o next.None l
+    best-end = sym (best-past f o l (reportAt best l) i (omega arith)) ∙ k
+
+    pub best-none : best ≡ found.Nothing → next.None ≡ bestFrom f o next.None l
+    best-none eb = rw eb at best-end
+
+    pub best-found : (place : ℕ) (row : Row) (x : RequestReport) → best ≡ found.At place → row ≡ rowIn l place → x ≡ reportOf row
+        → next.Report x ≡ bestFrom f o next.None l
+    best-found place row x eb er ex = rw (ex, er) (rw eb at best-end)
+
+pub best-inside : (l : List Row) (n i place : ℕ) (best : Found) → n ≡ length l → i ≤ n → upTo best ≤ i → best ≡ found.At place → place < length l
+best-inside l n i place best e h k eb = let z : place + 1 ≤ i = rw eb at k in omega arith
 
 -- how many have a report
 abbrev pub Counted : InFlight → List Row → ℕ → ℕ → ℕ → Type 0
 Counted f l n i total = (n ≡ length l) × (i ≤ n) × (total ≤ i) × (total ≡ count (isShown f) (take i l))
 
 module _ (f : InFlight) (l : List Row) (n i total : ℕ) (e : n ≡ length l) (k : total ≡ count (isShown f) (take i l)) where
-  pub count-on : (row : Row) (b : Bool) (after : ℕ) → i < n → row ≡ getD l i emptyRow → b ≡ isShown f row → after ≡ total + cond b 1 0
+  pub count-on : (b : Bool) (after : ℕ) → i < n → b ≡ isShown f (rowIn l i) → after ≡ total + cond b 1 0
       → after ≡ count (isShown f) (take (i + 1) l)
-  count-on row b after h er eb ea =
-      ea ∙ rw (eb, er, k, add-one, sum-suc (only (isShown f) (λ r. 1)) l i emptyRow (omega arith))
+  count-on b after h eb ea =
+      ea ∙ rw (eb, k, add-one, sum-suc (only (isShown f) (λ r. 1)) l i emptyRow (omega arith))
 
   pub count-end : n ≤ i → total ≡ count (isShown f) l
   count-end h = k ∙ rw (take-all i l (omega arith))
