@@ -1,7 +1,7 @@
 //! The C function's side: words made before, and memory of its own.
 use tapewoad::calls::{
-    self, ANSWER_WORDS, BUS_WORDS, Completion, Error, LIST_WORDS, Plan, ROW_WORDS, SESSION_WORDS,
-    Store, Submit,
+    self, ANSWER_WORDS, BUS_WORDS, Call as C, Completion, Error, LIST_WORDS, Plan, ROW_WORDS,
+    SESSION_WORDS, Store, Submit,
 };
 use tapewoad::library::{self, Memory};
 use tapewoad::{
@@ -50,67 +50,40 @@ impl Side for Words {
             ready: Vec::new(),
             reports: Vec::with_capacity(Store::ROWS),
         };
-        let endpoints = ENDPOINTS.map(|address| Endpoint {
-            address,
-            transfer_type: TransferType::Bulk,
-        });
-        let calls = [
-            side.opening(),
-            calls::Call::Acquire(Ok(())),
-            calls::Call::Initialize(Ok(())),
-            calls::Call::SetPort {
-                number: PORT,
-                generation: GENERATION,
-                reading: Some(READING),
-            },
-            calls::Call::SetDevice(device()),
-            calls::Call::SetEndpoints {
-                slot: SLOT,
-                endpoints: &endpoints,
-            },
-        ];
-        for call in &calls {
-            side.lay(&[*call]);
-            assert_eq!(side.apply_all().told(&mut side), Answer::Passed);
-        }
+        side.pass(&side.opening());
+        side.pass(&C::Acquire(Ok(())));
+        side.pass(&C::Initialize(Ok(())));
+        side.place();
         side
     }
 
     fn ready(&mut self, call: Call, sequence: u64, stopped: &[u64]) {
-        use calls::Call as C;
-        let it = id(sequence);
-        let token = C::SubmitReply(Ok(token(sequence)));
+        let target = id(sequence);
+        let token = Ok(token(sequence));
+        self.ready.clear();
         match call {
-            Call::Open => self.lay(&[self.opening()]),
-            Call::Close => self.lay(&[C::Close {
+            Call::Open => self.lay(&self.opening()),
+            Call::Close => self.lay(&C::Close {
                 fresh: Some(FRESH),
                 reply: Ok(()),
-            }]),
-            Call::Submit(request) => self.submit(request, &[token]),
-            Call::SubmitRefused => self.submit(Request::READ, &[C::SubmitReply(Err(ERROR))]),
-            Call::Poll(reply) => self.poll(it, reply),
-            Call::Cancel => self.lay(&[C::LogicalCancelRequest(it)]),
-            Call::Timeout => self.lay(&[C::TimeoutRequest(it)]),
-            Call::Reclaim => self.lay(&[C::ReclaimRequest(it)]),
-            Call::Status | Call::StatusUnknown => self.lay(&[C::RequestStatus(it)]),
-            Call::Reports => self.lay(&[C::RequestReports { after: None }]),
-            Call::Abort => self.recover(C::AbortRequest(it), stopped),
+            }),
+            Call::Submit(request) => self.submit(request, token),
+            Call::SubmitRefused => self.submit(Request::READ, Err(ERROR)),
+            Call::Poll(reply) => self.poll(target, reply),
+            Call::Cancel => self.lay(&C::LogicalCancelRequest(target)),
+            Call::Timeout => self.lay(&C::TimeoutRequest(target)),
+            Call::Reclaim => self.lay(&C::ReclaimRequest(target)),
+            Call::Status | Call::StatusUnknown => self.lay(&C::RequestStatus(target)),
+            Call::Reports => self.lay(&C::RequestReports { after: None }),
+            Call::Abort => self.recover(&C::AbortRequest(target), stopped),
             Call::Reset => {
                 let preserve = false;
-                self.recover(
-                    C::ResetEndpointRequest {
-                        target: it,
-                        preserve,
-                    },
-                    stopped,
-                );
+                self.recover(&C::ResetEndpointRequest { target, preserve }, stopped);
             }
             Call::Life => {
-                self.submit(Request::READ, &[token]);
-                let begun = std::mem::take(&mut self.ready);
-                self.poll(it, Reply::Completed(512));
-                self.ready.splice(0..0, begun);
-                self.ready.push(words(&C::ReclaimRequest(it)));
+                self.submit(Request::READ, token);
+                self.poll(target, Reply::Completed(512));
+                self.lay(&C::ReclaimRequest(target));
             }
         }
     }
@@ -154,28 +127,60 @@ impl Words {
         Listed(status)
     }
 
-    fn lay(&mut self, calls: &[calls::Call<'_>]) {
-        self.ready = calls.iter().map(words).collect();
+    /// Lays a call ready after those that are.
+    fn lay(&mut self, call: &C<'_>) {
+        self.ready.push((call.words(), call.bytes().into_owned()));
     }
 
-    fn opening(&self) -> calls::Call<'static> {
-        calls::Call::Open {
+    /// Makes a call that passes.
+    fn pass(&mut self, call: &C<'_>) {
+        self.ready.clear();
+        self.lay(call);
+        assert_eq!(self.apply_all().told(self), Answer::Passed);
+    }
+
+    fn opening(&self) -> C<'static> {
+        C::Open {
             opening: Opening::new(SESSION, Some(PORTS)),
             rows: (self.rows.len() / ROW_WORDS) as u64,
             row_bytes: Store::ROW_BYTES as u64,
         }
     }
 
-    fn submit(&mut self, request: Request, reply: &[calls::Call<'_>]) {
+    fn place(&mut self) {
+        self.pass(&C::SetPort {
+            number: PORT,
+            generation: GENERATION,
+            reading: Some(READING),
+        });
+        self.pass(&C::SetDevice(DeviceSnapshot {
+            id: DEVICE,
+            port: PortId {
+                session: SESSION,
+                generation: GENERATION,
+                number: PORT,
+            },
+            state: DeviceState::Configured,
+        }));
+        self.pass(&C::SetEndpoints {
+            slot: SLOT,
+            endpoints: &ENDPOINTS.map(|address| Endpoint {
+                address,
+                transfer_type: TransferType::Bulk,
+            }),
+        });
+    }
+
+    fn submit(&mut self, request: Request, reply: Result<u64, Error>) {
         let data = match request {
             Request::Out { length } => vec![BYTE; length],
             _ => Vec::new(),
         };
-        let begin = match request {
-            Request::Plan => calls::Call::SubmitControlPlan(plan()),
-            _ => calls::Call::SubmitRequestPackets(submission(request, &data)),
-        };
-        self.lay(&[&[begin], reply].concat());
+        match request {
+            Request::Plan => self.lay(&C::SubmitControlPlan(plan())),
+            _ => self.lay(&C::SubmitRequestPackets(submission(request, &data))),
+        }
+        self.lay(&C::SubmitReply(reply));
     }
 
     fn poll(&mut self, id: RequestId, reply: Reply) {
@@ -190,38 +195,43 @@ impl Words {
             error: (reply == Reply::Failed).then_some(ERROR),
             quiescent: true,
         };
-        let reply = match reply {
+        self.lay(&C::PollRequest(id));
+        self.lay(&C::PollReply(match reply {
             Reply::Nothing => Ok(None),
             Reply::Refused => Err(ERROR),
             Reply::Completed(_) | Reply::Failed => Ok(Some(done)),
-        };
-        let begin = calls::Call::PollRequest(id);
-        self.lay(&[begin, calls::Call::PollReply(reply)]);
+        }));
     }
 
-    fn recover(&mut self, begin: calls::Call<'_>, tokens: &[u64]) {
-        let reply = calls::Call::RecoveryReply(Ok(calls::Abort {
+    fn recover(&mut self, begin: &C<'_>, tokens: &[u64]) {
+        self.lay(begin);
+        self.lay(&C::RecoveryReply(Ok(calls::Abort {
             completed: &[],
             aborted: tokens,
             restart_ready: true,
             error: None,
-        }));
-        self.lay(&[begin, reply]);
+        })));
     }
 
     fn answer(&self) -> calls::Answer {
         calls::Answer::from_words(&self.out, &self.lists).expect("an answer of docs/CALLS.md")
     }
 
-    /// The report with the bytes of a Completed request, where it is there.
-    fn report(&mut self, report: &calls::Report) -> Report {
-        self.lay(&[calls::Call::CompletedBytes(report.id)]);
-        let status = self.apply(0);
-        assert_eq!(status, 0, "a status of docs/CALLS.md");
-        let data = match self.answer() {
-            calls::Answer::Bytes { start, length } => Some((start as usize, length as usize)),
+    /// The bytes of a Completed request that is still there.
+    fn data(&mut self, id: RequestId) -> Option<Vec<u8>> {
+        self.ready.clear();
+        self.lay(&C::CompletedBytes(id));
+        assert_eq!(self.apply(0), 0, "{ANSWERED}");
+        match self.answer() {
+            calls::Answer::Bytes { start, length } => {
+                let (start, length) = (start as usize, length as usize);
+                Some(self.area[start..start + length].to_vec())
+            }
             _ => None,
-        };
+        }
+    }
+
+    fn report(&mut self, report: &calls::Report) -> Report {
         let state = match report.state {
             calls::State::Pending { .. } => State::Pending,
             calls::State::Completed { actual_length, .. } => State::Completed {
@@ -230,8 +240,6 @@ impl Words {
             calls::State::Failed { .. } => State::Failed,
             calls::State::Aborted => State::Aborted,
         };
-        let has_data = matches!(state, State::Completed { .. });
-        let data = data.filter(|_| has_data);
         Report {
             sequence: report.id.sequence,
             endpoint: report.metadata.endpoint,
@@ -239,10 +247,15 @@ impl Words {
             state,
             cancelled: report.logical_cancel,
             timed_out: report.timed_out,
-            data: data.map(|(start, length)| self.area[start..start + length].to_vec()),
+            data: match state {
+                State::Completed { .. } => self.data(report.id),
+                _ => None,
+            },
         }
     }
 }
+
+const ANSWERED: &str = "status 0 of docs/CALLS.md";
 
 /// The tag of a report.
 const REPORT: u64 = 4;
@@ -250,27 +263,11 @@ const REPORT: u64 = 4;
 /// The backend's; it leaves the controller as it is.
 const ERROR: Error = Error::new(ErrorCategory::Validation, 1_000);
 
-fn words(call: &calls::Call<'_>) -> (Vec<u64>, Vec<u8>) {
-    (call.words(), call.bytes().into_owned())
-}
-
 fn id(sequence: u64) -> RequestId {
     RequestId {
         session: SESSION,
         generation: 0,
         sequence,
-    }
-}
-
-fn device() -> DeviceSnapshot {
-    DeviceSnapshot {
-        id: DEVICE,
-        port: PortId {
-            session: SESSION,
-            generation: GENERATION,
-            number: PORT,
-        },
-        state: DeviceState::Configured,
     }
 }
 
@@ -321,7 +318,7 @@ fn plan() -> Plan<'static> {
 
 impl Told<Words> for Status {
     fn told(self, side: &mut Words) -> Answer {
-        assert_eq!(self.0, 0, "a status of docs/CALLS.md");
+        assert_eq!(self.0, 0, "{ANSWERED}");
         match side.answer() {
             calls::Answer::Passed => Answer::Passed,
             calls::Answer::Refused(refusal) => Answer::Refused(refusal.error.category as u64),
@@ -336,7 +333,7 @@ impl Told<Words> for Status {
 
 impl Told<Words> for Listed {
     fn told(self, side: &mut Words) -> Answer {
-        assert_eq!(self.0, 0, "a status of docs/CALLS.md");
+        assert_eq!(self.0, 0, "{ANSWERED}");
         let mut reports = Vec::new();
         for out in std::mem::take(&mut side.reports) {
             side.out = out;
