@@ -4,12 +4,11 @@ use std::process::ExitCode;
 use std::time::Duration;
 
 use bench::{
-    Effort, Growth, Machine, Measured, Results, Row, Workload, growth, line, measure, page, plot,
-    workloads,
+    Effort, Machine, Results, Row, Workload, growth, line, measure, page, plot, workloads,
 };
 
 const USAGE: &str = "usage: bench [--only TEXT] [--blocks N] [--microseconds N] [--before FILE] [--save FILE] [--page FILE] [--plot FILE]
-  --only: the workloads whose name has TEXT
+  --only: the workloads whose name has TEXT; no file is written then
   --blocks, --microseconds: the blocks of each side, 101 without it, and how long one is timed, 500
   --before: earlier numbers, shown beside the new ones
   --save: writes the new numbers as earlier ones
@@ -42,31 +41,29 @@ fn run() -> Result<(), String> {
         Some(file) => Row::read(&read(file)?).map_err(|line| format!("{file}: {line}"))?,
         None => Vec::new(),
     };
-    let measured = |workload: Workload| {
-        let measured = measure(&workload, options.effort);
-        println!("{}", line(&workload, &measured));
-        (workload, measured)
+    let measured = |workloads: &[Workload]| {
+        let measured = measure(workloads, options.effort);
+        for (workload, measured) in workloads.iter().zip(&measured) {
+            println!("{}", line(workload, measured));
+        }
+        measured
     };
     let named = |name: &str| name.contains(&options.only);
     let all = workloads().into_iter().filter(|it| named(&it.name));
     let growths = growth().into_iter().filter(|it| named(it.name));
     let results = Results {
-        workloads: all.map(measured).collect(),
-        growth: growths.map(|it| grown(it, measured)).collect(),
+        workloads: all.map(|it| (it.clone(), measured(&[it])[0])).collect(),
+        growth: growths
+            .map(|it| (it.clone(), measured(&it.workloads)))
+            .collect(),
         before,
     };
+    if !options.only.is_empty() {
+        return Ok(());
+    }
     write(options.save, || results.save())?;
     write(options.page, || page(&results, &machine, options.effort))?;
     write(options.plot, || plot(&results))
-}
-
-fn grown(
-    growth: Growth,
-    measured: impl Fn(Workload) -> (Workload, Measured),
-) -> (Growth, Vec<Measured>) {
-    let workloads = growth.workloads.iter().cloned();
-    let times = workloads.map(|it| measured(it).1).collect();
-    (growth, times)
 }
 
 fn options(mut words: impl Iterator<Item = String>) -> Result<Options, String> {

@@ -46,7 +46,8 @@ the nanoseconds: other programs may have run. **Bold** is over what was aimed at
 
 \"127 held + 896\" are 127 held requests after 896 completed ones, in a store of 1,024 rows of 65,536 bytes as everywhere above the second table.
 The call is about the last request, where nothing else is said. A backend replies at once from what was laid ready, the state is brought back
-outside the time, and an answer is dropped within it.
+outside the time, and an answer is dropped within it. From build to build the lines with many rows move by up to two thirds: it matters where the
+linker places the loop that looks for a request.
 
 ![Ratios by workload, and time by rows](bench.svg)
 

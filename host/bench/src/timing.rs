@@ -56,24 +56,54 @@ pub struct Measured {
     pub session_ratio: Spread,
 }
 
-pub fn measure(workload: &Workload, effort: Effort) -> Measured {
-    let mut rust = Lane::<Rust>::new(workload, effort);
-    let mut words = Lane::<Words>::new(workload, effort);
-    let mut session = Lane::<Session>::new(workload, effort);
-    let mut turns = Vec::new();
+/// The workloads take turns too, so that their times can be compared.
+pub fn measure(workloads: &[Workload], effort: Effort) -> Vec<Measured> {
+    let lanes = workloads.iter().map(|it| Lanes::new(it, effort));
+    let mut lanes: Vec<_> = lanes.collect();
     for _ in 0..effort.blocks {
-        turns.push((rust.block(), words.block(), session.block()));
+        for lanes in &mut lanes {
+            lanes.turn();
+        }
     }
-    let spread = |value: &dyn Fn(&(f64, f64, f64)) -> f64| {
-        let values = turns.iter().map(value).collect();
-        Spread::of(values)
-    };
-    Measured {
-        rust: spread(&|it| it.0),
-        words: spread(&|it| it.1),
-        session: spread(&|it| it.2),
-        words_ratio: spread(&|it| it.1 / it.0),
-        session_ratio: spread(&|it| it.2 / it.0),
+    lanes.iter().map(Lanes::measured).collect()
+}
+
+/// The three sides of a workload.
+struct Lanes {
+    rust: Lane<Rust>,
+    words: Lane<Words>,
+    session: Lane<Session>,
+    /// In this order.
+    turns: Vec<[f64; 3]>,
+}
+
+impl Lanes {
+    fn new(workload: &Workload, effort: Effort) -> Self {
+        Self {
+            rust: Lane::new(workload, effort),
+            words: Lane::new(workload, effort),
+            session: Lane::new(workload, effort),
+            turns: Vec::new(),
+        }
+    }
+
+    fn turn(&mut self) {
+        let (rust, words) = (self.rust.block(), self.words.block());
+        self.turns.push([rust, words, self.session.block()]);
+    }
+
+    fn measured(&self) -> Measured {
+        let spread = |value: fn(&[f64; 3]) -> f64| {
+            let values = self.turns.iter().map(value);
+            Spread::of(values.collect())
+        };
+        Measured {
+            rust: spread(|turn| turn[0]),
+            words: spread(|turn| turn[1]),
+            session: spread(|turn| turn[2]),
+            words_ratio: spread(|turn| turn[1] / turn[0]),
+            session_ratio: spread(|turn| turn[2] / turn[0]),
+        }
     }
 }
 

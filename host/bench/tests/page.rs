@@ -15,15 +15,10 @@ fn results(before: Vec<Row>) -> Results {
     let growth = growth().into_iter().filter(|it| it.name == "status");
     Results {
         workloads: cancels
-            .map(|it| (it.clone(), measure(&it, EFFORT)))
+            .map(|it| (it.clone(), measure(&[it], EFFORT)[0]))
             .collect(),
         growth: growth
-            .map(|it| {
-                (
-                    it.clone(),
-                    it.workloads.iter().map(|it| measure(it, EFFORT)).collect(),
-                )
-            })
+            .map(|it| (it.clone(), measure(&it.workloads, EFFORT)))
             .collect(),
         before,
     }
