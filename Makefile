@@ -1,7 +1,7 @@
 # make run: proves and runs the programs `examples`, `life` and `recoveries`; make test: the merge gate; make fmt: lays every file out.
 SHELL := /bin/bash
 .SHELLFLAGS := -o pipefail -c
-.PHONY: run test fmt staticlib oracle compare fuzz mutants
+.PHONY: run test fmt staticlib oracle compare fuzz bench mutants
 
 run:
 	@rt check examples life recoveries | .ci/progress examples life recoveries
@@ -31,6 +31,10 @@ compare: staticlib
 # Throws bad words, sessions and slices at the library for SECONDS seconds (180 without it).
 fuzz: staticlib
 	$(MAKE) --no-print-directory -C host fuzz
+
+# Times the Rust, the library and the crate beside each other, and writes docs/bench.md.
+bench: staticlib
+	$(MAKE) --no-print-directory -C host bench
 
 # Tries every small change of host/mutants on the port, compiled without proof, and writes docs/mutants.md.
 mutants:

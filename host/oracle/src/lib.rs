@@ -6,6 +6,7 @@
 mod answers;
 mod backend;
 mod convert;
+pub mod direct;
 mod refusals;
 mod side;
 

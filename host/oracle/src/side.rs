@@ -8,10 +8,11 @@ use crate::answers::{self, Told};
 use crate::backend::{Backend, Exchange, SharedExchange};
 use crate::convert;
 use crate::core::identity;
+use crate::direct;
+use crate::domain::models::RequestState;
 use crate::domain::models::control_plan::{ControlPlan, DataStage};
 use crate::domain::models::ports::Ports;
 use crate::domain::models::requests::RequestSpec;
-use crate::domain::models::{ControllerState, RequestState};
 use crate::domain::services::usb::{DeviceSnapshot, EndpointSnapshot, UsbSession};
 
 /// A row's facts that steer a generator; the token is in no report.
@@ -228,13 +229,7 @@ fn session(usb: &mut Usb, exchange: &RefCell<Exchange>, call: &Call) -> Told {
         Call::Close { fresh, reply } => {
             exchange.borrow_mut().done = Some(*reply);
             identity::set_fresh(*fresh);
-            let was_closed = usb.session.state() == ControllerState::Closed;
-            let result = usb.session.close();
-            // Document 01 adds this to the comparison.
-            if result.is_ok() && !was_closed {
-                usb.records.clear();
-            }
-            answers::done(result)
+            answers::done(direct::close(usb))
         }
         _ => unreachable!("handled by the caller"),
     }
