@@ -22,7 +22,9 @@ ghost use Rattle.rows.specs.Table.{readRows, rowIn};
 ghost use Rattle.session.specs.Lent.{rowsIn, storeIn};
 ghost use Rattle.reports.specs.declared.NextReport.the-variants as NextReport;
 ghost use Prim.Native.Nat.{_+_, _<_, min};
-ghost use Rattle.reports.specs.Status.{isSubmitting, shownAt, statusOf, isShown, comesAfter, beats, reportAt, betterAt, bestFrom, nextOf, shownCount, completedLength, completedPart, partOf, partNumber, bytesOf, heldCountOf, heldBytesOf};
+ghost use Rattle.reports.specs.Status.{isSubmitting, shownAt, statusOf, isShown, comesAfter, beats, reportAt, betterAt, bestFrom, nextOf, shownCount, completedLength, completedPart, partOf, bytesOf, heldCountOf, heldBytesOf};
+ghost use Rattle.models.specs.Said.{Tabled};
+ghost use Rattle.reports.specs.Said.{reportSaid, nextSaid, tallySaid, partSaid, statusNumbers, tallyNumbers};
 
 // The id's submission is in flight.
 fn is_submitting(flight: InFlight, id: RequestId) -> bool
@@ -48,7 +50,7 @@ fn find_shown(rows: &[u64], flight: InFlight, id: RequestId) -> Found
 
 // 3; 40: no row has the id, or its submission is in flight.
 pub fn request_status(session: Session, rows: &[u64], id: RequestId) -> ReportAnswer
-    ensures { λ r. ⌜ r ≡ statusOf id session (storeIn rows) ⌝ }
+    ensures { λ r. ⌜ (r ≡ statusOf id session (storeIn rows)) × Tabled statusNumbers (reportSaid r) ⌝ }
 {
     let flight = session.in_flight;
     let size = session.size;
@@ -116,7 +118,7 @@ fn better_of(rows: &[u64], best: Found, i: usize, flight: InFlight, after: Optio
 
 // 3; the report with the least id, or the least after an id. The row of a submission in flight is left out.
 pub fn request_reports(session: Session, rows: &[u64], after: OptionId) -> NextReport
-    ensures { λ r. ⌜ r ≡ nextOf after session (storeIn rows) ⌝ }
+    ensures { λ r. ⌜ (r ≡ nextOf after session (storeIn rows)) × Tabled tallyNumbers (nextSaid r) ⌝ }
 {
     let flight = session.in_flight;
     let size = session.size;
@@ -170,7 +172,7 @@ fn count_shown(rows: &[u64], flight: InFlight) -> u64
 
 // 3; how many requests have a report.
 pub fn count_reports(session: Session, rows: &[u64]) -> Tally
-    ensures { λ r. ⌜ r ≡ shownCount session (storeIn rows) ⌝ }
+    ensures { λ r. ⌜ (r ≡ shownCount session (storeIn rows)) × Tabled tallyNumbers (tallySaid r) ⌝ }
 {
     let flight = session.in_flight;
     let size = session.size;
@@ -202,7 +204,7 @@ fn cut(length: u64, room: u64) -> u64
 
 // 3; 40 as `request_status`; else where the bytes of a request that is Completed now stand, and an empty part of any other.
 pub fn completed_part(session: Session, rows: &[u64], bytes: usize, id: RequestId) -> PartAnswer
-    ensures { λ r. ⌜ r ≡ completedPart id bytes session (storeIn rows) ⌝ }
+    ensures { λ r. ⌜ (r ≡ completedPart id bytes session (storeIn rows)) × Tabled statusNumbers (partSaid r) ⌝ }
 {
     let flight = session.in_flight;
     let size = session.size;
@@ -236,7 +238,7 @@ fn part_of(answer: PartAnswer) -> Part
 
 // The refusal's number, or 0.
 fn number_of(answer: PartAnswer) -> u16
-    ensures { λ r. ⌜ r ≡ partNumber answer ⌝ }
+    ensures { λ r. ⌜ r ≡ partSaid answer .number ⌝ }
 {
     match answer {
         PartAnswer::Refused(refusal) => refusal.number,
@@ -254,7 +256,7 @@ pub fn completed_bytes<'a>(
 ) -> &'a [u8]
     ensures { λ r. ⌜ (now r
         ≡ bytesOf (completedPart id (length (now (area .entry))) session (storeIn rows)) (now (area .entry)))
-        × (now (number .exit) ≡ partNumber (completedPart id (length (now (area .entry))) session (storeIn rows))) ⌝ }
+        × (now (number .exit) ≡ partSaid (completedPart id (length (now (area .entry))) session (storeIn rows)) .number) ⌝ }
 {
     let answer = completed_part(session, rows, area.len(), id);
     *number = number_of(answer);
@@ -266,7 +268,7 @@ pub fn completed_bytes<'a>(
 
 // 3; how many rows the device holds.
 pub fn held_count(session: Session, rows: &[u64]) -> Tally
-    ensures { λ r. ⌜ r ≡ heldCountOf session (storeIn rows) ⌝ }
+    ensures { λ r. ⌜ (r ≡ heldCountOf session (storeIn rows)) × Tabled tallyNumbers (tallySaid r) ⌝ }
 {
     let size = session.size;
     if !sizes::rows_fit(size, rows.len()) {
@@ -277,7 +279,7 @@ pub fn held_count(session: Session, rows: &[u64]) -> Tally
 
 // 3; the sum of their requested lengths.
 pub fn held_bytes(session: Session, rows: &[u64]) -> Tally
-    ensures { λ r. ⌜ r ≡ heldBytesOf session (storeIn rows) ⌝ }
+    ensures { λ r. ⌜ (r ≡ heldBytesOf session (storeIn rows)) × Tabled tallyNumbers (tallySaid r) ⌝ }
 {
     let size = session.size;
     if !sizes::rows_fit(size, rows.len()) {
