@@ -11,7 +11,7 @@ extern "C" {
 
 /* The version of the words that this header speaks of. */
 #define TAPEWOAD_MAJOR 1u
-#define TAPEWOAD_MINOR 0u
+#define TAPEWOAD_MINOR 1u
 
 /* Lengths of the slices. */
 #define TAPEWOAD_SESSION_WORDS 26u
@@ -22,10 +22,11 @@ extern "C" {
 #define TAPEWOAD_MOST_ROWS 1024u
 #define TAPEWOAD_MOST_ROW_BYTES 65536u
 
-/* What tapewoad_apply returns. With any but TAPEWOAD_ANSWERED nothing has changed; the first that applies is given. */
+/* What tapewoad_apply and tapewoad_read return. With any but TAPEWOAD_ANSWERED nothing has changed; the first that applies is
+   given. */
 enum tapewoad_status {
     TAPEWOAD_ANSWERED = 0,   /* the answer stands in `out`, its lists in `lists`: a refusal is an answer too */
-    TAPEWOAD_NO_CALL = 1,    /* `call` is no call */
+    TAPEWOAD_NO_CALL = 1,    /* `call` is no call of this function */
     TAPEWOAD_NO_SESSION = 2, /* `session` has not 26 words, or they are no session's; zeros are one that was never opened */
     TAPEWOAD_NO_ROOM = 3,    /* `out` has fewer than 32 words */
     TAPEWOAD_NO_LISTS = 4    /* `lists` has fewer than 386 words */
@@ -52,8 +53,19 @@ uint64_t tapewoad_apply(
     uint64_t *out, size_t out_words,
     uint64_t *lists, size_t list_words);
 
+/* Answers a report (calls 16 to 21) or a question (25 to 28): `out` alone is written, and overlaps no other slice. The slices
+   are those of tapewoad_apply. */
+uint64_t tapewoad_read(
+    const uint64_t *session, size_t session_words,
+    const uint64_t *bus, size_t bus_words,
+    const uint64_t *rows, size_t row_words,
+    const uint8_t *area, size_t area_bytes,
+    const uint64_t *call, size_t call_words,
+    const uint8_t *bytes, size_t byte_count,
+    uint64_t *out, size_t out_words);
+
 /* The library's version: the major number times 2^32, and the minor number. The major one rises where a word means
-   something else than before, the minor one where a call is added: a program goes with an equal major number and a minor
+   something else than before, the minor one where a call or a question is added: a program goes with an equal major number and a minor
    number that is not below its header's. */
 uint64_t tapewoad_version(void);
 

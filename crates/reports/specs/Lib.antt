@@ -1,4 +1,5 @@
 pub mod Answers
 pub mod Change
+pub mod Scan
 pub mod Status
 pub mod Said

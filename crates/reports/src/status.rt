@@ -27,7 +27,7 @@ ghost use Rattle.models.specs.Said.{Tabled};
 ghost use Rattle.reports.specs.Said.{reportSaid, nextSaid, tallySaid, partSaid, statusNumbers, tallyNumbers};
 
 // The id's submission is in flight.
-fn is_submitting(flight: InFlight, id: RequestId) -> bool
+pub(crate) fn is_submitting(flight: InFlight, id: RequestId) -> bool
     ensures { λ r. ⌜ r ≡ isSubmitting flight id ⌝ }
 {
     match flight {

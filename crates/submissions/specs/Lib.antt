@@ -3,3 +3,4 @@ pub mod Submit
 pub mod Plan
 pub mod SubmitReply
 pub mod Said
+pub mod Wants

@@ -1,2 +1,3 @@
 pub mod Target
 pub mod Said
+pub mod Wants
