@@ -1,7 +1,7 @@
 //! Words to answers.
 use super::{
-    ANSWER_WORDS, AbortReport, Answer, Begun, Error, Metadata, Recovering, Recovery, Refusal,
-    Report, Stages, State,
+    ANSWER_WORDS, AbortReport, Answer, Begun, Error, Metadata, Operation, Recovering, Recovery,
+    Refusal, Report, SessionStatus, Stages, Stall, State, Wanted,
 };
 use crate::models::{
     ControlProfile, ControllerState, DeviceId, Direction, ErrorCategory, RequestId, SetupPacket,
@@ -50,14 +50,15 @@ impl Answer {
             },
             9 => Self::Recover(r.recovering(&mut Reader(lists))?),
             10 => Self::Recovered(r.abort_report(&mut Reader(lists))?),
+            11 => Self::Status(r.session_status()?),
+            12 => Self::ReportAt {
+                place: r.word()?,
+                report: r.report()?,
+            },
+            13 => Self::Wants(r.wanted()?),
             _ => return None,
         })
     }
-}
-
-/// The controller state of a session's word 6.
-pub fn controller_state(word: u64) -> Option<ControllerState> {
-    Reader(&[word]).controller_state()
 }
 
 /// An optional 32-bit number's word.
@@ -90,6 +91,11 @@ impl Reader<'_> {
             0 => Some(None),
             word => u32::try_from(word - 1).ok().map(Some),
         }
+    }
+
+    fn option_u64(&mut self) -> Option<Option<u64>> {
+        let (given, number) = (self.flag()?, self.word()?);
+        Some(given.then_some(number))
     }
 
     numbered!(
@@ -252,6 +258,57 @@ impl Reader<'_> {
         };
         let lengths = [report.completed.len() as u64, report.aborted.len() as u64];
         (lengths == counts).then_some(report)
+    }
+
+    fn session_status(&mut self) -> Option<SessionStatus> {
+        Some(SessionStatus {
+            session: self.word()?,
+            generation: self.word()?,
+            next_sequence: self.word()?,
+            ports: self.ports()?,
+            state: self.controller_state()?,
+            recovery_revision: self.option_u64()?,
+            recoverable_stall: self.stall()?,
+            in_flight: self.operation()?,
+            rows: self.word()?,
+            row_bytes: self.word()?,
+        })
+    }
+
+    fn ports(&mut self) -> Option<Option<(u64, u8)>> {
+        let given = self.flag()?;
+        let ports = (self.word()?, self.narrow()?);
+        Some(given.then_some(ports))
+    }
+
+    fn stall(&mut self) -> Option<Option<Stall>> {
+        let given = self.flag()?;
+        let stall = Stall {
+            revision: self.word()?,
+            device: self.device()?,
+            endpoint: self.narrow()?,
+        };
+        Some(given.then_some(stall))
+    }
+
+    fn operation(&mut self) -> Option<Option<Operation>> {
+        Some(match self.word()? {
+            0 => None,
+            1 => Some(Operation::Submission),
+            2 => Some(Operation::Poll),
+            3 => Some(Operation::Recovery),
+            _ => return None,
+        })
+    }
+
+    fn wanted(&mut self) -> Option<Option<Wanted>> {
+        let (reading, port) = (self.word()?, self.narrow()?);
+        Some(match reading {
+            0 => None,
+            1 => Some(Wanted { reading: 0, port }),
+            2 => Some(Wanted { reading: 1, port }),
+            _ => return None,
+        })
     }
 
     /// A tag and six words, whatever the state.
