@@ -131,7 +131,7 @@ fn plan_words(x: PlanSubmission) -> [u64; 30]
     w
 }
 
-fn report_words(x: RequestReport) -> [u64; 26]
+pub fn report_words(x: RequestReport) -> [u64; 26]
     ensures { λ w. ⌜ w ≡ reportWords x ⌝ }
 {
     let metadata = x.metadata;
@@ -215,7 +215,7 @@ fn recovered_words(x: AbortReport) -> [u64; 16]
 }
 
 // The words and then zeros, as an answer's.
-fn put(out: &mut [u64], w: &[u64])
+pub fn put(out: &mut [u64], w: &[u64])
     ensures { λ _. ⌜ now (out .exit) ≡ written (now (w .entry)) (now (out .entry)) ⌝ }
 {
     if out.len() < WORDS {

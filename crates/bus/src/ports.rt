@@ -123,7 +123,7 @@ fn validate_row(ports: OptionPorts, id: PortId, row: PortRow) -> PortChecked
 }
 
 // 29, 30, 31, 32.
-fn validate(bus: &[u64], ports: OptionPorts, id: PortId) -> PortChecked
+pub fn validate(bus: &[u64], ports: OptionPorts, id: PortId) -> PortChecked
     requires { ⌜ length (now bus) ≡ busWords ⌝ }
     ensures { λ r. ⌜ r ≡ validated ports id (busOf (now (bus .entry))) ⌝ }
 {
@@ -193,6 +193,19 @@ fn observe_word(bus: &mut [u64], ports: OptionPorts, id: PortId, raw: u32) -> Po
     match next {
         Observed::Refused(refusal) => PortChecked::Refused(refusal),
         Observed::To(row) => validate_row(ports, id, row),
+    }
+}
+
+// What a word is answered by where it is observed, with nothing written.
+pub fn peek_word(bus: &[u64], ports: OptionPorts, id: PortId, raw: u32) -> PortChecked
+    requires { ⌜ length (now bus) ≡ busWords ⌝ }
+    ensures { λ r. ⌜ r ≡ freshWord raw ports id (busOf (now (bus .entry))) .result ⌝ }
+{
+    let row = read_port(bus, id.number);
+    let next = observe_row(row, raw);
+    match next {
+        Observed::Refused(refusal) => PortChecked::Refused(refusal),
+        Observed::To(written) => validate_row(ports, id, written),
     }
 }
 

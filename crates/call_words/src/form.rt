@@ -147,7 +147,7 @@ fn is_stage(w: &[u64], at: u8) -> bool
     )
 }
 
-fn has(w: &[u64], n: usize) -> bool
+pub fn has(w: &[u64], n: usize) -> bool
     ensures { λ r. ⌜ r ≡ has (now (w .entry)) n ⌝ }
 {
     w.len() == n
@@ -215,7 +215,7 @@ fn is_close(w: &[u64]) -> bool
     has(w, 8) & is_option_number(w, 1) & is_option_error(w, 3)
 }
 
-fn is_submit(w: &[u64]) -> bool
+pub fn is_submit(w: &[u64]) -> bool
     ensures { λ r. ⌜ r ≡ isSubmit (now (w .entry)) ⌝ }
 {
     let target = is_bus_id(w, 1)
@@ -228,7 +228,7 @@ fn is_submit(w: &[u64]) -> bool
     target & readings & packets
 }
 
-fn is_plan(w: &[u64]) -> bool
+pub fn is_plan(w: &[u64]) -> bool
     ensures { λ r. ⌜ r ≡ isPlan (now (w .entry)) ⌝ }
 {
     let target = has(w, 20) & is_bus_id(w, 1) & is_flag(w, 4) & is_setup(w, 5);
@@ -363,7 +363,7 @@ fn is_replying(number: u64, w: &[u64]) -> bool
 }
 
 // Status and completed bytes take an id; counts take nothing.
-fn is_reporting(number: u64, w: &[u64]) -> bool
+pub fn is_reporting(number: u64, w: &[u64]) -> bool
     ensures { λ r. ⌜ r ≡ isReporting number (now (w .entry)) ⌝ }
 {
     if number == 16 {

@@ -1,2 +1,3 @@
 pub mod Apply
+pub mod Read
 pub mod Slices

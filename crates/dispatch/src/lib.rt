@@ -14,6 +14,7 @@ ghost use Rattle.dispatch.specs.Apply.{ran, runOf, ranOn, dispatchOf};
 ghost use Rattle.dispatch.specs.Slices.{worldIn, buffersIn, buffersOut};
 
 mod controller;
+pub mod read;
 mod requests;
 
 fn step(

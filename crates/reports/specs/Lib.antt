@@ -1,3 +1,4 @@
 pub mod Answers
 pub mod Change
+pub mod Scan
 pub mod Status

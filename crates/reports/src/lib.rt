@@ -6,6 +6,7 @@ use session::Session;
 
 pub mod answers;
 pub mod change;
+pub mod scan;
 pub mod status;
 
 // A report, or the refusal.
@@ -29,6 +30,13 @@ pub enum NextReport {
     Refused(Refusal),
     None,
     Report(RequestReport),
+}
+
+// The report of a row with the row's number, if there is one.
+pub enum PlacedReport {
+    Refused(Refusal),
+    None,
+    At(u64, RequestReport),
 }
 
 // A number of the store's, or the refusal.

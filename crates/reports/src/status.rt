@@ -24,7 +24,7 @@ ghost use Prim.Native.Nat.{_+_, _<_, min};
 ghost use Rattle.reports.specs.Status.{isSubmitting, shownAt, statusOf, isShown, comesAfter, beats, better, bestFrom, nextOf, shownCount, completedLength, completedPart, partOf, partNumber, bytesOf, heldCountOf, heldBytesOf};
 
 // The id's submission is in flight.
-fn is_submitting(flight: InFlight, id: RequestId) -> bool
+pub(crate) fn is_submitting(flight: InFlight, id: RequestId) -> bool
     ensures { λ r. ⌜ r ≡ isSubmitting flight id ⌝ }
 {
     match flight {

@@ -11,6 +11,7 @@ mod begin;
 pub mod plan;
 pub mod submit;
 pub mod submit_reply;
+pub mod wants;
 
 // What the backend is to do for a request. Its buffer is the first bytes of the row's part of the area; packets are the caller's list.
 pub struct Submission {

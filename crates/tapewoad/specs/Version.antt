@@ -5,9 +5,9 @@ use Prim.Native.Nat.{ℕ, _+_, _*_, _^_}
 abbrev pub major : ℕ
 major = 1
 
--- rises where a call is added
+-- rises where a call or a question is added
 abbrev pub minor : ℕ
-minor = 0
+minor = 1
 
 abbrev pub version : ℕ
 version = major * 2 ^ 32 + minor

@@ -2,6 +2,9 @@
 ghost use mathlib.Core.Path.{_≡_};
 ghost use Rattle.chain.specs.After.{after};
 ghost use Rattle.dispatch.specs.Apply.{dispatchOf};
+ghost use Rattle.session.specs.Lent.{lentIn};
+ghost use Rattle.session_words.specs.State.{keptOf};
+ghost use Rattle.dispatch.specs.Read.{readingOf};
 ghost use Rattle.dispatch.specs.Slices.{buffersIn, buffersOut};
 ghost use Rattle.tapewoad.specs.Version.{version};
 
@@ -22,10 +25,27 @@ pub extern "C" fn tapewoad_apply(
     dispatch::apply(session, bus, rows, area, call, bytes, out, lists)
 }
 
+// The same for what leaves all as it is.
+#[no_mangle]
+pub extern "C" fn tapewoad_read(
+    session: &[u64],
+    bus: &[u64],
+    rows: &[u64],
+    area: &[u8],
+    call: &[u64],
+    bytes: &[u8],
+    out: &mut [u64],
+) -> u64
+    ensures { λ r. ⌜ after r (now (out .exit)) ≡ readingOf (now (call .entry)) (now (bytes .entry))
+        (keptOf (now (session .entry))) (lentIn bus rows area) (now (out .entry)) ⌝ }
+{
+    dispatch::read::read(session, bus, rows, area, call, bytes, out)
+}
+
 // The version of the words: the major number times 2^32, and the minor number.
 #[no_mangle]
 pub extern "C" fn tapewoad_version() -> u64
     ensures { λ r. ⌜ r ≡ version ⌝ }
 {
-    4294967296
+    4294967297
 }

@@ -2,6 +2,7 @@
 use models::PortReading;
 
 pub mod target;
+pub mod wants;
 
 // The port readings that come with a submission; control takes the first alone.
 pub struct Readings {

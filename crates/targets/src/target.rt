@@ -36,7 +36,7 @@ fn refuse_device(number: u16) -> DeviceChecked
 }
 
 // 26, 27, 28.
-fn known_device(bus: &[u64], initialized: bool, id: DeviceId) -> DeviceChecked
+pub(crate) fn known_device(bus: &[u64], initialized: bool, id: DeviceId) -> DeviceChecked
     requires { ⌜ length (now bus) ≡ busWords ⌝ }
     ensures { λ r. ⌜ r ≡ knownDevice initialized id (busOf (now (bus .entry))) ⌝ }
 {
@@ -60,7 +60,7 @@ fn known_device(bus: &[u64], initialized: bool, id: DeviceId) -> DeviceChecked
 }
 
 // 35, once the port has a fresh reading.
-fn prepared_device(port: PortChecked, device: DeviceSnapshot) -> DeviceChecked
+pub(crate) fn prepared_device(port: PortChecked, device: DeviceSnapshot) -> DeviceChecked
     ensures { λ r. ⌜ r ≡ preparedDevice port device ⌝ }
 {
     match port {

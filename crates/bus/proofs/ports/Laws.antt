@@ -130,6 +130,16 @@ module _ (o : OptionPorts) (id : PortId) (raw : ℕ) (b left : Bus) (v : Observe
   unfolding freshWord freshObserved
   fresh-on w r g h = rw (← f, g, h)
 
+-- what it would be answered by
+module _ (o : OptionPorts) (id : PortId) (raw : ℕ) (b : Bus) (row : PortRow) (v : Observed) (e : row ≡ portAt b (id .number)) (f : v ≡ observedRow row raw) where
+  pub peek-full : (r : Refusal) → v ≡ observed.Refused r → checked.Refused r ≡ freshWord raw o id b .result
+  unfolding freshWord freshObserved observePort observePortBy
+  peek-full r g = rw (← e, ← f, g)
+
+  pub peek-on : (w : PortRow) (r : PortChecked) → v ≡ observed.To w → r ≡ validatedRow o id w → r ≡ freshWord raw o id b .result
+  unfolding freshWord freshObserved observePort observePortBy
+  peek-on w r g h = h ∙ rw (← e, ← f, g)
+
 module _ (o : OptionPorts) (id : PortId) (b : Bus) (reading : PortReading) where
   pub reading-failed : (x : OperationError) (r : Refusal) → reading ≡ Error x → r ≡ fromBackend 33 x → after (checked.Refused r) b ≡ freshReading reading o id b
   unfolding freshReading

@@ -1,0 +1,3 @@
+// The words of questions and of their answers.
+pub mod encode;
+pub mod form;
