@@ -231,13 +231,10 @@ impl Store {
         }
     }
 
-    /// Generation and last reading of the port with this number, from 1.
+    /// What the bus has of the port with this number, from 1: its generation and
+    /// last reading. The session may have fewer ports.
     pub fn port(&self, number: u8) -> Option<(u64, Option<u32>)> {
-        let (_, count) = self.status().ports?;
-        if number == 0 || number > count {
-            return None;
-        }
-        let at = 2 * (usize::from(number) - 1);
+        let at = 2 * usize::from(number.checked_sub(1)?);
         Some((self.bus[at], option_u32(self.bus[at + 1])?))
     }
 
