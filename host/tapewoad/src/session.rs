@@ -9,7 +9,7 @@ use crate::calls::{self, Answer, Begun, Call, Plan, Question, Reading, Store, Su
 use crate::models::{
     BackendCompletion, ControlPlan, ControllerState, DeviceSnapshot, Endpoint, Opening,
     OwnedRequest, RequestId, RequestMetadata, RequestReport, RequestSpec, RequestState,
-    ValidatedControlPlan,
+    TransferType, ValidatedControlPlan,
 };
 use crate::refusal::{Messages, Refusal, UNREAD};
 use in_flight::{InFlight, Operation};
@@ -222,7 +222,11 @@ impl<B: Backend> UsbSession<B> {
             packets: lengths.as_deref(),
             readings,
         };
-        let readings = self.readings(|it| Question::SubmitWants(submit(it)));
+        let most = match spec.transfer_type {
+            TransferType::Control => 1,
+            _ => 2,
+        };
+        let readings = self.readings(most, |it| Question::SubmitWants(submit(it)));
         let call = Call::SubmitRequestPackets(submit(readings));
         let begun = match self.store.apply(&call) {
             Answer::Begun { begun, .. } => begun,
@@ -256,7 +260,7 @@ impl<B: Backend> UsbSession<B> {
             data: &plan.data,
             reading,
         };
-        let [reading] = self.readings(|[it]| Question::PlanWants(submit(it)));
+        let [reading, _] = self.readings(1, |[it, _]| Question::PlanWants(submit(it)));
         let call = Call::SubmitControlPlan(submit(reading));
         let (begun, stages) = match self.store.apply(&call) {
             Answer::PlanBegun { begun, stages } => (begun, stages),
@@ -354,7 +358,8 @@ impl<B: Backend> UsbSession<B> {
             match self.store.ask(&Question::ReportFrom { place: next }) {
                 Answer::ReportAt { place, report } => {
                     next = place + 1;
-                    reports.push(self.report(&report, || self.completed_bytes(report.id)));
+                    let bytes = || Ok(self.store.completed_at(place, &report).to_vec());
+                    reports.push(self.report(&report, bytes));
                 }
                 Answer::NoReport => break,
                 Answer::Refused(refusal) => return Err(self.messages.refusal(refusal)),
@@ -390,14 +395,15 @@ impl<B: Backend> UsbSession<B> {
         }
     }
 
-    /// Reads a submission's port where the library wants it, as the original does:
-    /// each time only where every check before passes.
-    fn readings<'a, const N: usize>(
+    /// Reads a submission's port, so often at most, where the library wants it, as
+    /// the original does: each time only where every check before passes.
+    fn readings<'a>(
         &mut self,
-        wants: impl Fn([Reading; N]) -> Question<'a>,
-    ) -> [Reading; N] {
-        let mut readings = [Err(UNREAD); N];
-        for _ in 0..N {
+        most: usize,
+        wants: impl Fn([Reading; 2]) -> Question<'a>,
+    ) -> [Reading; 2] {
+        let mut readings = [Err(UNREAD); 2];
+        for _ in 0..most {
             let wanted = match self.store.ask(&wants(readings)) {
                 Answer::Wants(Some(wanted)) => wanted,
                 Answer::Wants(None) => break,

@@ -11,6 +11,7 @@ use crate::models::{
 /// An enum whose cases are numbered in the order of their declaration.
 macro_rules! numbered {
     ($name:ident, $type:ty, [$($case:ident),*]) => {
+        #[inline(always)]
         fn $name(&mut self) -> Option<$type> {
             const CASES: &[$type] = &[$(<$type>::$case),*];
             CASES.get(usize::try_from(self.word()?).ok()?).copied()
@@ -18,12 +19,14 @@ macro_rules! numbered {
     };
 }
 
-/// Reads words one by one.
+/// Reads words one by one. What a report has is read in line: its fields are
+/// written where it will stand, and not copied from call to call.
 struct Reader<'a>(&'a [u64]);
 
 impl Answer {
     /// What the words of an answer and its lists say; none where they are no
     /// answer's.
+    #[inline(always)]
     pub fn from_words(words: &[u64; ANSWER_WORDS], lists: &[u64]) -> Option<Self> {
         let mut r = Reader(words);
         Some(match r.word()? {
@@ -67,6 +70,7 @@ pub fn option_u32(word: u64) -> Option<Option<u32>> {
 }
 
 impl Reader<'_> {
+    #[inline(always)]
     fn word(&mut self) -> Option<u64> {
         let (first, rest) = self.0.split_first()?;
         self.0 = rest;
@@ -74,10 +78,12 @@ impl Reader<'_> {
     }
 
     /// A word of a narrower field.
+    #[inline(always)]
     fn narrow<T: TryFrom<u64>>(&mut self) -> Option<T> {
         T::try_from(self.word()?).ok()
     }
 
+    #[inline(always)]
     fn flag(&mut self) -> Option<bool> {
         match self.word()? {
             0 => Some(false),
@@ -86,6 +92,7 @@ impl Reader<'_> {
         }
     }
 
+    #[inline(always)]
     fn option_u32(&mut self) -> Option<Option<u32>> {
         match self.word()? {
             0 => Some(None),
@@ -130,6 +137,7 @@ impl Reader<'_> {
     numbered!(direction, Direction, [In, Out]);
     numbered!(profile, ControlProfile, [Compliant, DeviceCompatibility]);
 
+    #[inline(always)]
     fn error(&mut self) -> Option<Error> {
         Some(Error {
             category: self.category()?,
@@ -151,6 +159,7 @@ impl Reader<'_> {
         (0..length).map(|_| item(self)).collect()
     }
 
+    #[inline(always)]
     fn id(&mut self) -> Option<RequestId> {
         Some(RequestId {
             session: self.word()?,
@@ -159,6 +168,7 @@ impl Reader<'_> {
         })
     }
 
+    #[inline(always)]
     fn device(&mut self) -> Option<DeviceId> {
         Some(DeviceId {
             session: self.word()?,
@@ -167,6 +177,7 @@ impl Reader<'_> {
         })
     }
 
+    #[inline(always)]
     fn setup(&mut self) -> Option<Option<SetupPacket>> {
         let given = self.flag()?;
         let packet = SetupPacket {
@@ -179,6 +190,7 @@ impl Reader<'_> {
         Some(given.then_some(packet))
     }
 
+    #[inline(always)]
     fn metadata(&mut self) -> Option<Metadata> {
         Some(Metadata {
             device: self.device()?,
@@ -190,6 +202,7 @@ impl Reader<'_> {
         })
     }
 
+    #[inline(always)]
     fn begun(&mut self) -> Option<Begun> {
         Some(Begun {
             id: self.id()?,
@@ -215,6 +228,7 @@ impl Reader<'_> {
         })
     }
 
+    #[inline(always)]
     fn report(&mut self) -> Option<Report> {
         Some(Report {
             id: self.id()?,
@@ -312,6 +326,7 @@ impl Reader<'_> {
     }
 
     /// A tag and six words, whatever the state.
+    #[inline(always)]
     fn state(&mut self) -> Option<State> {
         let (words, rest) = self.0.split_at_checked(7)?;
         self.0 = rest;
@@ -332,6 +347,7 @@ impl Reader<'_> {
         })
     }
 
+    #[inline(always)]
     fn failed(&mut self) -> Option<State> {
         let (category, message) = (self.category()?, self.narrow()?);
         let quiescent = self.flag()?;

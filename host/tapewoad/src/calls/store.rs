@@ -4,8 +4,8 @@ use std::ops::Range;
 
 use super::decode::option_u32;
 use super::{
-    ANSWER_WORDS, Answer, BUS_WORDS, Begun, Call, LIST_WORDS, Question, ROW_WORDS, Refusal,
-    SESSION_WORDS, SessionStatus, VERSION, unexpected,
+    ANSWER_WORDS, Answer, BUS_WORDS, Begun, Call, LIST_WORDS, Question, ROW_WORDS, Refusal, Report,
+    SESSION_WORDS, SessionStatus, State, VERSION, unexpected,
 };
 use crate::library::{self, Memory, View};
 use crate::models::{Opening, RequestId};
@@ -118,6 +118,7 @@ impl Store {
     /// # Errors
     /// The status, where the library has no answer or one that is not in
     /// docs/CALLS.md. A refusal is an answer.
+    #[inline(always)]
     pub fn try_apply(&mut self, call: &Call<'_>) -> Result<Answer, Status> {
         self.apply_words(&call.encode(), &call.bytes())
     }
@@ -126,6 +127,7 @@ impl Store {
     ///
     /// # Errors
     /// As [`try_apply`](Self::try_apply).
+    #[inline(always)]
     pub fn apply_words(&mut self, call: &[u64], bytes: &[u8]) -> Result<Answer, Status> {
         let mut out = [0; ANSWER_WORDS];
         let memory = Memory {
@@ -152,6 +154,7 @@ impl Store {
     ///
     /// # Errors
     /// As [`try_apply`](Self::try_apply).
+    #[inline(always)]
     pub fn try_read(&self, call: &Call<'_>) -> Result<Answer, Status> {
         self.read_words(&call.encode(), &call.bytes())
     }
@@ -169,6 +172,7 @@ impl Store {
     ///
     /// # Errors
     /// As [`try_apply`](Self::try_apply).
+    #[inline(always)]
     pub fn try_ask(&self, question: &Question<'_>) -> Result<Answer, Status> {
         self.read_words(&question.encode(), question.bytes())
     }
@@ -177,6 +181,7 @@ impl Store {
     ///
     /// # Errors
     /// As [`try_apply`](Self::try_apply).
+    #[inline(always)]
     pub fn read_words(&self, call: &[u64], bytes: &[u8]) -> Result<Answer, Status> {
         let mut out = [0; ANSWER_WORDS];
         let view = View {
@@ -217,6 +222,16 @@ impl Store {
     /// A part of the area, as [`Answer::Bytes`] gives it.
     pub fn bytes(&self, start: u64, length: u64) -> &[u8] {
         &self.area[part(start, length)]
+    }
+
+    /// The bytes of the request that has this report at this place, as
+    /// [`completed_bytes`](Self::completed_bytes) gives them: the first of its row.
+    pub fn completed_at(&self, place: u64, report: &Report) -> &[u8] {
+        let length = match report.state {
+            State::Completed { actual_length, .. } => actual_length.min(self.row_bytes),
+            _ => 0,
+        };
+        self.bytes(place * self.row_bytes, length)
     }
 
     /// The bytes of a Completed request, and none of another that has a report.
@@ -261,6 +276,7 @@ impl Debug for Store {
 }
 
 /// The answer where there is one.
+#[inline(always)]
 fn answered(status: u64, out: &[u64; ANSWER_WORDS], lists: &[u64]) -> Result<Answer, Status> {
     match status {
         0 => Answer::from_words(out, lists).ok_or(Status::Unknown(out[0])),
