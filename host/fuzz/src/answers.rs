@@ -2,7 +2,8 @@
 //! these.
 use tapewoad::RequestId;
 use tapewoad::calls::{
-    ANSWER_WORDS, AbortReport, Answer, Begun, Error, Metadata, Recovering, Recovery, State,
+    ANSWER_WORDS, AbortReport, Answer, Begun, Error, Metadata, Operation, Recovering, Recovery,
+    Report, SessionStatus, Stages, State,
 };
 use tapewoad::{DeviceId, SetupPacket};
 
@@ -42,20 +43,11 @@ impl Words {
             Answer::PlanBegun { begun, stages } => {
                 self.put([3]);
                 self.begun(begun);
-                self.put([
-                    u64::from(stages.has_data),
-                    stages.data_direction as u64,
-                    stages.status_direction as u64,
-                    stages.profile as u64,
-                ]);
-                self.put(stages.wire_setup.map(u64::from));
+                self.stages(stages);
             }
             Answer::Report(report) => {
                 self.put([4]);
-                self.id(report.id);
-                self.metadata(&report.metadata);
-                self.state(&report.state);
-                self.put([report.logical_cancel, report.timed_out].map(u64::from));
+                self.report(report);
             }
             Answer::NoReport => self.put([5]),
             Answer::Ask { token } => self.put([6, *token]),
@@ -63,6 +55,16 @@ impl Words {
             Answer::Bytes { start, length } => self.put([8, *start, *length]),
             Answer::Recover(begun) => self.recovering(begun, lists),
             Answer::Recovered(report) => self.recovered(report, lists),
+            Answer::Status(status) => self.status(status),
+            Answer::ReportAt { place, report } => {
+                self.put([12, *place]);
+                self.report(report);
+            }
+            Answer::Wants(wanted) => {
+                let it = wanted.map(|it| [it.reading as u64 + 1, it.port.into()]);
+                self.put([13]);
+                self.put(it.unwrap_or_default());
+            }
             answer => unreachable!("no words for {answer:?}"),
         }
     }
@@ -90,6 +92,16 @@ impl Words {
         self.metadata(&begun.metadata);
     }
 
+    fn stages(&mut self, stages: &Stages) {
+        self.put([
+            u64::from(stages.has_data),
+            stages.data_direction as u64,
+            stages.status_direction as u64,
+            stages.profile as u64,
+        ]);
+        self.put(stages.wire_setup.map(u64::from));
+    }
+
     fn metadata(&mut self, metadata: &Metadata) {
         self.device(metadata.device);
         self.put([
@@ -108,6 +120,39 @@ impl Words {
         };
         self.put([setup.request_type, setup.request].map(u64::from));
         self.put([setup.value, setup.index, setup.length].map(u64::from));
+    }
+
+    fn report(&mut self, report: &Report) {
+        self.id(report.id);
+        self.metadata(&report.metadata);
+        self.state(&report.state);
+        self.put([report.logical_cancel, report.timed_out].map(u64::from));
+    }
+
+    fn status(&mut self, status: &SessionStatus) {
+        self.put([11, status.session, status.generation, status.next_sequence]);
+        let ports = status
+            .ports
+            .map(|(session, count)| [1, session, count.into()]);
+        self.put(ports.unwrap_or_default());
+        self.put([status.state as u64]);
+        let revision = status.recovery_revision.map(|it| [1, it]);
+        self.put(revision.unwrap_or_default());
+        match status.recoverable_stall {
+            Some(stall) => {
+                self.put([1, stall.revision]);
+                self.device(stall.device);
+                self.put([stall.endpoint.into()]);
+            }
+            None => self.put([0; 6]),
+        }
+        let in_flight = match status.in_flight {
+            None => 0,
+            Some(Operation::Submission) => 1,
+            Some(Operation::Poll) => 2,
+            Some(Operation::Recovery) => 3,
+        };
+        self.put([in_flight, status.rows, status.row_bytes]);
     }
 
     fn state(&mut self, state: &State) {

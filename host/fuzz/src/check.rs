@@ -42,6 +42,9 @@ pub fn check(
     if let Answer::Refused(refusal) = &answer {
         check_error(refusal, &before.call, &after.out)?;
     }
+    if !tells(&answer, before) {
+        return Err(format!("{answer:?}, which is not so"));
+    }
     check_changes(&may_change(before, &answer), before, after)?;
     Ok(Some(answer))
 }
@@ -96,13 +99,30 @@ fn fits(call: u64, answer: &Answer, sound: bool) -> bool {
         Answer::Begun { .. } => call == 8,
         Answer::PlanBegun { .. } => call == 9,
         Answer::Report(_) => matches!(call, 10..=17),
-        Answer::NoReport => call == 17,
+        Answer::NoReport => matches!(call, 17 | 26),
         Answer::Ask { .. } => call == 11,
         Answer::Number(_) => matches!(call, 18 | 20 | 21),
         Answer::Bytes { .. } => call == 19,
         Answer::Recover(_) => matches!(call, 22 | 23),
         Answer::Recovered(_) => call == 24,
+        Answer::Status(_) => call == 25,
+        Answer::ReportAt { .. } => call == 26,
+        Answer::Wants(_) => matches!(call, 27 | 28),
         _ => false,
+    }
+}
+
+/// Whether a status has the session's words, and a report stands where it was
+/// looked for.
+fn tells(answer: &Answer, before: &Slices) -> bool {
+    match answer {
+        Answer::Status(_) => {
+            let session = &before.session;
+            let expected = [&[11], &session[..16], &session[24..]].concat();
+            encode(answer).0[..expected.len()] == expected
+        }
+        Answer::ReportAt { place, .. } => (before.call[1]..before.session[24]).contains(place),
+        _ => true,
     }
 }
 
@@ -124,6 +144,8 @@ fn may_refuse(call: u64, number: u16) -> bool {
         15 => matches!(number, 1 | 3 | 40 | 42),
         16 | 19 => matches!(number, 3 | 40),
         22 | 23 => matches!(number, 1 | 3 | 40 | 43 | 44),
+        25 | 27 | 28 => false,
+        26 => number == 3,
         _ => matches!(number, 2 | 3 | 41 | 45..=49),
     }
 }

@@ -198,7 +198,7 @@ mod tests {
     use super::*;
     use std::process::{Command, Output};
 
-    use crate::{Fuzz, Lent, apply};
+    use crate::{Fuzz, Lent, run_library};
 
     fn words(length: usize, edge: Edge) -> Guarded {
         let mut guarded = Guarded::new(8 * length);
@@ -284,7 +284,7 @@ mod tests {
 
     /// The library, but it writes a word past `rows`.
     fn one_past(lent: &mut Lent<'_>) -> u64 {
-        let status = apply(lent);
+        let status = run_library(lent);
         // SAFETY: none; there is a canary or a guard page.
         unsafe { lent.rows.as_mut_ptr_range().end.write_volatile(1) };
         status

@@ -2,7 +2,7 @@
 use std::collections::VecDeque;
 
 use seeded::Rng;
-use tapewoad::calls::{AcquireReply, Answer, Call, Error, Reading};
+use tapewoad::calls::{AcquireReply, Answer, Call, Error, Question, Reading};
 use tapewoad::{
     ControllerState, DeviceId, DeviceSnapshot, DeviceState, Endpoint, ErrorCategory, Opening,
     PortId, RequestId, TransferType,
@@ -13,6 +13,15 @@ use tapewoad::{
 pub struct Words {
     pub call: Vec<u64>,
     pub bytes: Vec<u8>,
+}
+
+impl From<&Question<'_>> for Words {
+    fn from(question: &Question<'_>) -> Self {
+        Self {
+            call: question.words(),
+            bytes: question.bytes().to_vec(),
+        }
+    }
 }
 
 impl From<&Call<'_>> for Words {
@@ -290,6 +299,19 @@ impl Host {
             6 => Call::HeldCount,
             _ => Call::HeldBytes,
         })
+    }
+
+    /// A report or a question; seldom a call that only the other function takes.
+    pub fn read(&mut self) -> Words {
+        let place = self.rng.below(self.row_count + 2) as u64;
+        match self.rng.below(20) {
+            0..8 => self.report(),
+            8..10 => Words::from(&Question::SessionStatus),
+            10..13 => Words::from(&Question::ReportFrom { place }),
+            13..17 => self.submit_wants(),
+            17..19 => self.plan_wants(),
+            _ => self.any(),
+        }
     }
 
     fn recover(&mut self) -> Words {

@@ -2,26 +2,33 @@
 //! that depend on words and lengths alone (1, 2, 3, 49).
 use tapewoad::calls::{ANSWER_WORDS, BUS_WORDS, LIST_WORDS, ROW_WORDS};
 
-use crate::lent::Slices;
+use crate::lent::{Function, Slices};
 
 /// 0, or the first of 1 to 4 that applies.
 pub fn status(slices: &Slices) -> u64 {
-    if !is_call(&slices.call) {
+    if !is_taken(slices.function, &slices.call) {
         1
     } else if !is_session(&slices.session) {
         2
     } else if slices.out.len() < ANSWER_WORDS {
         3
-    } else if slices.lists.len() < LIST_WORDS {
+    } else if slices.function == Function::Apply && slices.lists.len() < LIST_WORDS {
         4
     } else {
         0
     }
 }
 
-pub fn is_call(words: &[u64]) -> bool {
+/// Whether the words are a call, or a report or question for the function that
+/// reads.
+fn is_taken(function: Function, words: &[u64]) -> bool {
+    let number = words.first().copied().unwrap_or(u64::MAX);
+    let taken = match function {
+        Function::Apply => number <= 24,
+        Function::Read => matches!(number, 16..=21 | 25..=28),
+    };
     let mut fields = Fields(words);
-    fields.call().is_some() && fields.0.is_empty()
+    taken && fields.call().is_some() && fields.0.is_empty()
 }
 
 pub fn is_session(words: &[u64]) -> bool {
@@ -36,7 +43,9 @@ pub fn early_refusal(slices: &Slices) -> Option<u16> {
         10 if in_flight != 1 => return Some(2),
         12 if in_flight != 2 => return Some(2),
         24 if in_flight != 3 => return Some(2),
-        0 | 10 | 12 | 24 | 16..=21 => {}
+        0 | 10 | 12 | 24 | 16..=21 | 26 => {}
+        // These are not refused.
+        25 | 27 | 28 => return None,
         _ if in_flight != 0 => return Some(1),
         _ => {}
     }
@@ -189,6 +198,16 @@ impl Fields<'_> {
                 self.flag().map(drop)
             }
             24 => self.recovery_reply(),
+            number => self.question(number),
+        }
+    }
+
+    fn question(&mut self, number: u64) -> Option<()> {
+        match number {
+            25 => Some(()),
+            26 => self.any().map(drop),
+            27 => self.submit(),
+            28 => self.plan(),
             _ => None,
         }
     }
@@ -331,6 +350,10 @@ mod tests {
         }
     }
 
+    fn is_call(words: &[u64]) -> bool {
+        is_taken(Function::Apply, words)
+    }
+
     #[test]
     fn calls_have_their_own_number_of_words() {
         assert!(is_call(&[18]));
@@ -338,6 +361,15 @@ mod tests {
         assert!(is_call(&[3, 2, 1_023]));
         for words in [&[][..], &[18, 0], &[13, 1, 2], &[3, 2, 1_024], &[25]] {
             assert!(!is_call(words), "{words:?}");
+        }
+    }
+
+    #[test]
+    fn reports_and_questions_alone_are_read() {
+        let is_read = |words: &[u64]| is_taken(Function::Read, words);
+        assert!(is_read(&[18]) && is_read(&[25]) && is_read(&[26, u64::MAX]));
+        for words in [&[][..], &[25, 0], &[26], &[27], &[29], &[13, 1, 2, 3]] {
+            assert!(!is_read(words), "{words:?}");
         }
     }
 
@@ -379,6 +411,8 @@ mod tests {
         assert_eq!(status(&slices), 0);
         slices.lists.pop();
         assert_eq!(status(&slices), 4);
+        slices.function = Function::Read;
+        assert_eq!(status(&slices), 0);
         slices.out.pop();
         assert_eq!(status(&slices), 3);
         slices.session.pop();

@@ -1,5 +1,5 @@
 //! What a call is lent: eight slices, each between guard pages while it runs.
-use tapewoad::library::{self, Memory};
+use tapewoad::library::{self, Memory, View};
 
 use crate::guarded::{Edge, Guarded, announce};
 
@@ -13,9 +13,19 @@ pub const MOST_BYTES: usize = 8_192;
 pub const MOST_OUT: usize = 64;
 pub const MOST_LISTS: usize = 512;
 
+/// Which of the library's functions takes a call.
+#[derive(Debug, Clone, Copy, Default, PartialEq, Eq)]
+pub enum Function {
+    #[default]
+    Apply,
+    /// It is not lent `lists`.
+    Read,
+}
+
 /// The contents of the eight slices.
 #[derive(Debug, Clone, Default, PartialEq, Eq)]
 pub struct Slices {
+    pub function: Function,
     pub session: Vec<u64>,
     pub bus: Vec<u64>,
     pub rows: Vec<u64>,
@@ -28,6 +38,7 @@ pub struct Slices {
 
 /// The slices as the library is lent them.
 pub struct Lent<'a> {
+    pub function: Function,
     pub session: &'a mut [u64],
     pub bus: &'a mut [u64],
     pub rows: &'a mut [u64],
@@ -38,22 +49,38 @@ pub struct Lent<'a> {
     pub lists: &'a mut [u64],
 }
 
-/// [`apply`], or what a test puts in its place.
+/// [`run_library`], or what a test puts in its place.
 pub type Library<'a> = &'a dyn Fn(&mut Lent<'_>) -> u64;
 
 /// The library's own function.
-pub fn apply(lent: &mut Lent<'_>) -> u64 {
-    let memory = Memory {
-        session: lent.session,
-        bus: lent.bus,
-        rows: lent.rows,
-        area: lent.area,
-    };
-    library::apply(memory, lent.call, lent.bytes, lent.out, lent.lists)
+pub fn run_library(lent: &mut Lent<'_>) -> u64 {
+    let (session, bus) = (&mut *lent.session, &mut *lent.bus);
+    let (rows, area) = (&mut *lent.rows, &mut *lent.area);
+    match lent.function {
+        Function::Apply => {
+            let memory = Memory {
+                session,
+                bus,
+                rows,
+                area,
+            };
+            library::apply(memory, lent.call, lent.bytes, lent.out, lent.lists)
+        }
+        Function::Read => {
+            let view = View {
+                session,
+                bus,
+                rows,
+                area,
+            };
+            library::read(view, lent.call, lent.bytes, lent.out)
+        }
+    }
 }
 
-/// Memory for the eight slices.
+/// Memory for the eight slices, and the function that is lent them.
 pub struct Lender {
+    function: Function,
     session: Guarded,
     bus: Guarded,
     rows: Guarded,
@@ -67,6 +94,7 @@ pub struct Lender {
 impl Default for Lender {
     fn default() -> Self {
         Self {
+            function: Function::Apply,
             session: Guarded::new(8 * MOST_SESSION),
             bus: Guarded::new(8 * MOST_BUS),
             rows: Guarded::new(8 * MOST_ROWS),
@@ -86,6 +114,7 @@ impl Lender {
             0 => Edge::Start,
             _ => Edge::End,
         };
+        self.function = slices.function;
         lend_words(&mut self.session, &slices.session, edge(0));
         lend_words(&mut self.bus, &slices.bus, edge(1));
         lend_words(&mut self.rows, &slices.rows, edge(2));
@@ -100,6 +129,7 @@ impl Lender {
     pub fn run(&mut self, library: Library<'_>, seed: u64, number: u64) -> u64 {
         announce(seed, number, &self.call);
         library(&mut Lent {
+            function: self.function,
             session: self.session.words_mut(),
             bus: self.bus.words_mut(),
             rows: self.rows.words_mut(),
@@ -113,6 +143,7 @@ impl Lender {
 
     /// Writes what stands in the slices now in place of what `slices` has.
     pub fn take(&self, slices: &mut Slices) {
+        slices.function = self.function;
         copy(&mut slices.session, self.session.words());
         copy(&mut slices.bus, self.bus.words());
         copy(&mut slices.rows, self.rows.words());

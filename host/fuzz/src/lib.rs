@@ -11,6 +11,7 @@ mod judge;
 mod lent;
 mod requests;
 mod tally;
+mod twin;
 
 use std::fmt::{self, Display, Formatter};
 
@@ -18,7 +19,7 @@ use seeded::Rng;
 use tapewoad::calls::{ANSWER_WORDS, Answer, BUS_WORDS, LIST_WORDS, ROW_WORDS, SESSION_WORDS};
 
 pub use guarded::tell_faults;
-pub use lent::{Lent, Library, Slices, apply};
+pub use lent::{Function, Lent, Library, Slices, run_library};
 pub use tally::Tally;
 
 use damage::Slice;
@@ -82,6 +83,7 @@ pub struct Failure {
 impl Display for Failure {
     fn fmt(&self, f: &mut Formatter<'_>) -> fmt::Result {
         let Slices {
+            function,
             session,
             bus,
             rows,
@@ -93,7 +95,7 @@ impl Display for Failure {
         } = &*self.slices;
         writeln!(
             f,
-            "seed {}, call {} ({:?}): {}",
+            "seed {}, call {} ({:?}, {function:?}): {}",
             self.seed, self.number, self.case, self.message
         )?;
         writeln!(
@@ -122,6 +124,8 @@ pub struct Fuzz<'a> {
     /// What the latest call was lent, and what it left.
     before: Slices,
     after: Slices,
+    /// What the call that is held against a reading left.
+    twin_after: Slices,
     pub tally: Tally,
 }
 
@@ -149,6 +153,7 @@ impl<'a> Fuzz<'a> {
             live,
             before: Slices::default(),
             after: Slices::default(),
+            twin_after: Slices::default(),
             tally: Tally::default(),
         }
     }
@@ -171,6 +176,7 @@ impl<'a> Fuzz<'a> {
             Some(name) => Err(format!("written beside `{name}`")),
             None => check::check(status, &self.before, &self.after, case.is_sound()),
         };
+        let checked = checked.and_then(|answer| self.hold_to_twin(answer, edges));
         let answer = checked.map_err(|message| {
             Box::new(Failure {
                 seed: self.seed,
@@ -180,22 +186,51 @@ impl<'a> Fuzz<'a> {
                 slices: Box::new(self.before.clone()),
             })
         })?;
-        self.tally.count(case, status, answer.as_ref());
-        self.lead_on(case, answer);
+        let function = self.before.function;
+        self.tally.count(case, function, status, answer.as_ref());
+        if function == Function::Apply {
+            self.lead_on(case, answer);
+        }
         Ok(())
     }
 
-    /// Sets `before` up: the live session and the next call, damaged as the case
-    /// says.
-    fn prepare(&mut self, case: Case) {
-        if case == Case::Good && self.next.call[0] == 0 {
+    /// Holds what was read against the answer of the call that may change things.
+    fn hold_to_twin(
+        &mut self,
+        answer: Option<Answer>,
+        edges: u8,
+    ) -> Result<Option<Answer>, String> {
+        let reads = self.before.function == Function::Read && answer.is_some();
+        if let Some(lent) = reads.then(|| twin::of(&self.before)).flatten() {
+            self.lender.lend(&lent, edges);
+            let number = self.tally.calls + 1;
+            self.lender.run(self.library, self.seed, number);
+            self.lender.take(&mut self.twin_after);
+            twin::check(&self.before.call, &self.after.out, &self.twin_after.out)?;
+        }
+        Ok(answer)
+    }
+
+    /// Sets `before` up: the live session, and a call that reads or the next one.
+    fn take_call(&mut self, case: Case) {
+        let read = self.rng.chance(25).then(|| self.host.read());
+        if read.is_none() && case == Case::Good && self.next.call[0] == 0 {
             self.size_store();
         }
-        let rng = &mut self.rng;
-        self.before.clone_from(&self.live);
         let it = &mut self.before;
-        it.call.clone_from(&self.next.call);
-        it.bytes.clone_from(&self.next.bytes);
+        it.clone_from(&self.live);
+        if read.is_some() {
+            it.function = Function::Read;
+        }
+        let words = read.as_ref().unwrap_or(&self.next);
+        it.call.clone_from(&words.call);
+        it.bytes.clone_from(&words.bytes);
+    }
+
+    /// Sets `before` up, damaged as the case says.
+    fn prepare(&mut self, case: Case) {
+        self.take_call(case);
+        let (rng, it) = (&mut self.rng, &mut self.before);
         match case {
             Case::Good => {}
             Case::OddCall => damage::odd(rng, &mut it.call),
@@ -208,7 +243,7 @@ impl<'a> Fuzz<'a> {
                 let length = rng.below(40);
                 it.call = damage::words(rng, length);
                 if let Some(number) = it.call.first_mut() {
-                    *number = rng.below(26) as u64;
+                    *number = rng.below(30) as u64;
                 }
             }
             Case::WrongSize => {

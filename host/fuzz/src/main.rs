@@ -2,7 +2,7 @@
 use std::process::ExitCode;
 use std::time::{Duration, Instant};
 
-use fuzz::{Fuzz, apply, tell_faults};
+use fuzz::{Fuzz, run_library, tell_faults};
 
 const USAGE: &str = "usage: fuzz SEED [--seconds N] [--calls N] [--at-least N]
   --seconds, --calls: where it stops, whichever comes first; 5 seconds without either
@@ -29,7 +29,7 @@ fn run() -> Result<(), String> {
     let options = options(std::env::args().skip(1))?;
     tell_faults();
     let (start, time) = (Instant::now(), Duration::from_secs(options.seconds));
-    let mut fuzz = Fuzz::new(options.seed, &apply);
+    let mut fuzz = Fuzz::new(options.seed, &run_library);
     while fuzz.tally.calls < options.calls && start.elapsed() < time {
         fuzz.step().map_err(|failure| failure.to_string())?;
     }

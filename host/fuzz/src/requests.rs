@@ -1,5 +1,5 @@
 //! The host's submissions, and its backend's replies.
-use tapewoad::calls::{Abort, Call, Completion, Plan, Submit};
+use tapewoad::calls::{Abort, Call, Completion, Plan, Question, Reading, Submit};
 use tapewoad::{ControlProfile, Direction, SetupPacket, TransferType};
 
 use crate::host::{ENDPOINTS, Host, Known, SLOTS, Words};
@@ -39,6 +39,23 @@ impl Host {
     }
 
     pub fn submit(&mut self) -> Words {
+        let readings = [self.reading(), self.reading()];
+        self.submit_of(readings, |submit| {
+            Words::from(&Call::SubmitRequestPackets(submit))
+        })
+    }
+
+    /// With no, one or both readings, as far as they come.
+    pub fn submit_wants(&mut self) -> Words {
+        let taken = self.rng.below(3);
+        let mut readings = [self.reading(), self.reading()];
+        readings[taken..].fill_with(|| Err(self.error()));
+        self.submit_of(readings, |submit| {
+            Words::from(&Question::SubmitWants(submit))
+        })
+    }
+
+    fn submit_of(&mut self, readings: [Reading; 2], make: impl Fn(Submit<'_>) -> Words) -> Words {
         let length = self.length();
         let control = self.rng.chance(20);
         let bare = self.rng.chance(3);
@@ -55,7 +72,7 @@ impl Host {
         let packets = [length as u64 / 2, length as u64 - length as u64 / 2];
         let given = transfer_type == TransferType::Isochronous && self.rng.chance(60);
         let slot = self.slot();
-        Words::from(&Call::SubmitRequestPackets(Submit {
+        make(Submit {
             device: self.device_id(slot),
             endpoint,
             transfer_type,
@@ -64,11 +81,25 @@ impl Host {
             setup,
             data: &data,
             packets: given.then_some(&packets),
-            readings: [self.reading(), self.reading()],
-        }))
+            readings,
+        })
     }
 
     pub fn plan(&mut self) -> Words {
+        let reading = self.reading();
+        self.plan_of(reading, |plan| Words::from(&Call::SubmitControlPlan(plan)))
+    }
+
+    /// With its reading, or without.
+    pub fn plan_wants(&mut self) -> Words {
+        let reading = match self.rng.chance(50) {
+            true => self.reading(),
+            false => Err(self.error()),
+        };
+        self.plan_of(reading, |plan| Words::from(&Question::PlanWants(plan)))
+    }
+
+    fn plan_of(&mut self, reading: Reading, make: impl Fn(Plan<'_>) -> Words) -> Words {
         let length = self.length().min(65_535);
         let setup = self.setup(length);
         let direction = direction(setup.request_type);
@@ -81,7 +112,7 @@ impl Host {
             _ => Direction::In,
         };
         let slot = self.slot();
-        Words::from(&Call::SubmitControlPlan(Plan {
+        let plan = Plan {
             device: self.device_id(slot),
             profile: self.rng.pick(&[
                 ControlProfile::Compliant,
@@ -91,8 +122,9 @@ impl Host {
             data_stage: (length > 0).then_some((direction, length as u64)),
             status_direction: self.rng.weighted(&[(9, Some(status)), (1, None)]),
             data: &data,
-            reading: self.reading(),
-        }))
+            reading,
+        };
+        make(plan)
     }
 
     pub fn submit_reply(&mut self) -> Words {

@@ -1,5 +1,5 @@
 //! The library is found right, and a wrapper that is wrong in one place is found.
-use fuzz::{Fuzz, Lent, Library, apply};
+use fuzz::{Function, Fuzz, Lent, Library, run_library};
 
 const CALLS: u64 = 25_000;
 
@@ -23,13 +23,14 @@ fn assert_found(library: Library<'_>, message: &str) {
 
 #[test]
 fn the_library_is_found_right_and_everything_is_met() {
-    let mut fuzz = Fuzz::new(1, &apply);
+    let mut fuzz = Fuzz::new(1, &run_library);
     for _ in 0..CALLS {
         fuzz.step().unwrap();
     }
     let tally = &fuzz.tally;
     assert_eq!(tally.calls, CALLS);
     assert!(tally.statuses.iter().all(|count| *count > 50), "{tally}");
+    assert!(tally.reads > CALLS / 5, "{tally}");
     assert_eq!(tally.cases.len(), 9, "{tally}");
     assert_eq!(fuzz.size_rounds(), 1);
     for number in [1, 2, 3, 31, 33, 41, 45, 46, 47, 48, 49] {
@@ -40,7 +41,7 @@ fn the_library_is_found_right_and_everything_is_met() {
 #[test]
 fn a_seed_repeats() {
     let tally = |seed| {
-        let mut fuzz = Fuzz::new(seed, &apply);
+        let mut fuzz = Fuzz::new(seed, &run_library);
         (0..2_000).for_each(|_| fuzz.step().unwrap());
         fuzz.tally.to_string()
     };
@@ -50,7 +51,7 @@ fn a_seed_repeats() {
 
 #[test]
 fn a_wrong_status_is_found() {
-    let other = |lent: &mut Lent<'_>| match apply(lent) {
+    let other = |lent: &mut Lent<'_>| match run_library(lent) {
         2 => 1,
         status => status,
     };
@@ -60,13 +61,23 @@ fn a_wrong_status_is_found() {
 /// Finds the library where `spoil` changes slices after a call of this status.
 fn assert_spoilt(status: u64, spoil: impl Fn(&mut Lent<'_>), message: &str) {
     let library = |lent: &mut Lent<'_>| {
-        let met = apply(lent);
+        let met = run_library(lent);
         if met == status {
             spoil(lent);
         }
         met
     };
     assert_found(&library, message);
+}
+
+/// Finds the library where `spoil` changes slices that were only read.
+fn assert_read_spoilt(spoil: impl Fn(&mut Lent<'_>), message: &str) {
+    let spoil = |lent: &mut Lent<'_>| {
+        if lent.function == Function::Read {
+            spoil(lent);
+        }
+    };
+    assert_spoilt(0, spoil, message);
 }
 
 /// The same after a refusal by this number.
@@ -96,7 +107,7 @@ fn words_past_the_answer_are_found() {
 
 #[test]
 fn what_is_no_answer_is_found() {
-    assert_spoilt(0, |lent| lent.out[0] += 11, "no answer");
+    assert_spoilt(0, |lent| lent.out[0] += 14, "no answer");
     let other = |lent: &mut Lent<'_>| {
         if lent.out[0] == 1 {
             lent.out[0] = 5;
@@ -119,6 +130,46 @@ fn a_refusal_that_changes_something_is_found() {
         lent.bus[2] ^= 1;
     };
     assert_refusal_spoilt(35, two_ports, "`bus` changed at [0");
+}
+
+#[test]
+fn a_change_by_the_function_that_reads_is_found() {
+    let message = "word 2 of `session` changed";
+    assert_read_spoilt(|lent| lent.session[2] += 1, message);
+    assert_read_spoilt(|lent| lent.bus[0] ^= 1, "`bus` changed at [0]");
+    assert_read_spoilt(|lent| lent.rows[0] ^= 1, "`rows` changed at [0]");
+    assert_read_spoilt(|lent| lent.area[0] ^= 1, "`area` changed at [0]");
+    assert_read_spoilt(|lent| lent.lists[0] ^= 1, "no list's changed");
+}
+
+/// Spoils the answers with this tag.
+fn assert_answer_spoilt(tag: u64, spoil: impl Fn(&mut [u64]), message: &str) {
+    let spoil = |lent: &mut Lent<'_>| {
+        if lent.out[0] == tag {
+            spoil(lent.out);
+        }
+    };
+    assert_read_spoilt(spoil, message);
+}
+
+#[test]
+fn a_wrong_answer_to_a_question_is_found() {
+    assert_answer_spoilt(7, |out| out[1] += 1, "where the call answers");
+    assert_answer_spoilt(11, |out| out[18] += 1, "which is not so");
+    assert_answer_spoilt(12, |out| out[1] += 40, "which is not so");
+    let other = |out: &mut [u64]| out[1..3].copy_from_slice(&[0, 0]);
+    assert_answer_spoilt(13, other, "where the call answers [0, 33");
+    let second = |out: &mut [u64]| out[1] += u64::from(out[1] == 1);
+    assert_answer_spoilt(13, second, "where the call answers [0, 33");
+}
+
+#[test]
+fn a_call_that_the_function_that_reads_takes_is_found() {
+    let takes = |lent: &mut Lent<'_>| match (lent.function, run_library(lent)) {
+        (Function::Read, 1) => 0,
+        (_, status) => status,
+    };
+    assert_found(&takes, "status 0, not 1");
 }
 
 #[test]

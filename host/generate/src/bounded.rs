@@ -99,7 +99,7 @@ impl Bounded {
         Answer {
             outcome,
             asked: Asked::Nothing,
-            reads: 0,
+            reads: Vec::new(),
             state: self.state,
             held: self.held,
             held_bytes: self.held_bytes,

@@ -212,7 +212,7 @@ impl Table {
         match number {
             5 => self.corner(self.no_room(rows)),
             7 => self.corner(format!("7 by {}", call.verb())),
-            31 | 33 | 34 => self.corner(format!("{number} after {} readings", answer.reads)),
+            31 | 33 | 34 => self.corner(format!("{number} after {} readings", answer.reads.len())),
             45 => self.corner(format!("45 by {}, category {category}", call.verb())),
             41 | 47 | 48 => self.corner(format!("{number} by {}", call.verb())),
             26 => self.marked(call),

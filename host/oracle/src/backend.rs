@@ -27,7 +27,8 @@ pub struct Exchange {
     pub recovery: Option<AbortReply>,
     pub readings: VecDeque<Reading>,
     pub asked: Asked,
-    pub reads: u32,
+    /// The ports that were read.
+    pub reads: Vec<u8>,
 }
 
 impl Default for Exchange {
@@ -40,7 +41,7 @@ impl Default for Exchange {
             recovery: None,
             readings: VecDeque::new(),
             asked: Asked::Nothing,
-            reads: 0,
+            reads: Vec::new(),
         }
     }
 }
@@ -119,9 +120,9 @@ impl DeviceBackend for Backend {
         unreachable!("the ports are the opening's")
     }
 
-    fn port_status(&self, _number: u8) -> Result<u32, OperationError> {
+    fn port_status(&self, number: u8) -> Result<u32, OperationError> {
         let mut exchange = self.0.borrow_mut();
-        exchange.reads += 1;
+        exchange.reads.push(number);
         let reading = exchange.readings.pop_front().expect(UNASKED);
         reading.map_err(reading_error)
     }

@@ -22,7 +22,8 @@ pub struct Exchange {
     pub recovery: Option<AbortReply>,
     pub readings: VecDeque<Reading>,
     pub asked: Asked,
-    pub reads: u32,
+    /// The ports that were read.
+    pub reads: Vec<u8>,
 }
 
 impl Default for Exchange {
@@ -36,7 +37,7 @@ impl Default for Exchange {
             recovery: None,
             readings: VecDeque::new(),
             asked: Asked::Nothing,
-            reads: 0,
+            reads: Vec::new(),
         }
     }
 }
@@ -125,9 +126,9 @@ impl tapewoad::Backend for Backend {
         self.0.borrow_mut().fresh.take()
     }
 
-    fn port_status(&self, _number: u8) -> Result<u32, OperationError> {
+    fn port_status(&self, number: u8) -> Result<u32, OperationError> {
         let mut exchange = self.0.borrow_mut();
-        exchange.reads += 1;
+        exchange.reads.push(number);
         let reading = exchange.readings.pop_front().expect(UNASKED);
         reading.map_err(error)
     }

@@ -4,14 +4,17 @@ mod recovery;
 use std::mem;
 
 use script::{Answer, Asked, Bytes, Call, Completion, Open, Outcome, Plan, Row, RowState, Side};
-use tapewoad::calls::{self, State, Store};
+use tapewoad::ErrorCategory;
+use tapewoad::calls::{self, Question, Reading, State, Store};
 
-use crate::reads::Submission;
 use crate::{NOT_OPEN, WHOLE, answered, convert, dump, force, memory, number, unexpected};
 use recovery::Submitted;
 
-/// What a call gave, what reached the backend, and how many readings were taken.
-type Told = Result<(Outcome, Asked, u32), String>;
+/// What a call gave, what reached the backend, and which ports were read.
+type Told = Result<(Outcome, Asked, Vec<u8>), String>;
+
+/// A reading that was not taken.
+const UNREAD: Reading = Err(calls::Error::new(ErrorCategory::Validation, 0));
 
 /// The port, by its own calls.
 pub struct Port {
@@ -20,8 +23,6 @@ pub struct Port {
     size: (u64, u64),
     next_size: (u64, u64),
     is_open: bool,
-    /// The port number of each slot's device.
-    port_numbers: [u8; 256],
     submitted: Submitted,
 }
 
@@ -32,7 +33,6 @@ impl Default for Port {
             size: WHOLE,
             next_size: WHOLE,
             is_open: false,
-            port_numbers: [0; 256],
             submitted: Submitted::default(),
         }
     }
@@ -57,7 +57,7 @@ impl Side for Port {
             outcome,
             asked,
             reads,
-            state: convert::controller_state(self.store.state()),
+            state: convert::controller_state(self.store.status().state),
             held,
             held_bytes,
         })
@@ -106,7 +106,7 @@ impl Port {
                 Ok(Outcome::Done)
             }
         };
-        Ok((outcome?, Asked::Nothing, 0))
+        Ok((outcome?, Asked::Nothing, Vec::new()))
     }
 
     /// A store of another size is taken only if the port opens it.
@@ -137,10 +137,8 @@ impl Port {
     fn set(&mut self, call: &Call) -> Result<Outcome, String> {
         match call {
             Call::Device { id, port, state } => {
-                self.port_numbers[usize::from(id.slot)] = port.number;
-                self.made(&calls::Call::SetDevice(convert::to_snapshot(
-                    *id, *port, *state,
-                )))
+                let device = convert::to_snapshot(*id, *port, *state);
+                self.made(&calls::Call::SetDevice(device))
             }
             Call::Port {
                 number,
@@ -194,14 +192,28 @@ impl Port {
     }
 
     fn completed(&mut self, report: &calls::Report) -> Result<Option<Bytes>, String> {
-        let bytes = self.store.completed_bytes(report.id);
-        data(report, bytes.map(<[u8]>::to_vec))
+        let bytes = self.completed_bytes(report.id)?;
+        data(report, bytes)
+    }
+
+    fn completed_bytes(
+        &mut self,
+        id: tapewoad::RequestId,
+    ) -> Result<Result<Vec<u8>, calls::Refusal>, String> {
+        let call = calls::Call::CompletedBytes(id);
+        match answered(&mut self.store, &call)? {
+            calls::Answer::Bytes { start, length } => {
+                Ok(Ok(self.store.bytes(start, length).to_vec()))
+            }
+            calls::Answer::Refused(refusal) => Ok(Err(refusal)),
+            answer => Err(unexpected(&call, &answer)),
+        }
     }
 
     /// The bytes are asked for while the request is there.
     fn reclaim(&mut self, id: script::RequestId) -> Result<Outcome, String> {
         let id = convert::to_request_id(id);
-        let bytes = self.store.completed_bytes(id).map(<[u8]>::to_vec);
+        let bytes = self.completed_bytes(id)?;
         let call = calls::Call::ReclaimRequest(id);
         match answered(&mut self.store, &call)? {
             calls::Answer::Report(report) => {
@@ -236,13 +248,13 @@ impl Port {
 
     fn submit(&mut self, submit: &script::Submit) -> Told {
         let data = submit.data.to_bytes();
-        let call = calls::Call::SubmitRequestPackets(convert::to_submit(submit, &data));
-        let control = submit.transfer_type == script::TransferType::Control;
-        let readings = &submit.readings[..if control { 1 } else { 2 }];
+        let given = convert::to_submit(submit, &data);
+        let reads = self.reads(given.readings, |readings| {
+            Question::SubmitWants(calls::Submit { readings, ..given })
+        })?;
         self.begin(
-            &call,
-            submit.device.slot,
-            readings,
+            &calls::Call::SubmitRequestPackets(given),
+            reads,
             submit.reply,
             |store, answer| match answer {
                 calls::Answer::Begun { begun, packets } => Some(Asked::Submit {
@@ -256,11 +268,13 @@ impl Port {
 
     fn plan(&mut self, plan: &Plan) -> Told {
         let data = plan.data.to_bytes();
-        let call = calls::Call::SubmitControlPlan(convert::to_plan(plan, &data));
+        let given = convert::to_plan(plan, &data);
+        let reads = self.reads([given.reading], |[reading]| {
+            Question::PlanWants(calls::Plan { reading, ..given })
+        })?;
         self.begin(
-            &call,
-            plan.device.slot,
-            &[plan.reading],
+            &calls::Call::SubmitControlPlan(given),
+            reads,
             plan.reply,
             |store, answer| match answer {
                 calls::Answer::PlanBegun { begun, stages } => Some(Asked::Plan {
@@ -281,43 +295,53 @@ impl Port {
     fn begin(
         &mut self,
         call: &calls::Call<'_>,
-        slot: u8,
-        readings: &[script::Reading],
+        reads: Vec<u8>,
         reply: Result<u64, script::Error>,
         asked: impl Fn(&Store, &calls::Answer) -> Option<Asked>,
     ) -> Told {
-        let port = self.port_numbers[usize::from(slot)];
-        let before = self.store.port(port);
         let answer = answered(&mut self.store, call)?;
-        let submission = Submission {
-            readings,
-            before,
-            after: self.store.port(port),
-        };
         if let Some(asked) = asked(&self.store, &answer) {
             let reply = calls::Call::SubmitReply(reply.map_err(convert::to_error));
-            return Ok((self.made(&reply)?, asked, submission.reads(None)));
+            return Ok((self.made(&reply)?, asked, reads));
         }
-        let calls::Answer::Refused(calls::Refusal { number, .. }) = answer else {
-            return Err(unexpected(call, &answer));
-        };
-        let outcome = self.outcome(call, answer)?;
-        let reads = submission.reads(Some(number));
-        Ok((outcome, Asked::Nothing, reads))
+        Ok((self.outcome(call, answer)?, Asked::Nothing, reads))
+    }
+
+    /// The ports that a submission with these readings reads, in order: it is told
+    /// a reading only when it wants it.
+    fn reads<'a, const N: usize>(
+        &self,
+        readings: [Reading; N],
+        wants: impl Fn([Reading; N]) -> Question<'a>,
+    ) -> Result<Vec<u8>, String> {
+        let (mut taken, mut ports) = ([UNREAD; N], Vec::new());
+        for _ in 0..N {
+            let wanted = match self.store.try_ask(&wants(taken)) {
+                Ok(calls::Answer::Wants(Some(wanted))) => wanted,
+                Ok(calls::Answer::Wants(None)) => break,
+                answer => return Err(format!("the port wants {answer:?}")),
+            };
+            taken[wanted.reading] = readings[wanted.reading];
+            ports.push(wanted.port);
+            if taken[wanted.reading].is_err() {
+                break;
+            }
+        }
+        Ok(ports)
     }
 
     fn poll(&mut self, id: script::RequestId, reply: &script::PollReply) -> Told {
         let call = calls::Call::PollRequest(convert::to_request_id(id));
         let answer = answered(&mut self.store, &call)?;
         let calls::Answer::Ask { token } = answer else {
-            return Ok((self.outcome(&call, answer)?, Asked::Nothing, 0));
+            return Ok((self.outcome(&call, answer)?, Asked::Nothing, Vec::new()));
         };
         let outcome = match reply {
             Ok(None) => self.made(&calls::Call::PollReply(Ok(None))),
             Ok(Some(done)) => self.complete(done),
             Err(error) => self.made(&calls::Call::PollReply(Err(convert::to_error(*error)))),
         };
-        Ok((outcome?, Asked::Poll { token }, 0))
+        Ok((outcome?, Asked::Poll { token }, Vec::new()))
     }
 
     fn complete(&mut self, done: &Completion) -> Result<Outcome, String> {

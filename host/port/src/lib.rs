@@ -6,7 +6,6 @@
 mod backend;
 mod calls;
 pub mod convert;
-mod reads;
 mod session;
 
 pub use calls::Port;
@@ -17,21 +16,22 @@ use tapewoad::calls::{Answer, Call, Store};
 
 const NOT_OPEN: &str = "no session is open: the first call must be `open`";
 
-/// What no report shows, from the session's and the bus's words.
+/// What no report shows, from the session's status and the bus's words.
 fn dump(store: &mut Store) -> Result<Dump, String> {
-    let stall = store.recoverable_stall();
+    let status = store.status();
+    let stall = status.recoverable_stall;
     Ok(Dump {
-        session: store.identity(),
-        next: store.next_sequence(),
-        revision: store.recovery_revision(),
-        stall: stall.map(|(revision, device, ep)| (revision, convert::device_id(device), ep)),
+        session: status.session,
+        next: status.next_sequence,
+        revision: status.recovery_revision,
+        stall: stall.map(|it| (it.revision, convert::device_id(it.device), it.endpoint)),
         rows: number(store, &Call::CountReports)?,
         ports: ports(store),
     })
 }
 
 fn ports(store: &Store) -> Option<Ports> {
-    let (session, count) = store.ports()?;
+    let (session, count) = store.status().ports?;
     let row = |(generation, reading)| PortRow {
         generation,
         reading,

@@ -5,8 +5,8 @@ use crate::values::*;
 pub struct Answer {
     pub outcome: Outcome,
     pub asked: Asked,
-    /// Port readings taken.
-    pub reads: u32,
+    /// The ports that were read, in order.
+    pub reads: Vec<u8>,
     pub state: ControllerState,
     pub held: u64,
     pub held_bytes: u64,

@@ -212,7 +212,7 @@ impl Display for Answer {
             "{} | backend {} reads={} | {} held={} bytes={}",
             self.outcome,
             self.asked,
-            self.reads,
+            self.reads.len(),
             self.state.name(),
             self.held,
             self.held_bytes

@@ -23,8 +23,7 @@ use crate::models::{
 /// * A poll: as if nothing came. The request stays Pending.
 /// * An abort or reset: as if it failed. Every request stays as it is, and the
 ///   controller is RecoveryRequired.
-/// * Any other: as if the call had not been made, but for the first of two
-///   readings of a port.
+/// * Any other: as if the call had not been made.
 pub trait Backend {
     /// Takes the controller. Asked only while Closed.
     ///

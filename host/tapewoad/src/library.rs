@@ -13,9 +13,22 @@ pub struct Memory<'a> {
     pub area: &'a mut [u8],
 }
 
+/// The same memory, lent to be read.
+#[derive(Clone, Copy)]
+pub struct View<'a> {
+    /// As in [`Memory`].
+    pub session: &'a [u64],
+    /// As in [`Memory`].
+    pub bus: &'a [u64],
+    /// As in [`Memory`].
+    pub rows: &'a [u64],
+    /// As in [`Memory`].
+    pub area: &'a [u8],
+}
+
 // SAFETY: these are the functions that crates/tapewoad exports, as
-// include/tapewoad.h declares them: eight slices, each a pointer and a length,
-// and a status back (docs/CALLS.md); and a number.
+// include/tapewoad.h declares them: eight or seven slices, each a pointer and a
+// length, and a status back (docs/CALLS.md); and a number.
 unsafe extern "C" {
     fn tapewoad_apply(
         session: *mut u64,
@@ -34,6 +47,22 @@ unsafe extern "C" {
         out_len: usize,
         lists: *mut u64,
         lists_len: usize,
+    ) -> u64;
+    fn tapewoad_read(
+        session: *const u64,
+        session_len: usize,
+        bus: *const u64,
+        bus_len: usize,
+        rows: *const u64,
+        rows_len: usize,
+        area: *const u8,
+        area_len: usize,
+        call: *const u64,
+        call_len: usize,
+        bytes: *const u8,
+        bytes_len: usize,
+        out: *mut u64,
+        out_len: usize,
     ) -> u64;
     fn tapewoad_version() -> u64;
 }
@@ -86,6 +115,39 @@ pub fn apply(
             out.len(),
             lists.as_mut_ptr(),
             lists.len(),
+        )
+    }
+}
+
+/// Answers a report or a question in the words of docs/CALLS.md and gives the
+/// status: as [`apply`], but any other call is 1, and nothing but `out` changes.
+///
+/// Slices of any length and content are taken.
+pub fn read(view: View<'_>, call: &[u64], bytes: &[u8], out: &mut [u64]) -> u64 {
+    let View {
+        session,
+        bus,
+        rows,
+        area,
+    } = view;
+    // SAFETY: as in `apply`; only `out` is written, which is `&mut` and overlaps
+    // no other.
+    unsafe {
+        tapewoad_read(
+            session.as_ptr(),
+            session.len(),
+            bus.as_ptr(),
+            bus.len(),
+            rows.as_ptr(),
+            rows.len(),
+            area.as_ptr(),
+            area.len(),
+            call.as_ptr(),
+            call.len(),
+            bytes.as_ptr(),
+            bytes.len(),
+            out.as_mut_ptr(),
+            out.len(),
         )
     }
 }

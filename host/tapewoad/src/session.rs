@@ -2,15 +2,14 @@
 mod in_flight;
 mod recovery;
 
-use std::cell::{Ref, RefCell};
 use std::fmt::{self, Debug, Formatter};
 
 use crate::backend::Backend;
-use crate::calls::{self, Answer, Begun, Call, Plan, Reading, Store, Submit, unexpected};
+use crate::calls::{self, Answer, Begun, Call, Plan, Question, Reading, Store, Submit, unexpected};
 use crate::models::{
     BackendCompletion, ControlPlan, ControllerState, DeviceSnapshot, Endpoint, Opening,
     OwnedRequest, RequestId, RequestMetadata, RequestReport, RequestSpec, RequestState,
-    ValidatedControlPlan,
+    TransferType, ValidatedControlPlan,
 };
 use crate::refusal::{Messages, Refusal, UNREAD};
 use in_flight::{InFlight, Operation};
@@ -33,11 +32,8 @@ pub use in_flight::PANICKED_TOKEN;
 /// dropped before a close passed: what the device may still touch must stay.
 pub struct UsbSession<B: Backend> {
     backend: Option<B>,
-    /// Reports need the library too, which takes every call by `&mut`.
-    store: RefCell<Store>,
+    store: Store,
     messages: Messages,
-    /// The port number of each slot's device.
-    port_numbers: [u8; 256],
 }
 
 impl<B: Backend> UsbSession<B> {
@@ -72,20 +68,19 @@ impl<B: Backend> UsbSession<B> {
         }
         Ok(Self {
             backend: Some(backend),
-            store: RefCell::new(store),
+            store,
             messages,
-            port_numbers: [0; 256],
         })
     }
 
     /// The session number of the ledger.
     pub fn identity(&self) -> u64 {
-        self.store.borrow().identity()
+        self.store.status().session
     }
 
     /// Where the controller is in its life.
     pub fn state(&self) -> ControllerState {
-        self.store.borrow().state()
+        self.store.status().state
     }
 
     /// The backend.
@@ -98,17 +93,16 @@ impl<B: Backend> UsbSession<B> {
         self.backend.as_mut().expect(TAKEN_BY_DROP)
     }
 
-    /// The memory beneath: the session's words, ports and bytes. While it is
-    /// borrowed, reports and counts panic: the library takes it for change.
-    pub fn store(&self) -> Ref<'_, Store> {
-        self.store.borrow()
+    /// The memory beneath: the session's status, ports and bytes.
+    pub fn store(&self) -> &Store {
+        &self.store
     }
 
     /// The memory beneath, for calls of the lower layer. What is begun by these
     /// must be ended by these: until then the session's own calls but reports are
     /// refused (1).
     pub fn store_mut(&mut self) -> &mut Store {
-        self.store.get_mut()
+        &mut self.store
     }
 
     /// Places a device, in place of its slot's.
@@ -116,9 +110,7 @@ impl<B: Backend> UsbSession<B> {
     /// # Errors
     /// None of its own.
     pub fn set_device(&mut self, device: DeviceSnapshot) -> Result<(), Refusal> {
-        self.done(&Call::SetDevice(device))?;
-        self.port_numbers[usize::from(device.id.slot)] = device.port.number;
-        Ok(())
+        self.done(&Call::SetDevice(device))
     }
 
     /// Places a port's generation and last reading.
@@ -219,20 +211,24 @@ impl<B: Backend> UsbSession<B> {
         let lengths: Option<Vec<u64>> = packets
             .as_ref()
             .map(|list| list.iter().map(|length| *length as u64).collect());
-        let answer = self.submit(spec.device.slot, |readings| {
-            Call::SubmitRequestPackets(Submit {
-                device: spec.device,
-                endpoint: spec.endpoint,
-                transfer_type: spec.transfer_type,
-                direction: spec.direction,
-                length: spec.length as u64,
-                setup: spec.setup,
-                data: &spec.data,
-                packets: lengths.as_deref(),
-                readings,
-            })
-        });
-        let begun = match answer {
+        let submit = |readings| Submit {
+            device: spec.device,
+            endpoint: spec.endpoint,
+            transfer_type: spec.transfer_type,
+            direction: spec.direction,
+            length: spec.length as u64,
+            setup: spec.setup,
+            data: &spec.data,
+            packets: lengths.as_deref(),
+            readings,
+        };
+        let most = match spec.transfer_type {
+            TransferType::Control => 1,
+            _ => 2,
+        };
+        let readings = self.readings(most, |it| Question::SubmitWants(submit(it)));
+        let call = Call::SubmitRequestPackets(submit(readings));
+        let begun = match self.store.apply(&call) {
             Answer::Begun { begun, .. } => begun,
             Answer::Refused(refusal) => return Err(self.messages.refusal(refusal)),
             answer => unexpected(answer),
@@ -255,18 +251,18 @@ impl<B: Backend> UsbSession<B> {
     /// (26 to 35) and the sequence numbers (39); the backend's error is 45, and 33
     /// where it is of a port's reading.
     pub fn submit_control_plan(&mut self, plan: ControlPlan) -> Result<RequestReport, Refusal> {
-        let answer = self.submit(plan.device.slot, |[reading, _]| {
-            Call::SubmitControlPlan(Plan {
-                device: plan.device,
-                profile: plan.profile,
-                setup: plan.setup,
-                data_stage: plan.data_stage.map(|it| (it.direction, it.length as u64)),
-                status_direction: plan.status_direction,
-                data: &plan.data,
-                reading,
-            })
-        });
-        let (begun, stages) = match answer {
+        let submit = |reading| Plan {
+            device: plan.device,
+            profile: plan.profile,
+            setup: plan.setup,
+            data_stage: plan.data_stage.map(|it| (it.direction, it.length as u64)),
+            status_direction: plan.status_direction,
+            data: &plan.data,
+            reading,
+        };
+        let [reading, _] = self.readings(1, |[it, _]| Question::PlanWants(submit(it)));
+        let call = Call::SubmitControlPlan(submit(reading));
+        let (begun, stages) = match self.store.apply(&call) {
             Answer::PlanBegun { begun, stages } => (begun, stages),
             Answer::Refused(refusal) => return Err(self.messages.refusal(refusal)),
             answer => unexpected(answer),
@@ -292,20 +288,20 @@ impl<B: Backend> UsbSession<B> {
     /// 40 for an unknown request; 28 for a Pending one where the controller is not
     /// Initialized; the backend's error (45).
     pub fn poll_request(&mut self, id: RequestId) -> Result<RequestReport, Refusal> {
-        let answer = self.store.get_mut().apply(&Call::PollRequest(id));
+        let answer = self.store.apply(&Call::PollRequest(id));
         let Answer::Ask { token } = answer else {
             return self.reported(answer);
         };
         let reply = self.ask(Operation::Poll, |backend| backend.poll_request(token));
         let answer = match reply {
-            Ok(None) => self.store.get_mut().apply(&Call::PollReply(Ok(None))),
+            Ok(None) => self.store.apply(&Call::PollReply(Ok(None))),
             Ok(Some(done)) => {
                 let reply = Ok(Some(completion(&mut self.messages, &done)));
-                self.store.get_mut().apply(&Call::PollReply(reply))
+                self.store.apply(&Call::PollReply(reply))
             }
             Err(error) => {
                 let reply = Err(self.messages.numbered(&error));
-                self.store.get_mut().apply(&Call::PollReply(reply))
+                self.store.apply(&Call::PollReply(reply))
             }
         };
         self.reported(answer)
@@ -316,7 +312,7 @@ impl<B: Backend> UsbSession<B> {
     /// # Errors
     /// 40 for an unknown request, 41 for one that is not Pending.
     pub fn logical_cancel_request(&mut self, id: RequestId) -> Result<RequestReport, Refusal> {
-        let answer = self.store.get_mut().apply(&Call::LogicalCancelRequest(id));
+        let answer = self.store.apply(&Call::LogicalCancelRequest(id));
         self.reported(answer)
     }
 
@@ -325,7 +321,7 @@ impl<B: Backend> UsbSession<B> {
     /// # Errors
     /// 40 for an unknown request, 41 for one that is not Pending.
     pub fn timeout_request(&mut self, id: RequestId) -> Result<RequestReport, Refusal> {
-        let answer = self.store.get_mut().apply(&Call::TimeoutRequest(id));
+        let answer = self.store.apply(&Call::TimeoutRequest(id));
         self.reported(answer)
     }
 
@@ -334,9 +330,10 @@ impl<B: Backend> UsbSession<B> {
     /// # Errors
     /// 40 for an unknown request, 42 for one that is held.
     pub fn reclaim_request(&mut self, id: RequestId) -> Result<RequestReport, Refusal> {
-        let report = self.request_status(id)?;
-        match self.store.get_mut().apply(&Call::ReclaimRequest(id)) {
-            Answer::Report(_) => Ok(report),
+        // Its bytes are taken while it is there.
+        let bytes = self.completed_bytes(id);
+        match self.store.apply(&Call::ReclaimRequest(id)) {
+            Answer::Report(report) => Ok(self.report(&report, || bytes)),
             Answer::Refused(refusal) => Err(self.messages.refusal(refusal)),
             answer => unexpected(answer),
         }
@@ -347,7 +344,7 @@ impl<B: Backend> UsbSession<B> {
     /// # Errors
     /// 40 for an unknown one.
     pub fn request_status(&self, id: RequestId) -> Result<RequestReport, Refusal> {
-        let answer = self.store.borrow_mut().apply(&Call::RequestStatus(id));
+        let answer = self.store.read(&Call::RequestStatus(id));
         self.reported(answer)
     }
 
@@ -356,16 +353,21 @@ impl<B: Backend> UsbSession<B> {
     /// # Errors
     /// None of its own.
     pub fn request_reports(&self) -> Result<Vec<RequestReport>, Refusal> {
-        let mut reports: Vec<RequestReport> = Vec::new();
+        let (mut reports, mut next) = (Vec::new(), 0);
         loop {
-            let after = reports.last().map(|report| report.id);
-            let call = Call::RequestReports { after };
-            let answer = self.store.borrow_mut().apply(&call);
-            if answer == Answer::NoReport {
-                return Ok(reports);
+            match self.store.ask(&Question::ReportFrom { place: next }) {
+                Answer::ReportAt { place, report } => {
+                    next = place + 1;
+                    let bytes = || Ok(self.store.completed_at(place, &report).to_vec());
+                    reports.push(self.report(&report, bytes));
+                }
+                Answer::NoReport => break,
+                Answer::Refused(refusal) => return Err(self.messages.refusal(refusal)),
+                answer => unexpected(answer),
             }
-            reports.push(self.reported(answer)?);
         }
+        reports.sort_unstable_by_key(|report| report.id);
+        Ok(reports)
     }
 
     /// How many requests are held.
@@ -379,46 +381,48 @@ impl<B: Backend> UsbSession<B> {
     }
 
     fn number(&self, call: &Call<'_>) -> u64 {
-        match self.store.borrow_mut().apply(call) {
+        match self.store.read(call) {
             Answer::Number(number) => number,
             answer => unexpected(answer),
         }
     }
 
     fn done(&mut self, call: &Call<'_>) -> Result<(), Refusal> {
-        match self.store.get_mut().apply(call) {
+        match self.store.apply(call) {
             Answer::Passed => Ok(()),
             Answer::Refused(refusal) => Err(self.messages.refusal(refusal)),
             answer => unexpected(answer),
         }
     }
 
-    /// Begins a submission. The port is read only where the library wants a
-    /// reading, as the original reads it: one that is not there yet is given as
-    /// failed, which the library refuses (33), having written no more than the
-    /// readings before it; these it takes again as they are.
-    fn submit<'a>(&mut self, slot: u8, call: impl Fn([Reading; 2]) -> Call<'a>) -> Answer {
+    /// Reads a submission's port, so often at most, where the library wants it, as
+    /// the original does: each time only where every check before passes.
+    fn readings<'a>(
+        &mut self,
+        most: usize,
+        wants: impl Fn([Reading; 2]) -> Question<'a>,
+    ) -> [Reading; 2] {
         let mut readings = [Err(UNREAD); 2];
-        for taken in 0..2 {
-            let answer = self.store.get_mut().apply(&call(readings));
-            let wanted = matches!(answer, Answer::Refused(refusal) if refusal.number == 33);
-            if !wanted {
-                return answer;
-            }
-            let number = self.port_numbers[usize::from(slot)];
-            let status = self.backend_mut().port_status(number);
-            readings[taken] = status.map_err(|error| self.messages.numbered(&error));
-            if readings[taken].is_err() {
+        for _ in 0..most {
+            let wanted = match self.store.ask(&wants(readings)) {
+                Answer::Wants(Some(wanted)) => wanted,
+                Answer::Wants(None) => break,
+                answer => unexpected(answer),
+            };
+            let status = self.backend().port_status(wanted.port);
+            let reading = status.map_err(|error| self.messages.numbered(&error));
+            readings[wanted.reading] = reading;
+            if reading.is_err() {
                 break;
             }
         }
-        self.store.get_mut().apply(&call(readings))
+        readings
     }
 
     /// Asks the backend about what is in flight, which ends even if it panics.
     fn ask<R>(&mut self, operation: Operation, ask: impl FnOnce(&mut B) -> R) -> R {
         let in_flight = InFlight {
-            store: self.store.get_mut(),
+            store: &mut self.store,
             messages: &mut self.messages,
             operation,
         };
@@ -428,7 +432,7 @@ impl<B: Backend> UsbSession<B> {
     }
 
     fn buffer(&mut self, begun: &Begun) -> Vec<u8> {
-        self.store.get_mut().buffer(begun).to_vec()
+        self.store.buffer(begun).to_vec()
     }
 
     fn submit_reply(
@@ -436,27 +440,31 @@ impl<B: Backend> UsbSession<B> {
         reply: Result<u64, crate::OperationError>,
     ) -> Result<RequestReport, Refusal> {
         let reply = reply.map_err(|error| self.messages.numbered(&error));
-        let answer = self.store.get_mut().apply(&Call::SubmitReply(reply));
+        let answer = self.store.apply(&Call::SubmitReply(reply));
         self.reported(answer)
     }
 
     fn reported(&self, answer: Answer) -> Result<RequestReport, Refusal> {
         match answer {
-            Answer::Report(report) => Ok(self.report(&report)),
+            Answer::Report(report) => Ok(self.report(&report, || self.completed_bytes(report.id))),
             Answer::Refused(refusal) => Err(self.messages.refusal(refusal)),
             answer => unexpected(answer),
         }
     }
 
-    fn report(&self, report: &calls::Report) -> RequestReport {
+    fn completed_bytes(&self, id: RequestId) -> Result<Vec<u8>, calls::Refusal> {
+        self.store.completed_bytes(id).map(<[u8]>::to_vec)
+    }
+
+    /// A report; `bytes` are its request's, where it is Completed.
+    fn report(
+        &self,
+        report: &calls::Report,
+        bytes: impl FnOnce() -> Result<Vec<u8>, calls::Refusal>,
+    ) -> RequestReport {
         let state = self.request_state(report.state);
         let completed = matches!(state, RequestState::Completed { .. });
-        let data = completed.then(
-            || match self.store.borrow_mut().completed_bytes(report.id) {
-                Ok(bytes) => bytes.to_vec(),
-                Err(refusal) => unexpected(refusal),
-            },
-        );
+        let data = completed.then(|| bytes().unwrap_or_else(|refusal| unexpected(refusal)));
         RequestReport {
             id: report.id,
             metadata: metadata(&report.metadata),
@@ -529,14 +537,15 @@ fn metadata(metadata: &calls::Metadata) -> RequestMetadata {
 impl<B: Backend> Debug for UsbSession<B> {
     fn fmt(&self, f: &mut Formatter<'_>) -> fmt::Result {
         let mut shown = f.debug_struct("UsbSession");
-        shown.field("store", &*self.store.borrow());
+        shown.field("store", &self.store);
         shown.finish_non_exhaustive()
     }
 }
 
 impl<B: Backend> Drop for UsbSession<B> {
     fn drop(&mut self) {
-        if self.state() != ControllerState::Closed {
+        let status = self.store.try_status();
+        if !status.is_ok_and(|status| status.state == ControllerState::Closed) {
             std::mem::forget(self.backend.take());
         }
     }

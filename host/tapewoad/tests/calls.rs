@@ -124,9 +124,12 @@ fn a_failed_submission_frees_its_row_and_spends_its_number() {
     let answer = store.apply(&Call::SubmitReply(Err(ERROR)));
     let refused = Refusal::new(45, ERROR);
     assert_eq!(answer, Answer::Refused(refused));
-    assert_eq!(store.state(), ControllerState::RecoveryRequired);
-    assert_eq!(store.recovery_revision(), Some(1));
-    assert_eq!(store.next_sequence(), 1);
+    let status = store.status();
+    assert_eq!(status.state, ControllerState::RecoveryRequired);
+    assert_eq!(
+        (status.recovery_revision, status.next_sequence),
+        (Some(1), 1)
+    );
     assert_eq!(store.apply(&Call::HeldCount), Answer::Number(0));
 }
 
@@ -136,8 +139,9 @@ fn an_opening_ends_what_is_in_flight() {
     store.apply(&submit());
     assert_eq!(store.open(Opening::new(5, None)), Answer::Passed);
     assert_eq!(store.apply(&Call::HeldCount), Answer::Number(0));
-    assert_eq!(store.identity(), 5);
-    assert_eq!(store.ports(), None);
+    let status = store.status();
+    assert_eq!((status.session, status.ports), (5, None));
+    assert_eq!(status.in_flight, None);
     assert_eq!(refusal(store.apply(&Call::SubmitReply(Ok(1)))), 2);
 }
 

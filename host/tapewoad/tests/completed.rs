@@ -6,7 +6,7 @@ use common::store::{completion, ready, refusal, submit};
 use tapewoad::calls::*;
 use tapewoad::library::{self, Memory};
 
-fn number(store: &mut Store, sequence: u64) -> u16 {
+fn number(store: &Store, sequence: u64) -> u16 {
     let bytes = store.completed_bytes(id(sequence)).map(<[u8]>::to_vec);
     bytes.unwrap_err().number
 }
@@ -14,17 +14,17 @@ fn number(store: &mut Store, sequence: u64) -> u16 {
 #[test]
 fn bytes_of_what_has_no_report_are_refused() {
     let mut store = ready();
-    assert_eq!(number(&mut store, 0), 40);
+    assert_eq!(number(&store, 0), 40);
     store.apply(&submit());
     // Its id has no report before the reply.
-    assert_eq!(number(&mut store, 0), 40);
+    assert_eq!(number(&store, 0), 40);
     store.apply(&Call::SubmitReply(Ok(7)));
     assert_eq!(store.completed_bytes(id(0)).unwrap(), []);
     store.apply(&Call::PollRequest(id(0)));
     store.apply(&completion(&[7, 8]));
     assert_eq!(store.completed_bytes(id(0)).unwrap(), [7, 8]);
     store.apply(&Call::ReclaimRequest(id(0)));
-    assert_eq!(number(&mut store, 0), 40);
+    assert_eq!(number(&store, 0), 40);
     assert_eq!(refusal(store.apply(&Call::CompletedBytes(id(1)))), 40);
 }
 

@@ -109,13 +109,19 @@ fn plans_and_packets_reach_the_backend() {
 
 #[test]
 fn ports_are_read_when_the_original_reads_them() {
-    let mut usb = ready(2, 64);
+    let mut usb = ready(4, 64);
     // Refused before any reading.
     let wrong = usb
         .submit_request(bulk(Direction::Out, &[1], 2))
         .unwrap_err();
     assert_eq!(wrong.number, 17);
     assert_eq!(asked(&usb), Vec::<String>::new());
+    // A control transfer reads once, any other twice.
+    usb.backend_mut().tokens = [Ok(1), Ok(2)].into();
+    usb.submit_request(get_status()).unwrap();
+    assert_eq!(asked(&usb), ["port 1", "submit [0, 0]"]);
+    usb.submit_request(bulk(Direction::In, &[], 1)).unwrap();
+    assert_eq!(asked(&usb), ["port 1", "port 1", "submit [0]"]);
     // The second reading fails.
     let error = controller_error("port gone");
     usb.backend_mut().readings = RefCell::new([Ok(WORD), Err(error.clone())].into());
@@ -130,6 +136,34 @@ fn ports_are_read_when_the_original_reads_them() {
         assert_eq!(asked(&usb), expected);
     }
     assert_eq!(usb.store().port(1), Some((2, Some(WORD & !1))));
+}
+
+fn get_status() -> RequestSpec {
+    RequestSpec {
+        endpoint: 0,
+        transfer_type: TransferType::Control,
+        setup: Some(SetupPacket {
+            request_type: 0x80,
+            request: 0,
+            value: 0,
+            index: 0,
+            length: 2,
+        }),
+        ..bulk(Direction::In, &[], 2)
+    }
+}
+
+/// The port is that of the device as it was placed last.
+#[test]
+fn each_device_has_its_own_port_read() {
+    let mut usb = ready(2, 64);
+    let mut device = common::snapshot();
+    device.port.number = 2;
+    usb.set_device(device).unwrap();
+    usb.set_port(2, 1, Some(WORD)).unwrap();
+    usb.backend_mut().tokens = [Ok(1)].into();
+    usb.submit_request(bulk(Direction::In, &[], 1)).unwrap();
+    assert_eq!(asked(&usb), ["port 2", "port 2", "submit [0]"]);
 }
 
 #[test]

@@ -2,6 +2,7 @@
 //! stays held.
 mod common;
 
+use std::cell::Cell;
 use std::panic::{AssertUnwindSafe, catch_unwind};
 
 use common::id;
@@ -155,8 +156,11 @@ fn a_recovery_ends_as_failed_and_may_be_tried_again() {
     }
 }
 
-/// Panics where nothing is in flight yet.
-struct Blind;
+/// Panics where nothing is in flight yet: at a target without a name, and at a
+/// port after so many readings, which show it disabled.
+struct Blind {
+    readings: Cell<u32>,
+}
 
 impl Backend for Blind {
     fn acquire(&mut self, target: &str) -> Result<(), AcquisitionFailure> {
@@ -173,7 +177,9 @@ impl Backend for Blind {
         Some(2)
     }
     fn port_status(&self, _number: u8) -> Result<u32, OperationError> {
-        panic!("blind")
+        let left = self.readings.get().checked_sub(1).expect("blind");
+        self.readings.set(left);
+        Ok(common::WORD & !2)
     }
     fn submit_request(&mut self, _request: OwnedRequest) -> Result<u64, OperationError> {
         Ok(1)
@@ -191,7 +197,10 @@ impl Backend for Blind {
 
 #[test]
 fn another_panic_leaves_the_session_as_it_was() {
-    let mut usb = UsbSession::with_store(Blind, Opening::new(1, Some(2)), 2, 64).unwrap();
+    let blind = Blind {
+        readings: Cell::new(1),
+    };
+    let mut usb = UsbSession::with_store(blind, Opening::new(1, Some(2)), 2, 64).unwrap();
     let caught = catch_unwind(AssertUnwindSafe(|| usb.acquire("").is_ok()));
     assert!(caught.is_err());
     assert_eq!(usb.state(), ControllerState::Closed);
@@ -200,10 +209,14 @@ fn another_panic_leaves_the_session_as_it_was() {
     usb.set_endpoints(2, &common::ENDPOINTS).unwrap();
     usb.acquire("controller").unwrap();
     usb.initialize().unwrap();
-    let before = *usb.store().session_words();
-    let caught = catch_unwind(AssertUnwindSafe(|| usb.submit_request(read()).is_ok()));
-    assert!(caught.is_err());
-    assert_eq!(usb.store().session_words(), &before);
+    let before = common::store::words(usb.store());
+    // At the second reading, then at the first.
+    for _ in 0..2 {
+        let caught = catch_unwind(AssertUnwindSafe(|| usb.submit_request(read()).is_ok()));
+        assert!(caught.is_err());
+        assert_eq!(usb.backend().readings.get(), 0);
+        assert_eq!(common::store::words(usb.store()), before);
+    }
     assert_eq!(usb.held_count(), 0);
     usb.close().unwrap();
 }

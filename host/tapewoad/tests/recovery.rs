@@ -90,7 +90,7 @@ fn a_recovery_is_two_calls() {
     assert_eq!(store.completed_bytes(id(2)).unwrap(), [1, 2, 3]);
     assert_eq!(store.completed_bytes(id(0)).unwrap(), []);
     assert_eq!(store.apply(&Call::HeldCount), Answer::Number(0));
-    assert_eq!(store.state(), ControllerState::Initialized);
+    assert_eq!(store.status().state, ControllerState::Initialized);
 }
 
 #[test]
@@ -272,7 +272,7 @@ fn skipped_bytes_belong_to_their_completion() {
     let answer = store.apply_words(&call, &[1, 2, 3]).unwrap();
     assert_eq!(refusal(answer), 48);
     assert_eq!(store.completed_bytes(id(0)).unwrap(), [1]);
-    assert_eq!(store.state(), ControllerState::RecoveryRequired);
+    assert_eq!(store.status().state, ControllerState::RecoveryRequired);
 }
 
 #[test]
@@ -282,7 +282,7 @@ fn an_error_marks_and_takes_nothing_back() {
     let refused = Refusal::new(45, ERROR);
     let answer = store.apply(&Call::RecoveryReply(Err(ERROR)));
     assert_eq!(answer, Answer::Refused(refused));
-    assert_eq!(store.state(), ControllerState::RecoveryRequired);
+    assert_eq!(store.status().state, ControllerState::RecoveryRequired);
     assert_eq!(store.apply(&Call::HeldCount), Answer::Number(3));
 }
 

@@ -47,7 +47,11 @@ fn stalled() -> Store {
         ..done
     };
     store.apply(&Call::PollReply(Ok(Some(stall))));
-    assert_eq!(store.recoverable_stall(), Some((1, DEVICE, 0x01)));
+    let stall = store.status().recoverable_stall.expect("a stall");
+    assert_eq!(
+        (stall.revision, stall.device, stall.endpoint),
+        (1, DEVICE, 0x01)
+    );
     store
 }
 

@@ -69,8 +69,9 @@ fn a_session_is_shown_without_its_backend_and_bytes() {
     let usb = ready(2, 64);
     assert_eq!(
         format!("{usb:?}"),
-        "UsbSession { store: Store { identity: 1, state: Some(Initialized), next_sequence: 0, \
-         recovery_revision: Some(0), rows: 2, row_bytes: 64, .. }, .. }"
+        "UsbSession { store: Store { status: Ok(SessionStatus { session: 1, generation: 0, \
+         next_sequence: 0, ports: Some((1, 2)), state: Initialized, recovery_revision: Some(0), \
+         recoverable_stall: None, in_flight: None, rows: 2, row_bytes: 64 }), .. }, .. }"
     );
 }
 
@@ -78,10 +79,9 @@ fn a_session_is_shown_without_its_backend_and_bytes() {
 #[test]
 fn a_session_of_any_words_is_shown() {
     let mut usb = ready(2, 64);
-    let state = usb.store().session_words()[6];
     usb.store_mut().session_words_mut()[6] = 99;
-    assert!(format!("{usb:?}").contains("state: None"));
-    usb.store_mut().session_words_mut()[6] = state;
+    let shown = "UsbSession { store: Store { status: Err(NoSession), .. }, .. }";
+    assert_eq!(format!("{usb:?}"), shown);
 }
 
 #[test]

@@ -40,7 +40,7 @@ impl Port {
         let call = convert::to_recovery(target, kind);
         let begun = match answered(&mut self.store, &call)? {
             Answer::Recover(begun) => begun,
-            answer => return Ok((self.outcome(&call, answer)?, Asked::Nothing, 0)),
+            answer => return Ok((self.outcome(&call, answer)?, Asked::Nothing, Vec::new())),
         };
         let (device, endpoint, tokens) = self.affected(target)?;
         let mut expected = begun.clone();
@@ -61,7 +61,7 @@ impl Port {
             },
         };
         let outcome = convert::recovery_reply(reply, |call| self.made(call))?;
-        Ok((outcome, asked, 0))
+        Ok((outcome, asked, Vec::new()))
     }
 
     /// Device and endpoint of a request, and the tokens of the held requests

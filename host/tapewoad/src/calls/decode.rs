@@ -1,7 +1,7 @@
 //! Words to answers.
 use super::{
-    ANSWER_WORDS, AbortReport, Answer, Begun, Error, Metadata, Recovering, Recovery, Refusal,
-    Report, Stages, State,
+    ANSWER_WORDS, AbortReport, Answer, Begun, Error, Metadata, Operation, Recovering, Recovery,
+    Refusal, Report, SessionStatus, Stages, Stall, State, Wanted,
 };
 use crate::models::{
     ControlProfile, ControllerState, DeviceId, Direction, ErrorCategory, RequestId, SetupPacket,
@@ -11,6 +11,7 @@ use crate::models::{
 /// An enum whose cases are numbered in the order of their declaration.
 macro_rules! numbered {
     ($name:ident, $type:ty, [$($case:ident),*]) => {
+        #[inline(always)]
         fn $name(&mut self) -> Option<$type> {
             const CASES: &[$type] = &[$(<$type>::$case),*];
             CASES.get(usize::try_from(self.word()?).ok()?).copied()
@@ -18,12 +19,14 @@ macro_rules! numbered {
     };
 }
 
-/// Reads words one by one.
+/// Reads words one by one. What a report has is read in line: its fields are
+/// written where it will stand, and not copied from call to call.
 struct Reader<'a>(&'a [u64]);
 
 impl Answer {
     /// What the words of an answer and its lists say; none where they are no
     /// answer's.
+    #[inline(always)]
     pub fn from_words(words: &[u64; ANSWER_WORDS], lists: &[u64]) -> Option<Self> {
         let mut r = Reader(words);
         Some(match r.word()? {
@@ -50,14 +53,15 @@ impl Answer {
             },
             9 => Self::Recover(r.recovering(&mut Reader(lists))?),
             10 => Self::Recovered(r.abort_report(&mut Reader(lists))?),
+            11 => Self::Status(r.session_status()?),
+            12 => Self::ReportAt {
+                place: r.word()?,
+                report: r.report()?,
+            },
+            13 => Self::Wants(r.wanted()?),
             _ => return None,
         })
     }
-}
-
-/// The controller state of a session's word 6.
-pub fn controller_state(word: u64) -> Option<ControllerState> {
-    Reader(&[word]).controller_state()
 }
 
 /// An optional 32-bit number's word.
@@ -66,6 +70,7 @@ pub fn option_u32(word: u64) -> Option<Option<u32>> {
 }
 
 impl Reader<'_> {
+    #[inline(always)]
     fn word(&mut self) -> Option<u64> {
         let (first, rest) = self.0.split_first()?;
         self.0 = rest;
@@ -73,10 +78,12 @@ impl Reader<'_> {
     }
 
     /// A word of a narrower field.
+    #[inline(always)]
     fn narrow<T: TryFrom<u64>>(&mut self) -> Option<T> {
         T::try_from(self.word()?).ok()
     }
 
+    #[inline(always)]
     fn flag(&mut self) -> Option<bool> {
         match self.word()? {
             0 => Some(false),
@@ -85,11 +92,17 @@ impl Reader<'_> {
         }
     }
 
+    #[inline(always)]
     fn option_u32(&mut self) -> Option<Option<u32>> {
         match self.word()? {
             0 => Some(None),
             word => u32::try_from(word - 1).ok().map(Some),
         }
+    }
+
+    fn option_u64(&mut self) -> Option<Option<u64>> {
+        let (given, number) = (self.flag()?, self.word()?);
+        Some(given.then_some(number))
     }
 
     numbered!(
@@ -124,6 +137,7 @@ impl Reader<'_> {
     numbered!(direction, Direction, [In, Out]);
     numbered!(profile, ControlProfile, [Compliant, DeviceCompatibility]);
 
+    #[inline(always)]
     fn error(&mut self) -> Option<Error> {
         Some(Error {
             category: self.category()?,
@@ -145,6 +159,7 @@ impl Reader<'_> {
         (0..length).map(|_| item(self)).collect()
     }
 
+    #[inline(always)]
     fn id(&mut self) -> Option<RequestId> {
         Some(RequestId {
             session: self.word()?,
@@ -153,6 +168,7 @@ impl Reader<'_> {
         })
     }
 
+    #[inline(always)]
     fn device(&mut self) -> Option<DeviceId> {
         Some(DeviceId {
             session: self.word()?,
@@ -161,6 +177,7 @@ impl Reader<'_> {
         })
     }
 
+    #[inline(always)]
     fn setup(&mut self) -> Option<Option<SetupPacket>> {
         let given = self.flag()?;
         let packet = SetupPacket {
@@ -173,6 +190,7 @@ impl Reader<'_> {
         Some(given.then_some(packet))
     }
 
+    #[inline(always)]
     fn metadata(&mut self) -> Option<Metadata> {
         Some(Metadata {
             device: self.device()?,
@@ -184,6 +202,7 @@ impl Reader<'_> {
         })
     }
 
+    #[inline(always)]
     fn begun(&mut self) -> Option<Begun> {
         Some(Begun {
             id: self.id()?,
@@ -209,6 +228,7 @@ impl Reader<'_> {
         })
     }
 
+    #[inline(always)]
     fn report(&mut self) -> Option<Report> {
         Some(Report {
             id: self.id()?,
@@ -254,7 +274,59 @@ impl Reader<'_> {
         (lengths == counts).then_some(report)
     }
 
+    fn session_status(&mut self) -> Option<SessionStatus> {
+        Some(SessionStatus {
+            session: self.word()?,
+            generation: self.word()?,
+            next_sequence: self.word()?,
+            ports: self.ports()?,
+            state: self.controller_state()?,
+            recovery_revision: self.option_u64()?,
+            recoverable_stall: self.stall()?,
+            in_flight: self.operation()?,
+            rows: self.word()?,
+            row_bytes: self.word()?,
+        })
+    }
+
+    fn ports(&mut self) -> Option<Option<(u64, u8)>> {
+        let given = self.flag()?;
+        let ports = (self.word()?, self.narrow()?);
+        Some(given.then_some(ports))
+    }
+
+    fn stall(&mut self) -> Option<Option<Stall>> {
+        let given = self.flag()?;
+        let stall = Stall {
+            revision: self.word()?,
+            device: self.device()?,
+            endpoint: self.narrow()?,
+        };
+        Some(given.then_some(stall))
+    }
+
+    fn operation(&mut self) -> Option<Option<Operation>> {
+        Some(match self.word()? {
+            0 => None,
+            1 => Some(Operation::Submission),
+            2 => Some(Operation::Poll),
+            3 => Some(Operation::Recovery),
+            _ => return None,
+        })
+    }
+
+    fn wanted(&mut self) -> Option<Option<Wanted>> {
+        let (reading, port) = (self.word()?, self.narrow()?);
+        Some(match reading {
+            0 => None,
+            1 => Some(Wanted { reading: 0, port }),
+            2 => Some(Wanted { reading: 1, port }),
+            _ => return None,
+        })
+    }
+
     /// A tag and six words, whatever the state.
+    #[inline(always)]
     fn state(&mut self) -> Option<State> {
         let (words, rest) = self.0.split_at_checked(7)?;
         self.0 = rest;
@@ -275,6 +347,7 @@ impl Reader<'_> {
         })
     }
 
+    #[inline(always)]
     fn failed(&mut self) -> Option<State> {
         let (category, message) = (self.category()?, self.narrow()?);
         let quiescent = self.flag()?;

@@ -162,6 +162,52 @@ fn recoveries_have_lists() {
 }
 
 #[test]
+fn answers_to_questions() {
+    let mut status = SessionStatus {
+        session: 7,
+        generation: 0,
+        next_sequence: 9,
+        ports: Some((1, 4)),
+        state: ControllerState::RecoveryRequired,
+        recovery_revision: Some(5),
+        recoverable_stall: Some(Stall {
+            revision: 5,
+            device: metadata().device,
+            endpoint: 0x81,
+        }),
+        in_flight: None,
+        rows: 16,
+        row_bytes: 64,
+    };
+    let head = [11, 7, 0, 9, 1, 1, 4, 4, 1, 5, 1, 5, 1, 2, 3, 0x81];
+    for (word, in_flight) in [
+        (0, None),
+        (1, Some(Operation::Submission)),
+        (2, Some(Operation::Poll)),
+        (3, Some(Operation::Recovery)),
+    ] {
+        status.in_flight = in_flight;
+        let words = [&head[..], &[word, 16, 64]].concat();
+        assert_eq!(read(&words), Some(Answer::Status(status)));
+    }
+    let report = Report {
+        id: ID,
+        metadata: metadata(),
+        state: State::Aborted,
+        logical_cancel: false,
+        timed_out: true,
+    };
+    let head = [&[12, 1_023, 7, 0, 9], &METADATA_WORDS[..]].concat();
+    let words = [&head[..], &[3, 0, 0, 0, 0, 0, 0, 0, 1]].concat();
+    let place = 1_023;
+    assert_eq!(read(&words), Some(Answer::ReportAt { place, report }));
+    let wanted = |reading| Answer::Wants(Some(Wanted { reading, port: 255 }));
+    assert_eq!(read(&[13, 0, 0]), Some(Answer::Wants(None)));
+    assert_eq!(read(&[13, 1, 255]), Some(wanted(0)));
+    assert_eq!(read(&[13, 2, 255]), Some(wanted(1)));
+}
+
+#[test]
 fn lists_that_are_no_answer() {
     let begun = [9, 7, 0, 9, 1, 2, 3, 0x81, 0];
     let reported = [10, 7, 0, 9, 1, 2, 3, 0x81, 1, 0];
@@ -183,7 +229,14 @@ fn lists_that_are_no_answer() {
 #[test]
 fn words_that_are_no_answer() {
     for words in [
-        &[11][..],
+        &[14][..],
+        &[11, 7, 0, 9, 2],
+        &[11, 7, 0, 9, 0, 0, 0, 5],
+        &[11, 7, 0, 9, 0, 0, 0, 4, 0, 0, 0, 0, 0, 0, 256],
+        &[11, 7, 0, 9, 0, 0, 0, 4, 0, 0, 0, 0, 0, 0, 0, 0, 4],
+        &[12, 3, 7, 0, 9, 1, 2, 3, 0x81, 4],
+        &[13, 3, 1],
+        &[13, 1, 256],
         &[0, 65_536],
         &[0, 4, 7],
         &[0, 4, 0, 4, (1 << 32) + 1],

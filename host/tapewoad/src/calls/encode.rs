@@ -1,15 +1,14 @@
 //! Calls to words. A word that a call does not read is 0.
 use std::borrow::Cow;
 
-use super::{Abort, Call, Completion, Error, Plan, Reading, Submit};
+use super::words::Words;
+use super::{Abort, Call, Completion, Error, Plan, Question, Reading, Submit};
 use crate::models::{DeviceId, PortId, RequestId, SetupPacket};
 
 impl Call<'_> {
     /// The call's words.
     pub fn words(&self) -> Vec<u64> {
-        let mut words = Vec::new();
-        self.write(&mut words);
-        words
+        self.encode().to_vec()
     }
 
     /// The bytes that go with the words; of a recovery's reply those of its
@@ -28,10 +27,8 @@ impl Call<'_> {
         Cow::Borrowed(bytes)
     }
 
-    /// Writes the call's words in place of what `words` has.
-    pub fn write(&self, words: &mut Vec<u64>) {
-        words.clear();
-        let mut w = Writer(words);
+    pub(super) fn encode(&self) -> Words {
+        let mut w = Words::new();
         match self {
             Self::Open {
                 opening,
@@ -56,9 +53,9 @@ impl Call<'_> {
             } => w.put(&[2, u64::from(*number), *generation, option_u32(*reading)]),
             Self::SetEndpoints { slot, endpoints } => {
                 w.put(&[3, u64::from(*slot)]);
-                let word =
-                    |it: &crate::Endpoint| u64::from(it.address) + 256 * (it.transfer_type as u64);
-                w.0.extend(endpoints.iter().map(word));
+                for it in *endpoints {
+                    w.put(&[u64::from(it.address) + 256 * (it.transfer_type as u64)]);
+                }
             }
             Self::SetReconcile { slot, set } => w.put(&[4, u64::from(*slot), u64::from(*set)]),
             Self::Acquire(reply) => {
@@ -75,8 +72,8 @@ impl Call<'_> {
                 w.option_u64(*fresh);
                 w.option_error(reply.as_ref().err());
             }
-            Self::SubmitRequestPackets(submit) => w.submit(submit),
-            Self::SubmitControlPlan(plan) => w.plan(plan),
+            Self::SubmitRequestPackets(submit) => w.submit(8, submit),
+            Self::SubmitControlPlan(plan) => w.plan(9, plan),
             Self::SubmitReply(reply) => {
                 w.put(&[10, u64::from(reply.is_err()), reply.unwrap_or(0)]);
                 w.error(reply.as_ref().err());
@@ -106,6 +103,34 @@ impl Call<'_> {
             }
             Self::RecoveryReply(reply) => w.recovery_reply(reply),
         }
+        w
+    }
+}
+
+impl Question<'_> {
+    /// The question's words.
+    pub fn words(&self) -> Vec<u64> {
+        self.encode().to_vec()
+    }
+
+    /// The bytes that go with the words.
+    pub fn bytes(&self) -> &[u8] {
+        match self {
+            Self::SessionStatus | Self::ReportFrom { .. } => &[],
+            Self::SubmitWants(submit) => submit.data,
+            Self::PlanWants(plan) => plan.data,
+        }
+    }
+
+    pub(super) fn encode(&self) -> Words {
+        let mut w = Words::new();
+        match self {
+            Self::SessionStatus => w.put(&[25]),
+            Self::ReportFrom { place } => w.put(&[26, *place]),
+            Self::SubmitWants(submit) => w.submit(27, submit),
+            Self::PlanWants(plan) => w.plan(28, plan),
+        }
+        w
     }
 }
 
@@ -113,13 +138,7 @@ fn option_u32(value: Option<u32>) -> u64 {
     value.map_or(0, |number| u64::from(number) + 1)
 }
 
-struct Writer<'a>(&'a mut Vec<u64>);
-
-impl Writer<'_> {
-    fn put(&mut self, words: &[u64]) {
-        self.0.extend_from_slice(words);
-    }
-
+impl Words {
     fn option_u64(&mut self, value: Option<u64>) {
         self.put(&[u64::from(value.is_some()), value.unwrap_or(0)]);
     }
@@ -173,8 +192,8 @@ impl Writer<'_> {
         self.error(reading.as_ref().err());
     }
 
-    fn submit(&mut self, submit: &Submit<'_>) {
-        self.put(&[8]);
+    fn submit(&mut self, number: u64, submit: &Submit<'_>) {
+        self.put(&[number]);
         self.device(submit.device);
         self.put(&[
             u64::from(submit.endpoint),
@@ -193,8 +212,8 @@ impl Writer<'_> {
         self.put(submit.packets.unwrap_or_default());
     }
 
-    fn plan(&mut self, plan: &Plan<'_>) {
-        self.put(&[9]);
+    fn plan(&mut self, number: u64, plan: &Plan<'_>) {
+        self.put(&[number]);
         self.device(plan.device);
         self.put(&[plan.profile as u64]);
         self.setup(plan.setup);
@@ -252,8 +271,9 @@ impl Writer<'_> {
         self.option_error(abort.error.as_ref());
         let count = abort.completed.len() as u64;
         self.put(&[count, count]);
-        self.0
-            .extend(abort.completed.iter().map(|(token, _)| *token));
+        for (token, _) in abort.completed {
+            self.put(&[*token]);
+        }
         for (_, done) in abort.completed {
             self.completion(done);
             self.put(&[done.data.map_or(0, <[u8]>::len) as u64]);

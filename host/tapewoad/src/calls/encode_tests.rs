@@ -155,6 +155,32 @@ fn plans() {
 }
 
 #[test]
+fn questions() {
+    assert_eq!(Question::SessionStatus.words(), [25]);
+    let from = Question::ReportFrom { place: u64::MAX };
+    assert_eq!(from.words(), [26, u64::MAX]);
+    for question in [Question::SessionStatus, from] {
+        assert_eq!(question.bytes(), []);
+    }
+    for (call, question, number) in [
+        (
+            Call::SubmitRequestPackets(submit()),
+            Question::SubmitWants(submit()),
+            27,
+        ),
+        (
+            Call::SubmitControlPlan(plan()),
+            Question::PlanWants(plan()),
+            28,
+        ),
+    ] {
+        let expected = [&[number], &call.words()[1..]].concat();
+        assert_eq!(question.words(), expected);
+        assert_eq!(*question.bytes(), *call.bytes());
+    }
+}
+
+#[test]
 fn replies() {
     assert_eq!(Call::SubmitReply(Ok(4)).words(), [10, 0, 4, 0, 0, 0, 0]);
     let failed = Call::SubmitReply(Err(ERROR)).words();

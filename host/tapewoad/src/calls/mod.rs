@@ -6,17 +6,22 @@
 //! Between them only reports and counts are answered; everything else is refused
 //! (1), and a reply that fits nothing in flight too (2).
 //!
+//! A report changes nothing and may be had by [`Store::read`], as may a
+//! [`Question`] by [`Store::ask`].
+//!
 //! ```
 //! use tapewoad::calls::{Answer, Call, Store};
 //! use tapewoad::Opening;
 //!
 //! let mut store = Store::new(2, 16);
 //! assert_eq!(store.open(Opening::new(1, None)), Answer::Passed);
-//! assert_eq!(store.apply(&Call::HeldCount), Answer::Number(0));
+//! assert_eq!(store.read(&Call::HeldCount), Answer::Number(0));
 //! ```
 mod decode;
 mod encode;
+mod questions;
 mod store;
+mod words;
 
 use std::fmt::{self, Debug, Display, Formatter};
 
@@ -25,11 +30,12 @@ use crate::models::{
     RequestId, SetupPacket, TransferType,
 };
 
+pub use questions::{Operation, Question, SessionStatus, Stall, Wanted};
 pub use store::{Status, Store};
 
 /// The version of the words that this crate writes and reads: the major number
 /// times 2^32, and the minor number.
-pub const VERSION: u64 = 1 << 32;
+pub const VERSION: u64 = (1 << 32) + 1;
 /// How many words a session has.
 pub const SESSION_WORDS: usize = 26;
 /// How many words the bus has.
@@ -431,7 +437,7 @@ pub struct AbortReport {
     pub error: Option<Error>,
 }
 
-/// What a call answers.
+/// What a call or a question answers.
 #[derive(Debug, Clone, PartialEq, Eq)]
 #[non_exhaustive]
 pub enum Answer {
@@ -476,6 +482,17 @@ pub enum Answer {
     Recover(Recovering),
     /// A recovery came to its end.
     Recovered(AbortReport),
+    /// A session's status.
+    Status(SessionStatus),
+    /// A report and its place.
+    ReportAt {
+        /// The row, from 0.
+        place: u64,
+        /// What is reported of it.
+        report: Report,
+    },
+    /// The reading that a submission lacks, if there is one.
+    Wants(Option<Wanted>),
 }
 
 /// The library's answer to a call that has no such answers: a fault of it.

@@ -2,19 +2,19 @@
 use std::fmt::{self, Debug, Display, Formatter};
 use std::ops::Range;
 
-use super::decode::{controller_state, option_u32};
+use super::decode::option_u32;
 use super::{
-    ANSWER_WORDS, Answer, BUS_WORDS, Begun, Call, LIST_WORDS, ROW_WORDS, Refusal, SESSION_WORDS,
-    VERSION, unexpected,
+    ANSWER_WORDS, Answer, BUS_WORDS, Begun, Call, LIST_WORDS, Question, ROW_WORDS, Refusal, Report,
+    SESSION_WORDS, SessionStatus, State, VERSION, unexpected,
 };
-use crate::library::{self, Memory};
-use crate::models::{ControllerState, DeviceId, Opening, RequestId};
+use crate::library::{self, Memory, View};
+use crate::models::{Opening, RequestId};
 
 /// Why a call got no answer. Nothing has changed then.
 #[derive(Debug, Clone, Copy, PartialEq, Eq)]
 #[non_exhaustive]
 pub enum Status {
-    /// 1: the words are no call.
+    /// 1: the words are no call, or none that is taken here.
     NoCall,
     /// 2: not a session's words.
     NoSession,
@@ -59,8 +59,6 @@ pub struct Store {
     area: Box<[u8]>,
     row_count: u64,
     row_bytes: u64,
-    /// The latest call's words.
-    words: Vec<u64>,
     /// The latest lists of an answer.
     lists: [u64; LIST_WORDS],
 }
@@ -88,7 +86,6 @@ impl Store {
             area: vec![0; bytes].into(),
             row_count: rows as u64,
             row_bytes: row_bytes as u64,
-            words: Vec::new(),
             lists: [0; LIST_WORDS],
         }
     }
@@ -121,18 +118,16 @@ impl Store {
     /// # Errors
     /// The status, where the library has no answer or one that is not in
     /// docs/CALLS.md. A refusal is an answer.
+    #[inline(always)]
     pub fn try_apply(&mut self, call: &Call<'_>) -> Result<Answer, Status> {
-        let mut words = std::mem::take(&mut self.words);
-        call.write(&mut words);
-        let answer = self.apply_words(&words, &call.bytes());
-        self.words = words;
-        answer
+        self.apply_words(&call.encode(), &call.bytes())
     }
 
     /// Runs a call given as words.
     ///
     /// # Errors
     /// As [`try_apply`](Self::try_apply).
+    #[inline(always)]
     pub fn apply_words(&mut self, call: &[u64], bytes: &[u8]) -> Result<Answer, Status> {
         let mut out = [0; ANSWER_WORDS];
         let memory = Memory {
@@ -141,13 +136,81 @@ impl Store {
             rows: &mut self.rows,
             area: &mut self.area,
         };
-        match library::apply(memory, call, bytes, &mut out, &mut self.lists) {
-            0 => Answer::from_words(&out, &self.lists).ok_or(Status::Unknown(out[0])),
-            1 => Err(Status::NoCall),
-            2 => Err(Status::NoSession),
-            3 => Err(Status::NoRoom),
-            4 => Err(Status::NoLists),
-            status => Err(Status::Unknown(status)),
+        let status = library::apply(memory, call, bytes, &mut out, &mut self.lists);
+        answered(status, &out, &self.lists)
+    }
+
+    /// Makes a call that leaves all as it is: request_status, request_reports,
+    /// count_reports, completed_bytes, held_count or held_bytes.
+    ///
+    /// # Panics
+    /// As [`apply`](Self::apply), and where it is any other.
+    pub fn read(&self, call: &Call<'_>) -> Answer {
+        let answer = self.try_read(call);
+        answer.unwrap_or_else(|status| panic!("{call:?}: {status}"))
+    }
+
+    /// Makes such a call, and gives the status where it got no answer.
+    ///
+    /// # Errors
+    /// As [`try_apply`](Self::try_apply).
+    #[inline(always)]
+    pub fn try_read(&self, call: &Call<'_>) -> Result<Answer, Status> {
+        self.read_words(&call.encode(), &call.bytes())
+    }
+
+    /// Asks a question.
+    ///
+    /// # Panics
+    /// As [`apply`](Self::apply).
+    pub fn ask(&self, question: &Question<'_>) -> Answer {
+        let answer = self.try_ask(question);
+        answer.unwrap_or_else(|status| panic!("{question:?}: {status}"))
+    }
+
+    /// Asks a question, and gives the status where it got no answer.
+    ///
+    /// # Errors
+    /// As [`try_apply`](Self::try_apply).
+    #[inline(always)]
+    pub fn try_ask(&self, question: &Question<'_>) -> Result<Answer, Status> {
+        self.read_words(&question.encode(), question.bytes())
+    }
+
+    /// Asks a question, or makes a call that leaves all as it is, given as words.
+    ///
+    /// # Errors
+    /// As [`try_apply`](Self::try_apply).
+    #[inline(always)]
+    pub fn read_words(&self, call: &[u64], bytes: &[u8]) -> Result<Answer, Status> {
+        let mut out = [0; ANSWER_WORDS];
+        let view = View {
+            session: &self.session,
+            bus: &self.bus,
+            rows: &self.rows,
+            area: &self.area,
+        };
+        let status = library::read(view, call, bytes, &mut out);
+        answered(status, &out, &[])
+    }
+
+    /// What the session says of itself.
+    ///
+    /// # Panics
+    /// If [`Self::session_words_mut`] was used to write what is no session's.
+    pub fn status(&self) -> SessionStatus {
+        let status = self.try_status();
+        status.unwrap_or_else(|status| panic!("{status}"))
+    }
+
+    /// What the session says of itself, where its words are a session's.
+    ///
+    /// # Errors
+    /// As [`try_apply`](Self::try_apply).
+    pub fn try_status(&self) -> Result<SessionStatus, Status> {
+        match self.try_ask(&Question::SessionStatus)? {
+            Answer::Status(status) => Ok(status),
+            answer => unexpected(answer),
         }
     }
 
@@ -161,65 +224,32 @@ impl Store {
         &self.area[part(start, length)]
     }
 
+    /// The bytes of the request that has this report at this place, as
+    /// [`completed_bytes`](Self::completed_bytes) gives them: the first of its row.
+    pub fn completed_at(&self, place: u64, report: &Report) -> &[u8] {
+        let length = match report.state {
+            State::Completed { actual_length, .. } => actual_length.min(self.row_bytes),
+            _ => 0,
+        };
+        self.bytes(place * self.row_bytes, length)
+    }
+
     /// The bytes of a Completed request, and none of another that has a report.
     ///
     /// # Errors
     /// 40 where there is no report of it.
-    pub fn completed_bytes(&mut self, id: RequestId) -> Result<&[u8], Refusal> {
-        match self.apply(&Call::CompletedBytes(id)) {
+    pub fn completed_bytes(&self, id: RequestId) -> Result<&[u8], Refusal> {
+        match self.read(&Call::CompletedBytes(id)) {
             Answer::Bytes { start, length } => Ok(self.bytes(start, length)),
             Answer::Refused(refusal) => Err(refusal),
             answer => unexpected(answer),
         }
     }
 
-    /// The controller's state.
-    ///
-    /// # Panics
-    /// If [`Self::session_words_mut`] was used to write no state.
-    pub fn state(&self) -> ControllerState {
-        controller_state(self.session[6]).expect("a state's number")
-    }
-
-    /// The ledger's session number.
-    pub fn identity(&self) -> u64 {
-        self.session[0]
-    }
-
-    /// The sequence number of the next submission.
-    pub fn next_sequence(&self) -> u64 {
-        self.session[2]
-    }
-
-    /// The recovery revision.
-    pub fn recovery_revision(&self) -> Option<u64> {
-        (self.session[7] == 1).then_some(self.session[8])
-    }
-
-    /// Revision, device and endpoint of the recoverable stall.
-    pub fn recoverable_stall(&self) -> Option<(u64, DeviceId, u8)> {
-        let [given, revision, session, generation, slot, endpoint] =
-            *self.session[9..15].first_chunk()?;
-        let device = DeviceId {
-            session,
-            generation,
-            slot: slot as u8,
-        };
-        (given == 1).then_some((revision, device, endpoint as u8))
-    }
-
-    /// The session number of port ids, and how many ports there are.
-    pub fn ports(&self) -> Option<(u64, u8)> {
-        (self.session[3] == 1).then_some((self.session[4], self.session[5] as u8))
-    }
-
-    /// Generation and last reading of the port with this number, from 1.
+    /// What the bus has of the port with this number, from 1: its generation and
+    /// last reading. The session may have fewer ports.
     pub fn port(&self, number: u8) -> Option<(u64, Option<u32>)> {
-        let (_, count) = self.ports()?;
-        if number == 0 || number > count {
-            return None;
-        }
-        let at = 2 * (usize::from(number) - 1);
+        let at = 2 * usize::from(number.checked_sub(1)?);
         Some((self.bus[at], option_u32(self.bus[at + 1])?))
     }
 
@@ -236,18 +266,25 @@ impl Store {
     }
 }
 
-/// Without rows and bytes.
+/// Without ports, rows and bytes.
 impl Debug for Store {
     fn fmt(&self, f: &mut Formatter<'_>) -> fmt::Result {
         f.debug_struct("Store")
-            .field("identity", &self.identity())
-            // None where no call wrote the words.
-            .field("state", &controller_state(self.session[6]))
-            .field("next_sequence", &self.next_sequence())
-            .field("recovery_revision", &self.recovery_revision())
-            .field("rows", &self.row_count)
-            .field("row_bytes", &self.row_bytes)
+            .field("status", &self.try_status())
             .finish_non_exhaustive()
+    }
+}
+
+/// The answer where there is one.
+#[inline(always)]
+fn answered(status: u64, out: &[u64; ANSWER_WORDS], lists: &[u64]) -> Result<Answer, Status> {
+    match status {
+        0 => Answer::from_words(out, lists).ok_or(Status::Unknown(out[0])),
+        1 => Err(Status::NoCall),
+        2 => Err(Status::NoSession),
+        3 => Err(Status::NoRoom),
+        4 => Err(Status::NoLists),
+        status => Err(Status::Unknown(status)),
     }
 }
 
@@ -284,7 +321,7 @@ mod tests {
             assert_eq!(check(version), Err(Status::Version(version)));
         }
         let text = check((2 << 32) + 3).unwrap_err().to_string();
-        let expected = "the library has version 2.3 of the words, this crate wants 1.0";
+        let expected = "the library has version 2.3 of the words, this crate wants 1.1";
         assert_eq!(text, expected);
     }
 }

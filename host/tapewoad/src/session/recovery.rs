@@ -31,7 +31,7 @@ impl<B: Backend> UsbSession<B> {
     }
 
     fn recover_request(&mut self, call: &Call<'_>) -> Result<AbortReport, Refusal> {
-        let recovery = match self.store.get_mut().apply(call) {
+        let recovery = match self.store.apply(call) {
             Answer::Recover(recovery) => recovery,
             Answer::Refused(refusal) => return Err(self.messages.refusal(refusal)),
             answer => unexpected(answer),
@@ -60,7 +60,7 @@ impl<B: Backend> UsbSession<B> {
     }
 
     fn recovery_reply(&mut self, reply: Result<BackendAbort, OperationError>) -> Answer {
-        let (messages, store) = (&mut self.messages, self.store.get_mut());
+        let (messages, store) = (&mut self.messages, &mut self.store);
         let outcome = match reply {
             Ok(outcome) => outcome,
             Err(error) => return store.apply(&Call::RecoveryReply(Err(messages.numbered(&error)))),
