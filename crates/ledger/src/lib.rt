@@ -10,6 +10,7 @@ ghost use Rattle.chain.specs.After.{after};
 ghost use Rattle.rows.specs.Store.{storeOf};
 ghost use Rattle.ledger.specs.Apply.{applyOf};
 
+pub mod in_place;
 pub mod search;
 pub mod tally;
 
