@@ -4,6 +4,8 @@ use crate::ROW_WORDS;
 use crate::SEQUENCE;
 use crate::STATUS;
 use crate::codec;
+use crate::codec::SetupWords;
+use crate::codec::StateWords;
 use crate::columns;
 use models::codes;
 use words::slices;
@@ -13,16 +15,48 @@ ghost use mathlib.Core.Bool.{true};
 ghost use mathlib.Core.List.{_∷_};
 ghost use lib.ListN.{length};
 ghost use Rattle.words.specs.Words.{readFlag, flagWord};
-ghost use Rattle.rows.specs.Codec.{readRow, recordOf};
+ghost use Rattle.models.specs.Codes.{readTransfer, transferWord, readDirection, directionWord};
+ghost use Rattle.rows.specs.Codec.{setupWords, stateWords, readRow, recordOf};
 ghost use Rattle.rows.specs.Table.{readRows, rowAt, emptyRow, isPendingRow, reportOf, flagged};
 ghost use Rattle.rows.specs.Store.{storeOf, putIn};
 ghost use Rattle.rows.specs.Values.{reportValues};
-ghost use Rattle.rows.specs.InPlace.{cancelled, timedOut};
+ghost use Rattle.rows.specs.InPlace.{setupAt, stateAt, cancelled, timedOut};
 
+// A word made anew: the one that says what w says.
 fn renewed_flag(w: u64) -> u64
     ensures { λ r. ⌜ r ≡ flagWord (readFlag w) ⌝ }
 {
     words::flag_word(words::to_flag(w))
+}
+
+fn renewed_transfer(w: u64) -> u64
+    ensures { λ r. ⌜ r ≡ transferWord (readTransfer w) ⌝ }
+{
+    codes::transfer_word(codes::to_transfer(w))
+}
+
+fn renewed_direction(w: u64) -> u64
+    ensures { λ r. ⌜ r ≡ directionWord (readDirection w) ⌝ }
+{
+    codes::direction_word(codes::to_direction(w))
+}
+
+// Of the SETUP packet and of the report's state that a record says.
+fn renewed_setup(w: &[u64]) -> SetupWords
+    requires { ⌜ length (now w) ≡ 24 ⌝ }
+    ensures { λ r. ⌜ r ≡ setupWords (setupAt (now (w .entry))) ⌝ }
+{
+    let setup = codec::to_setup(w[9], w[10], w[11], w[12], w[13], w[14]);
+    codec::setup_words(setup)
+}
+
+fn renewed_state(status: u64, w: &[u64]) -> StateWords
+    requires { ⌜ length (now w) ≡ 24 ⌝ }
+    ensures { λ r. ⌜ r ≡ stateWords (stateAt status (now (w .entry))) ⌝ }
+{
+    let kind = codec::kind_by(status, w[20]);
+    let state = codec::to_state(kind, w[18], w[19], w[21], w[22], w[23]);
+    codec::state_words(state)
 }
 
 // Of the report of the row that its two column words and its record say.
@@ -30,13 +64,8 @@ fn values(sequence: u64, status: u64, w: &[u64]) -> [u64; 25]
     requires { ⌜ length (now w) ≡ 24 ⌝ }
     ensures { λ r. ⌜ r ≡ reportValues (reportOf (readRow (sequence ∷ status ∷ now (w .entry)))) ⌝ }
 {
-    let transfer_type = codes::to_transfer(w[6]);
-    let direction = codes::to_direction(w[7]);
-    let setup = codec::to_setup(w[9], w[10], w[11], w[12], w[13], w[14]);
-    let p = codec::setup_words(setup);
-    let kind = codec::kind_by(status, w[20]);
-    let state = codec::to_state(kind, w[18], w[19], w[21], w[22], w[23]);
-    let s = codec::state_words(state);
+    let p = renewed_setup(w);
+    let s = renewed_state(status, w);
     [
         w[0],
         w[1],
@@ -45,8 +74,8 @@ fn values(sequence: u64, status: u64, w: &[u64]) -> [u64; 25]
         w[3],
         w[4] % 256,
         w[5] % 256,
-        codes::transfer_word(transfer_type),
-        codes::direction_word(direction),
+        renewed_transfer(w[6]),
+        renewed_direction(w[7]),
         w[8],
         p.present,
         p.request_type,
@@ -84,10 +113,7 @@ fn renewed(w: &[u64], sc: bool, st: bool, c: bool, t: bool) -> [u64; 24]
     requires { ⌜ length (now w) ≡ 24 ⌝ }
     ensures { λ r. ⌜ r ≡ recordOf (flagged (readRow (0 ∷ 1 ∷ now (w .entry))) sc st c t) ⌝ }
 {
-    let transfer_type = codes::to_transfer(w[6]);
-    let direction = codes::to_direction(w[7]);
-    let setup = codec::to_setup(w[9], w[10], w[11], w[12], w[13], w[14]);
-    let p = codec::setup_words(setup);
+    let p = renewed_setup(w);
     [
         w[0],
         w[1],
@@ -95,8 +121,8 @@ fn renewed(w: &[u64], sc: bool, st: bool, c: bool, t: bool) -> [u64; 24]
         w[3],
         w[4] % 256,
         w[5] % 256,
-        codes::transfer_word(transfer_type),
-        codes::direction_word(direction),
+        renewed_transfer(w[6]),
+        renewed_direction(w[7]),
         w[8],
         p.present,
         p.request_type,
