@@ -1,5 +1,5 @@
-// The changes that C asks for most, on the words of a row. Each is what `apply` does; the answer is where the row stands, so that the
-// report's words can be read there.
+// Changes on the words of a row, each what `apply` does. The answer is where the row stands, so that its report's words
+// can be read there.
 use crate::search;
 use chain::Found;
 use models::Refusal;

@@ -4,9 +4,9 @@ use crate::ROW_WORDS;
 use crate::SEQUENCE;
 use crate::STATUS;
 use crate::codec;
-use crate::codec::SetupWords;
 use crate::codec::StateWords;
 use crate::columns;
+use models::SetupWords;
 use models::codes;
 use words::slices;
 ghost use mathlib.Core.Path.{_≡_};
@@ -16,7 +16,8 @@ ghost use mathlib.Core.List.{_∷_};
 ghost use lib.ListN.{length};
 ghost use Rattle.words.specs.Words.{readFlag, flagWord};
 ghost use Rattle.models.specs.Codes.{readTransfer, transferWord, readDirection, directionWord};
-ghost use Rattle.rows.specs.Codec.{setupWords, stateWords, readRow, recordOf};
+ghost use Rattle.models.specs.Values.{setupWords};
+ghost use Rattle.rows.specs.Codec.{stateWords, readRow, recordOf};
 ghost use Rattle.rows.specs.Table.{readRows, rowAt, emptyRow, isPendingRow, reportOf, flagged};
 ghost use Rattle.rows.specs.Store.{storeOf, putIn};
 ghost use Rattle.rows.specs.Values.{reportValues};
@@ -107,8 +108,8 @@ pub fn report_values(rows: &[u64], i: usize) -> [u64; 25]
     values(sequence, status, &rows[at..end])
 }
 
-// The record of a Pending row with the flags c and t, and sc and st in its state, from the record w that it has. A record says nothing of
-// the sequence, which is 0 here.
+// The record of a Pending row with the flags c and t, and sc and st in its state, from the record w that it has. A record
+// says nothing of the sequence, which is 0 here.
 fn renewed(w: &[u64], sc: bool, st: bool, c: bool, t: bool) -> [u64; 24]
     requires { ⌜ length (now w) ≡ 24 ⌝ }
     ensures { λ r. ⌜ r ≡ recordOf (flagged (readRow (0 ∷ 1 ∷ now (w .entry))) sc st c t) ⌝ }
@@ -159,7 +160,8 @@ fn late_record(w: &[u64]) -> [u64; 24]
 // Row i, which is Pending, is cancelled; its column words stay.
 pub fn cancel_row(rows: &mut [u64], i: usize)
     requires { ⌜ (i < length (readRows (now rows))) × (isPendingRow (rowAt (now rows) i) ≡ true) ⌝ }
-    ensures { λ _. ⌜ storeOf (now (rows .exit)) ≡ putIn (storeOf (now (rows .entry))) i (cancelled (rowAt (now (rows .entry)) i)) ⌝ }
+    ensures { λ _. ⌜ storeOf (now (rows .exit))
+        ≡ putIn (storeOf (now (rows .entry))) i (cancelled (rowAt (now (rows .entry)) i)) ⌝ }
 {
     let at = columns::record_at(rows, i);
     let end = at + RECORD_WORDS;
@@ -170,7 +172,8 @@ pub fn cancel_row(rows: &mut [u64], i: usize)
 // Row i, which is Pending, is timed out; its column words stay.
 pub fn late_row(rows: &mut [u64], i: usize)
     requires { ⌜ (i < length (readRows (now rows))) × (isPendingRow (rowAt (now rows) i) ≡ true) ⌝ }
-    ensures { λ _. ⌜ storeOf (now (rows .exit)) ≡ putIn (storeOf (now (rows .entry))) i (timedOut (rowAt (now (rows .entry)) i)) ⌝ }
+    ensures { λ _. ⌜ storeOf (now (rows .exit))
+        ≡ putIn (storeOf (now (rows .entry))) i (timedOut (rowAt (now (rows .entry)) i)) ⌝ }
 {
     let at = columns::record_at(rows, i);
     let end = at + RECORD_WORDS;

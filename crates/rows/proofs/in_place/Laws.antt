@@ -13,16 +13,16 @@ use Rattle.words.specs.Words.{readFlag, flagWord}
 use Rattle.words.specs.Records.{splice}
 use Rattle.words.proofs.Options.{low, flag-back}
 use Rattle.models.specs.Codes.{readTransfer, transferWord, readDirection, directionWord}
-use Rattle.models.specs.declared.RequestMetadata.{RequestMetadata}
+use Rattle.models.specs.Values.{setupWords, setupTail, metadataTail}
 use Rattle.models.specs.declared.RequestState.the-variants.{Pending}
+use Rattle.models.specs.declared.SetupWords.{SetupWords}
 use Rattle.models.proofs.Enums.{transfer-back, direction-back}
-use Rattle.rows.specs.Codec.{readSetupWords, setupIn, setupWords, setupTail, readMetadata, stateWords, statusWords, readRow, recordOf}
+use Rattle.rows.specs.Codec.{readSetupWords, setupIn, readMetadata, stateWords, statusWords, readRow, recordOf}
 use Rattle.rows.specs.Table.{recordWords, rowWords, rowCount, recordAt, wordsAt, wordAt, readRows, rowAt, emptyRow, isPendingRow, reportOf, flagged}
 use Rattle.rows.specs.Store.{storeOf, putIn}
-use Rattle.rows.specs.Values.{metadataTail, stateTail, reportValues}
+use Rattle.rows.specs.Values.{stateTail, reportValues}
 use Rattle.rows.specs.InPlace.{setupAt, stateAt, cancelled, timedOut}
 use Rattle.rows.specs.declared.Row.{Row}
-use Rattle.rows.specs.declared.codec.SetupWords.{SetupWords}
 use Rattle.rows.specs.declared.codec.StateWords.{StateWords}
 use Rattle.rows.proofs.Rows.{row-at, put-row}
 use Rattle.rows.proofs.columns.Laws.{pending-is}

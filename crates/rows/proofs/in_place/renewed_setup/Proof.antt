@@ -1,5 +1,5 @@
 use mathlib.Core.Path.{ap, _∙_}
-use Rattle.rows.specs.Codec.{setupWords}
+use Rattle.models.specs.Values.{setupWords}
 use borrow.Author.Needs.{needs}
 use Rattle.rows.proofs.in_place.renewed_setup.Statement.{statement}
 use Rattle.rows.proofs.in_place.renewed_setup.Tie as tie
