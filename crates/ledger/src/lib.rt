@@ -12,6 +12,7 @@ ghost use Rattle.rows.specs.Store.{storeOf};
 ghost use Rattle.ledger.specs.Apply.{applyOf};
 ghost use Rattle.ledger.specs.Said.{appliedSaid, applyNumbers};
 
+pub mod in_place;
 pub mod search;
 pub mod tally;
 

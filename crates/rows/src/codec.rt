@@ -234,7 +234,7 @@ fn to_failed(a: u64, b: u64, d: u64, e: u64, f: u64, quiescent: bool) -> Request
     }
 }
 
-fn to_state(kind: u64, a: u64, b: u64, d: u64, e: u64, f: u64) -> RequestState
+pub(crate) fn to_state(kind: u64, a: u64, b: u64, d: u64, e: u64, f: u64) -> RequestState
     ensures { λ r. ⌜ r ≡ stateByKind kind a b d e f ⌝ }
 {
     if kind < COMPLETED {
@@ -313,7 +313,7 @@ pub(crate) fn status_words(used: bool, s: RequestState) -> StatusWords
     status_by(used, kind, w)
 }
 
-fn kind_by(status: u64, rest: u64) -> u64
+pub(crate) fn kind_by(status: u64, rest: u64) -> u64
     ensures { λ r. ⌜ r ≡ kindBy status rest ⌝ }
 {
     if status == 0 {
