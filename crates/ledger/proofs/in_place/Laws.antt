@@ -4,14 +4,14 @@ use mathlib.Core.Path.{_≡_, refl, sym, ap, _∙_}
 use mathlib.Core.Bool.{Bool, true, false, not}
 use mathlib.Core.List.{List}
 use native.Mathlib.Omega.{arith}
-use lib.ListN.{length, getD, set, length-set}
+use lib.ListN.{length, set, length-set}
 use lib.Seq.{getD-set-same}
 use borrow.Author.Tests.{not-true}
-use Rattle.chain.specs.After.{After, after}
+use Rattle.chain.specs.After.{after}
 use Rattle.chain.specs.Chain.{_if_else_}
 use Rattle.chain.specs.Lists.{foundIn}
 use Rattle.chain.specs.declared.Found.{Found}
-use Rattle.chain.specs.declared.Found.the-variants.{At, Nothing}
+use Rattle.chain.specs.declared.Found.the-variants.{At}
 use Rattle.chain.proofs.Chain.{both, fits-told}
 use Rattle.models.specs.Refusals.{refusalOf}
 use Rattle.models.specs.Requests.{deviceMayAccess, isPending, sameRequest}
@@ -19,7 +19,7 @@ use Rattle.models.specs.declared.Refusal.{Refusal}
 use Rattle.models.specs.declared.RequestId.{RequestId}
 use Rattle.models.specs.declared.RequestState.{RequestState}
 use Rattle.models.specs.declared.RequestState.the-variants.{Pending, Completed, Failed, Aborted}
-use Rattle.rows.specs.Table.{readRows, emptyRow, rowAt, isHeld, isPendingRow, reportOf}
+use Rattle.rows.specs.Table.{readRows, emptyRow, rowAt, isHeld, isPendingRow}
 use Rattle.rows.specs.Store.{Store, storeOf, putIn}
 use Rattle.rows.specs.InPlace.{cancelIn, lateIn, cancelled, timedOut}
 use Rattle.rows.specs.declared.Row.{Row}
