@@ -4,6 +4,7 @@ use crate::search;
 use chain::Found;
 use models::Refusal;
 use models::RequestId;
+use rows::Row;
 use rows::columns;
 use rows::in_place;
 ghost use mathlib.Core.Path.{_≡_};
@@ -18,6 +19,24 @@ ghost use Rattle.ledger.specs.InPlace.{reportedAt, freedAt, PlacedIn};
 pub enum Placed {
     Refused(Refusal),
     At(usize),
+}
+
+// The backend took the submission. Its row is Pending; one that is not is changed by its value.
+pub fn accept(rows: &mut [u64], id: RequestId, token: u64) -> Placed
+    ensures { λ r. ⌜ (after (reportedAt r (readRows (now (rows .exit)))) (storeOf (now (rows .exit)))
+        ≡ applyOf id (Change.Accept token) (storeOf (now (rows .entry)))) × PlacedIn r (readRows (now (rows .exit))) ⌝ }
+{
+    let found = search::find(rows, id);
+    let Found::At(i) = found else {
+        return Placed::Refused(models::refuse(40));
+    };
+    if columns::pending_at(rows, i) {
+        in_place::accept_row(rows, i, token);
+        return Placed::At(i);
+    }
+    let row = rows::read_row(rows, i);
+    rows::write_row(rows, i, Row { token, ..row });
+    Placed::At(i)
 }
 
 pub fn logical_cancel(rows: &mut [u64], id: RequestId) -> Placed

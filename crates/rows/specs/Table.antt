@@ -82,6 +82,17 @@ isPendingRow r = r .used && isPending (r .state)
 abbrev pub reportOf : Row → RequestReport
 reportOf r = record { id = r .id; metadata = r .metadata; state = r .state; «logical_cancel» = r .«logical_cancel»; «timed_out» = r .«timed_out» }
 
+abbrev pub withToken : Row → ℕ → Row
+withToken r token = record {
+  used = r .used;
+  id = r .id;
+  metadata = r .metadata;
+  token = token;
+  «logical_cancel» = r .«logical_cancel»;
+  «timed_out» = r .«timed_out»;
+  state = r .state;
+}
+
 -- Pending with the flags sc and st in its state, and c and t as the row's own copies
 abbrev pub flagged : Row → Bool → Bool → Bool → Bool → Row
 flagged r sc st c t = record {

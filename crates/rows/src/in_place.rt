@@ -18,7 +18,7 @@ ghost use Rattle.words.specs.Words.{readFlag, flagWord};
 ghost use Rattle.models.specs.Codes.{readTransfer, transferWord, readDirection, directionWord};
 ghost use Rattle.models.specs.Values.{setupWords};
 ghost use Rattle.rows.specs.Codec.{stateWords, readRow, recordOf};
-ghost use Rattle.rows.specs.Table.{readRows, rowAt, emptyRow, isPendingRow, reportOf, flagged};
+ghost use Rattle.rows.specs.Table.{readRows, rowAt, emptyRow, isPendingRow, reportOf, withToken, flagged};
 ghost use Rattle.rows.specs.Store.{storeOf, putIn};
 ghost use Rattle.rows.specs.Values.{reportValues};
 ghost use Rattle.rows.specs.InPlace.{setupAt, stateAt, cancelled, timedOut};
@@ -108,11 +108,11 @@ pub fn report_values(rows: &[u64], i: usize) -> [u64; 25]
     values(sequence, status, &rows[at..end])
 }
 
-// The record of a Pending row with the flags c and t, and sc and st in its state, from the record w that it has. A record
-// says nothing of the sequence, which is 0 here.
-fn renewed(w: &[u64], sc: bool, st: bool, c: bool, t: bool) -> [u64; 24]
+// The record of a Pending row with another token, the flags c and t, and sc and st in its state, from the record w that it
+// has. A record says nothing of the sequence, which is 0 here.
+fn renewed(w: &[u64], token: u64, sc: bool, st: bool, c: bool, t: bool) -> [u64; 24]
     requires { ⌜ length (now w) ≡ 24 ⌝ }
-    ensures { λ r. ⌜ r ≡ recordOf (flagged (readRow (0 ∷ 1 ∷ now (w .entry))) sc st c t) ⌝ }
+    ensures { λ r. ⌜ r ≡ recordOf (flagged (withToken (readRow (0 ∷ 1 ∷ now (w .entry))) token) sc st c t) ⌝ }
 {
     let p = renewed_setup(w);
     [
@@ -131,7 +131,7 @@ fn renewed(w: &[u64], sc: bool, st: bool, c: bool, t: bool) -> [u64; 24]
         p.value,
         p.index,
         p.length,
-        w[15],
+        token,
         words::flag_word(c),
         words::flag_word(t),
         words::flag_word(sc),
@@ -147,14 +147,29 @@ fn cancelled_record(w: &[u64]) -> [u64; 24]
     requires { ⌜ length (now w) ≡ 24 ⌝ }
     ensures { λ r. ⌜ r ≡ recordOf (cancelled (readRow (0 ∷ 1 ∷ now (w .entry)))) ⌝ }
 {
-    renewed(w, true, words::to_flag(w[19]), true, words::to_flag(w[17]))
+    let late = words::to_flag(w[19]);
+    let timed_out = words::to_flag(w[17]);
+    renewed(w, w[15], true, late, true, timed_out)
 }
 
 fn late_record(w: &[u64]) -> [u64; 24]
     requires { ⌜ length (now w) ≡ 24 ⌝ }
     ensures { λ r. ⌜ r ≡ recordOf (timedOut (readRow (0 ∷ 1 ∷ now (w .entry)))) ⌝ }
 {
-    renewed(w, words::to_flag(w[18]), true, words::to_flag(w[16]), true)
+    let cancel = words::to_flag(w[18]);
+    let logical_cancel = words::to_flag(w[16]);
+    renewed(w, w[15], cancel, true, logical_cancel, true)
+}
+
+fn accepted_record(w: &[u64], token: u64) -> [u64; 24]
+    requires { ⌜ length (now w) ≡ 24 ⌝ }
+    ensures { λ r. ⌜ r ≡ recordOf (withToken (readRow (0 ∷ 1 ∷ now (w .entry))) token) ⌝ }
+{
+    let cancel = words::to_flag(w[18]);
+    let late = words::to_flag(w[19]);
+    let logical_cancel = words::to_flag(w[16]);
+    let timed_out = words::to_flag(w[17]);
+    renewed(w, token, cancel, late, logical_cancel, timed_out)
 }
 
 // Row i, which is Pending, is cancelled; its column words stay.
@@ -178,6 +193,18 @@ pub fn late_row(rows: &mut [u64], i: usize)
     let at = columns::record_at(rows, i);
     let end = at + RECORD_WORDS;
     let w = late_record(&rows[at..end]);
+    slices::copy_words(rows, at, &w, RECORD_WORDS);
+}
+
+// Row i, which is Pending, has the backend's token; its column words stay.
+pub fn accept_row(rows: &mut [u64], i: usize, token: u64)
+    requires { ⌜ (i < length (readRows (now rows))) × (isPendingRow (rowAt (now rows) i) ≡ true) ⌝ }
+    ensures { λ _. ⌜ storeOf (now (rows .exit))
+        ≡ putIn (storeOf (now (rows .entry))) i (withToken (rowAt (now (rows .entry)) i) token) ⌝ }
+{
+    let at = columns::record_at(rows, i);
+    let end = at + RECORD_WORDS;
+    let w = accepted_record(&rows[at..end], token);
     slices::copy_words(rows, at, &w, RECORD_WORDS);
 }
 

@@ -9,11 +9,10 @@ use Rattle.models.specs.Requests.{deviceMayAccess}
 use Rattle.models.specs.declared.OperationError.{OperationError}
 use Rattle.models.specs.declared.RequestId.{RequestId}
 use Rattle.models.specs.declared.RequestMetadata.{RequestMetadata}
-use Rattle.models.specs.declared.RequestReport.{RequestReport}
 use Rattle.models.specs.declared.RequestState.{RequestState}
 use Rattle.models.specs.declared.RequestState.the-variants.{Pending, Completed, Failed, Aborted}
 use Rattle.rows.specs.Table.{emptyRow}
-pub use Rattle.rows.specs.Table.{reportOf, flagged}
+pub use Rattle.rows.specs.Table.{reportOf, withToken, flagged}
 use Rattle.rows.specs.declared.Row.{Row}
 use Rattle.rules.specs.declared.Step.{Step}
 use Rattle.rules.specs.declared.Step.the-variants as step
@@ -53,15 +52,7 @@ withState r s = record {
 
 -- the backend took the submission
 unfoldable pub accepted : Row → ℕ → Step
-accepted r token = moved (record {
-  used = r .used;
-  id = r .id;
-  metadata = r .metadata;
-  token = token;
-  «logical_cancel» = r .«logical_cancel»;
-  «timed_out» = r .«timed_out»;
-  state = r .state;
-})
+accepted r token = moved (withToken r token)
 
 -- 41: not Pending; else the step to the row that the state's flags lead to
 unfoldable pub whilePending : RequestState → (Bool → Bool → Row) → Step

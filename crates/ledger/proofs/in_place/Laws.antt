@@ -4,14 +4,14 @@ use mathlib.Core.Path.{_≡_, refl, sym, ap, _∙_}
 use mathlib.Core.Bool.{Bool, true, false, not}
 use mathlib.Core.List.{List}
 use native.Mathlib.Omega.{arith}
-use lib.ListN.{length, getD, set, length-set}
+use lib.ListN.{length, set, length-set}
 use lib.Seq.{getD-set-same}
 use borrow.Author.Tests.{not-true}
-use Rattle.chain.specs.After.{After, after}
+use Rattle.chain.specs.After.{after}
 use Rattle.chain.specs.Chain.{_if_else_}
 use Rattle.chain.specs.Lists.{foundIn}
 use Rattle.chain.specs.declared.Found.{Found}
-use Rattle.chain.specs.declared.Found.the-variants.{At, Nothing}
+use Rattle.chain.specs.declared.Found.the-variants.{At}
 use Rattle.chain.proofs.Chain.{both, fits-told}
 use Rattle.models.specs.Refusals.{refusalOf}
 use Rattle.models.specs.Requests.{deviceMayAccess, isPending, sameRequest}
@@ -19,11 +19,11 @@ use Rattle.models.specs.declared.Refusal.{Refusal}
 use Rattle.models.specs.declared.RequestId.{RequestId}
 use Rattle.models.specs.declared.RequestState.{RequestState}
 use Rattle.models.specs.declared.RequestState.the-variants.{Pending, Completed, Failed, Aborted}
-use Rattle.rows.specs.Table.{readRows, emptyRow, rowAt, isHeld, isPendingRow, reportOf}
+use Rattle.rows.specs.Table.{readRows, emptyRow, rowAt, isHeld, isPendingRow, withToken}
 use Rattle.rows.specs.Store.{Store, storeOf, putIn}
 use Rattle.rows.specs.InPlace.{cancelIn, lateIn, cancelled, timedOut}
 use Rattle.rows.specs.declared.Row.{Row}
-use Rattle.rules.specs.Rules.{refusedBy, moved, freed, whilePending, logicalCancel, timeOut, reclaimed, changeRow}
+use Rattle.rules.specs.Rules.{refusedBy, moved, freed, accepted, whilePending, logicalCancel, timeOut, reclaimed, changeRow}
 use Rattle.rules.specs.declared.Change.{Change}
 use Rattle.rules.specs.declared.Change.the-variants as change
 use Rattle.rules.specs.declared.Step.{Step}
@@ -86,6 +86,20 @@ module _ (id : RequestId) (l : List ℕ) (f : Found) (i : ℕ) (ef : f ≡ found
   unfolding applyBy moved
   moved-is c next m s w =
       (rw (read-back l m i next within w, w) (sym (step-is c (moved next) s)), still-in l m i next within w)
+
+  -- accept, of any row
+  pub accept-in : (b : Bool) → b ≡ isPendingRow (rowAt l i) → b ≡ true → (i < length (readRows l)) × (isPendingRow (rowAt l i) ≡ true)
+  accept-in b eb y = (within, sym eb ∙ y)
+
+  module _ (token : ℕ) (m : List ℕ) where
+    pub accept-done : storeOf m ≡ putIn (storeOf l) i (withToken (rowAt l i) token)
+        → (after (reportedAt (placed.At i) (readRows m)) (storeOf m) ≡ applyOf id (change.Accept token) (storeOf l)) × PlacedIn (placed.At i) (readRows m)
+    unfolding changeRow accepted
+    accept-done w = moved-is (change.Accept token) (withToken (rowAt l i) token) m refl w
+
+    pub accept-row : (row : Row) → row ≡ rowAt l i → storeOf m ≡ putIn (storeOf l) i (withToken row token)
+        → (after (reportedAt (placed.At i) (readRows m)) (storeOf m) ≡ applyOf id (change.Accept token) (storeOf l)) × PlacedIn (placed.At i) (readRows m)
+    accept-row row er w = accept-done (w ∙ ap (λ (y : Row). putIn (storeOf l) i (withToken y token)) er)
 
   -- cancel and timeout: 41 where the row is not Pending
   module _ (b : Bool) (eb : b ≡ isPendingRow (rowAt l i)) where

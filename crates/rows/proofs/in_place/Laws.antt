@@ -18,7 +18,7 @@ use Rattle.models.specs.declared.RequestState.the-variants.{Pending}
 use Rattle.models.specs.declared.SetupWords.{SetupWords}
 use Rattle.models.proofs.Enums.{transfer-back, direction-back}
 use Rattle.rows.specs.Codec.{readSetupWords, setupIn, readMetadata, stateWords, statusWords, readRow, recordOf}
-use Rattle.rows.specs.Table.{recordWords, rowWords, rowCount, recordAt, wordsAt, wordAt, readRows, rowAt, emptyRow, isPendingRow, reportOf, flagged}
+use Rattle.rows.specs.Table.{recordWords, rowWords, rowCount, recordAt, wordsAt, wordAt, readRows, rowAt, emptyRow, isPendingRow, reportOf, withToken, flagged}
 use Rattle.rows.specs.Store.{storeOf, putIn}
 use Rattle.rows.specs.Values.{stateTail, reportValues}
 use Rattle.rows.specs.InPlace.{setupAt, stateAt, cancelled, timedOut}
@@ -72,11 +72,11 @@ module _ (w : List ℕ) (y d : ℕ) (p : SetupWords) (ey : y ≡ transferWord (r
   unfolding readRow
   values-are s t a b z ez ea eb = rw (meta-anew (stateTail z (a ∷ b ∷ [])), ez, ea, eb)
 
-  pub record-is : (sc st c t : Bool) (scw stw cw tw : ℕ) → cw ≡ flagWord c → tw ≡ flagWord t → scw ≡ flagWord sc → stw ≡ flagWord st
-      → (getD w 0 0 ∷ getD w 1 0 ∷ metaTail (getD w 15 0 ∷ cw ∷ tw ∷ scw ∷ stw ∷ 0 ∷ 0 ∷ 0 ∷ 0 ∷ [])) ≡ recordOf (flagged (readRow (0 ∷ 1 ∷ w)) sc st c t)
+  pub record-is : (token : ℕ) (sc st c t : Bool) (scw stw cw tw : ℕ) → cw ≡ flagWord c → tw ≡ flagWord t → scw ≡ flagWord sc → stw ≡ flagWord st
+      → (getD w 0 0 ∷ getD w 1 0 ∷ metaTail (token ∷ cw ∷ tw ∷ scw ∷ stw ∷ 0 ∷ 0 ∷ 0 ∷ 0 ∷ [])) ≡ recordOf (flagged (withToken (readRow (0 ∷ 1 ∷ w)) token) sc st c t)
   unfolding readRow recordOf
-  record-is sc st c t scw stw cw tw ec et esc est =
-      rw (meta-anew (getD w 15 0 ∷ cw ∷ tw ∷ scw ∷ stw ∷ 0 ∷ 0 ∷ 0 ∷ 0 ∷ []), ec, et, esc, est)
+  record-is token sc st c t scw stw cw tw ec et esc est =
+      rw (meta-anew (token ∷ cw ∷ tw ∷ scw ∷ stw ∷ 0 ∷ 0 ∷ 0 ∷ 0 ∷ []), ec, et, esc, est)
 
 -- a row read back from its record
 low-twice : (k v : ℕ) → v % 2 ^ k < 2 ^ k → v % 2 ^ k % 2 ^ k ≡ v % 2 ^ k
@@ -100,21 +100,27 @@ metadata-back w =
       setup-back (getD v 7 0) (getD v 8 0) (getD v 9 0) (getD v 10 0) (getD v 11 0) (getD v 12 0),
     )
 
-row-back : (s : ℕ) (w : List ℕ) (sc st c t : Bool)
-    → readRow (s ∷ 1 ∷ recordOf (flagged (readRow (s ∷ 1 ∷ w)) sc st c t)) ≡ flagged (readRow (s ∷ 1 ∷ w)) sc st c t
+row-back : (s token : ℕ) (w : List ℕ) (sc st c t : Bool)
+    → readRow (s ∷ 1 ∷ recordOf (flagged (withToken (readRow (s ∷ 1 ∷ w)) token) sc st c t)) ≡ flagged (withToken (readRow (s ∷ 1 ∷ w)) token) sc st c t
 unfolding readRow recordOf
-row-back s w sc st c t = rw (metadata-back w) (simp (flag-back c, flag-back t, flag-back sc, flag-back st))
+row-back s token w sc st c t = rw (metadata-back w) (simp (flag-back c, flag-back t, flag-back sc, flag-back st))
 
 -- ---- what the functions do
 pub cancelled-is : (w r : List ℕ) (late own : Bool) → late ≡ readFlag (getD w 19 0) → own ≡ readFlag (getD w 17 0)
-    → r ≡ recordOf (flagged (readRow (0 ∷ 1 ∷ w)) true late true own) → r ≡ recordOf (cancelled (readRow (0 ∷ 1 ∷ w)))
+    → r ≡ recordOf (flagged (withToken (readRow (0 ∷ 1 ∷ w)) (getD w 15 0)) true late true own) → r ≡ recordOf (cancelled (readRow (0 ∷ 1 ∷ w)))
 unfolding readRow cancelled
 cancelled-is w r late own el eo e = rw (el, eo) at e
 
 pub late-is : (w r : List ℕ) (cancel own : Bool) → cancel ≡ readFlag (getD w 18 0) → own ≡ readFlag (getD w 16 0)
-    → r ≡ recordOf (flagged (readRow (0 ∷ 1 ∷ w)) cancel true own true) → r ≡ recordOf (timedOut (readRow (0 ∷ 1 ∷ w)))
+    → r ≡ recordOf (flagged (withToken (readRow (0 ∷ 1 ∷ w)) (getD w 15 0)) cancel true own true) → r ≡ recordOf (timedOut (readRow (0 ∷ 1 ∷ w)))
 unfolding readRow timedOut
 late-is w r cancel own ec eo e = rw (ec, eo) at e
+
+pub accepted-is : (w r : List ℕ) (token : ℕ) (sc st c t : Bool) → sc ≡ readFlag (getD w 18 0) → st ≡ readFlag (getD w 19 0)
+    → c ≡ readFlag (getD w 16 0) → t ≡ readFlag (getD w 17 0)
+    → r ≡ recordOf (flagged (withToken (readRow (0 ∷ 1 ∷ w)) token) sc st c t) → r ≡ recordOf (withToken (readRow (0 ∷ 1 ∷ w)) token)
+unfolding readRow
+accepted-is w r token sc st c t es et ec eo e = rw (es, et, ec, eo) at e
 
 pub values-at : (l r : List ℕ) (i s t at : ℕ) → i < length (readRows l) → s ≡ wordAt l i 0 → t ≡ wordAt l i 1 → at ≡ recordAt (rowCount l) i
     → r ≡ reportValues (reportOf (readRow (s ∷ t ∷ take (at + recordWords - at) (drop at l)))) → r ≡ reportValues (reportOf (rowAt l i))
@@ -136,23 +142,30 @@ module _ (l x w : List ℕ) (i at : ℕ) (h : i < length (readRows l)) (pending 
   unfolding rowCount wordsAt
   columns-same = rw (set-getD l i 0) (sym (rw one at (set-getD l (length l / rowWords + i) 0)))
 
-  put-kept : (sc st c t : Bool) → w ≡ recordOf (flagged (readRow (0 ∷ 1 ∷ recorded)) sc st c t)
-      → storeOf x ≡ putIn (storeOf l) i (flagged (readRow (wordAt l i 0 ∷ 1 ∷ recorded)) sc st c t)
+  put-kept : (token : ℕ) (sc st c t : Bool) → w ≡ recordOf (flagged (withToken (readRow (0 ∷ 1 ∷ recorded)) token) sc st c t)
+      → storeOf x ≡ putIn (storeOf l) i (flagged (withToken (readRow (wordAt l i 0 ∷ 1 ∷ recorded)) token) sc st c t)
   unfolding readRow recordOf
-  put-kept sc st c t hw =
-      let r = flagged (readRow (wordAt l i 0 ∷ 1 ∷ recorded)) sc st c t in
-      let back : readRow (wordAt l i 0 ∷ 1 ∷ w) ≡ r = rw hw (row-back (wordAt l i 0) recorded sc st c t) in
+  put-kept token sc st c t hw =
+      let r = flagged (withToken (readRow (wordAt l i 0 ∷ 1 ∷ recorded)) token) sc st c t in
+      let back : readRow (wordAt l i 0 ∷ 1 ∷ w) ≡ r = rw hw (row-back (wordAt l i 0) token recorded sc st c t) in
       put-row l l x i at (statusWords true (Pending sc st)) w r h ea refl back hw columns-same ex
 
   pub cancel-put : w ≡ recordOf (cancelled (readRow (0 ∷ 1 ∷ recorded))) → storeOf x ≡ putIn (storeOf l) i (cancelled (rowAt l i))
   unfolding readRow cancelled
   cancel-put hw =
-      put-kept true (readFlag (getD recorded 19 0)) true (readFlag (getD recorded 17 0)) hw ∙ ap (λ (y : Row). putIn (storeOf l) i (cancelled y)) same-row
+      put-kept (getD recorded 15 0) true (readFlag (getD recorded 19 0)) true (readFlag (getD recorded 17 0)) hw ∙ ap (λ (y : Row). putIn (storeOf l) i (cancelled y)) same-row
 
   pub late-put : w ≡ recordOf (timedOut (readRow (0 ∷ 1 ∷ recorded))) → storeOf x ≡ putIn (storeOf l) i (timedOut (rowAt l i))
   unfolding readRow timedOut
   late-put hw =
-      put-kept (readFlag (getD recorded 18 0)) true (readFlag (getD recorded 16 0)) true hw ∙ ap (λ (y : Row). putIn (storeOf l) i (timedOut y)) same-row
+      put-kept (getD recorded 15 0) (readFlag (getD recorded 18 0)) true (readFlag (getD recorded 16 0)) true hw ∙ ap (λ (y : Row). putIn (storeOf l) i (timedOut y)) same-row
+
+  pub accept-put : (token : ℕ) → w ≡ recordOf (withToken (readRow (0 ∷ 1 ∷ recorded)) token)
+      → storeOf x ≡ putIn (storeOf l) i (withToken (rowAt l i) token)
+  unfolding readRow
+  accept-put token hw =
+      put-kept token (readFlag (getD recorded 18 0)) (readFlag (getD recorded 19 0)) (readFlag (getD recorded 16 0)) (readFlag (getD recorded 17 0)) hw
+      ∙ ap (λ (y : Row). putIn (storeOf l) i (withToken y token)) same-row
 
 pub free-put : (l m x : List ℕ) (i at : ℕ) → i < length (readRows l) → at ≡ recordAt (rowCount l) i
     → m ≡ set (set l i 0) (length l / rowWords + i) 0 → x ≡ splice at (replicate recordWords 0) m → storeOf x ≡ putIn (storeOf l) i emptyRow
