@@ -109,7 +109,7 @@ module _ (o : OptionPorts) (m : RequestMetadata) where
       first-told old e (Word raw) f' s s' =
           let p = freshWord raw o (d .port) b .result in
           let left = freshWord raw o (d .port) b .lent in
-          agreeing _ _ _ _ (firstOf (Word raw) s') (firstOf f' s') (λ u. rw u)
+          agreeing (firstWanted (Word raw) s o d m b) (record { first = Word raw; second = s }) (record { first = f'; second = s' }) (firstOf (Word raw) s) (firstOf (Word raw) s') (firstOf f' s') (λ u. ap (λ (z : PortReading). firstOf z s') u)
           (rw (prepared-is left p) (prepared-told left p (isPrepared (d .state)) (Word raw) f' s s' (λ new h. again (d .port) raw old new e h)))
 
       -- 29 to 32

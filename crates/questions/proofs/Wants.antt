@@ -81,7 +81,10 @@ module _ (s : Session) (l : Lent) (x y : Readings) (all : length (l .bus .ports)
       → Means Q (targetWants m x s (l .bus)) x y (f (checkTarget (isInitialized (s .state)) (s .ports) m x (l .bus))) (f (checkTarget (isInitialized (s .state)) (s .ports) m y (l .bus)))
   unfolding targetWants
   follows Q m f k =
-      carried RefusedBy Q f _ x y _ _ (λ e. k e _) (target-told (s .ports) m (l .bus) (rereads (s .ports) (l .bus) all few) x y (isInitialized (s .state)))
+      let i = isInitialized (s .state) in
+      let o = checkTarget i (s .ports) m x (l .bus) in
+      carried RefusedBy Q f (targetWants m x s (l .bus)) x y o (checkTarget i (s .ports) m y (l .bus)) (λ e. k e o)
+      (target-told (s .ports) m (l .bus) (rereads (s .ports) (l .bus) all few) x y i)
 
   abbrev begins : Draft → After Verdict Bus → After Started Lent
   begins d o = targetBy (o .result) d s (lent (o .lent) (l .memory))
@@ -104,26 +107,28 @@ module _ (s : Session) (l : Lent) (x y : Readings) (all : length (l .bus .ports)
     prepared-told : (p : Place) (a : Prepared) → prepared (q .spec) (length (q .bytes)) (s .size .«row_bytes») ≡ a
         → Told (preparedWants (by x) s (l .bus)) (preparedOf p (by x) s l) (preparedOf p (by y) s l)
     unfolding preparedWants preparedOf targetOf
-    prepared-told p (prepare.Refused r) e = rw e (λ u v. refl)
+    prepared-told p (prepare.Refused r) e = rw (e, preparedOf, preparedWants) (λ u v. refl)
     prepared-told p (prepare.Ready m) e =
-        rw e (follows SubmitRefused m (λ o. submittedTo (begins (draft p m (q .bytes)) o) m (q .given)) (submit-refused (draft p m (q .bytes)) m))
+        rw (e, preparedOf, preparedWants) (follows SubmitRefused m (λ o. submittedTo (begins (draft p m (q .bytes)) o) m (q .given)) (submit-refused (draft p m (q .bytes)) m))
 
     room-told : (f : Found) → roomIn (l .memory .store .rows) ≡ f
         → Told (roomWants (by x) s (l .bus) (l .memory .store .rows)) (roomOf (by x) s l) (roomOf (by y) s l)
     unfolding roomWants roomOf
-    room-told found.Nothing e = rw e (λ u v. refl)
-    room-told (found.At i) e = rw e (prepared-told (placeOf (s .size) i) (prepared (q .spec) (length (q .bytes)) (s .size .«row_bytes»)) refl)
+    room-told found.Nothing e = rw (e, roomOf, roomWants) (λ u v. refl)
+    room-told (found.At i) e = rw (e, roomOf, roomWants) (prepared-told (placeOf (s .size) i) (prepared (q .spec) (length (q .bytes)) (s .size .«row_bytes»)) refl)
 
     packets-told : (v : Verdict) → packetsChecked (q .given) packets (q .spec .«transfer_type») (q .spec .length) ≡ v
         → Told (packetsWants packets (by x) s (l .bus) (l .memory .store .rows)) (packetsOf packets (by x) s l) (packetsOf packets (by y) s l)
     unfolding packetsWants packetsOf
-    packets-told (verdict.Refused r) e = rw e (λ u v. refl)
-    packets-told verdict.Pass e = rw e (room-told (roomIn (l .memory .store .rows)) refl)
+    packets-told (verdict.Refused r) e = rw (e, packetsOf, packetsWants) (λ u v. refl)
+    packets-told verdict.Pass e = rw (e, packetsOf, packetsWants) (room-told (roomIn (l .memory .store .rows)) refl)
 
     pub submit-told : Told (submitWants packets (by x) s l) (submitOf packets (by x) s l) (submitOf packets (by y) s l)
     unfolding submitWants submitOf
     submit-told =
-        started SubmitRefused _ x y _ _ _ (packets-told (packetsChecked (q .given) packets (q .spec .«transfer_type») (q .spec .length)) refl) s (lentFits (s .size) l)
+        started SubmitRefused (packetsWants packets (by x) s (l .bus) (l .memory .store .rows)) x y (λ r. after (submitRefused s r) l) (packetsOf packets (by x) s l) (packetsOf packets (by y) s l)
+        (packets-told (packetsChecked (q .given) packets (q .spec .«transfer_type») (q .spec .length)) refl)
+        s (lentFits (s .size) l)
 
 -- a plan: it is control, so the one reading serves
 module _ (s : Session) (l : Lent) (first other : PortReading) (all : length (l .bus .ports) ≡ 255) (few : CountFits (s .ports)) (q : ControlPlan) (bytes : List ℕ) where
@@ -144,17 +149,20 @@ module _ (s : Session) (l : Lent) (first other : PortReading) (all : length (l .
   planned-told : (p : Place) (a : Planned) → planned q (length bytes) (s .size .«row_bytes») ≡ a
       → PlanTold (plannedWants q bytes first s (l .bus)) (plannedOf p q bytes first s l) (plannedOf p q bytes other s l)
   unfolding plannedWants plannedOf targetOf
-  planned-told p (plan.Refused r) e = rw e (λ u v. refl)
+  planned-told p (plan.Refused r) e = rw (e, plannedOf, plannedWants) (λ u v. refl)
   planned-told p (plan.Ready v) e =
       let d = draft p (v .metadata) bytes in
-      rw e (follows s l (twice first) (twice other) all few PlanRefused (v .metadata) (λ o. plannedTo (targetBy (o .result) d s (lent (o .lent) (l .memory))) v) (plan-refused d v))
+      rw (e, plannedOf, plannedWants) (follows s l (twice first) (twice other) all few PlanRefused (v .metadata) (λ o. plannedTo (targetBy (o .result) d s (lent (o .lent) (l .memory))) v) (plan-refused d v))
 
   plan-room-told : (f : Found) → roomIn (l .memory .store .rows) ≡ f
       → PlanTold (planRoomWants q bytes first s (l .bus) (l .memory .store .rows)) (planRoomOf q bytes first s l) (planRoomOf q bytes other s l)
   unfolding planRoomWants planRoomOf
-  plan-room-told found.Nothing e = rw e (λ u v. refl)
-  plan-room-told (found.At i) e = rw e (planned-told (placeOf (s .size) i) (planned q (length bytes) (s .size .«row_bytes»)) refl)
+  plan-room-told found.Nothing e = rw (e, planRoomOf, planRoomWants) (λ u v. refl)
+  plan-room-told (found.At i) e = rw (e, planRoomOf, planRoomWants) (planned-told (placeOf (s .size) i) (planned q (length bytes) (s .size .«row_bytes»)) refl)
 
   pub plan-told : PlanTold (planWants q bytes first s l) (submitPlanOf q bytes first s l) (submitPlanOf q bytes other s l)
   unfolding planWants submitPlanOf
-  plan-told = started PlanRefused _ (twice first) (twice other) _ _ _ (plan-room-told (roomIn (l .memory .store .rows)) refl) s (lentFits (s .size) l)
+  plan-told =
+      started PlanRefused (planRoomWants q bytes first s (l .bus) (l .memory .store .rows)) (twice first) (twice other) (λ r. after (planRefused s r) l) (planRoomOf q bytes first s l) (planRoomOf q bytes other s l)
+      (plan-room-told (roomIn (l .memory .store .rows)) refl)
+        s (lentFits (s .size) l)
