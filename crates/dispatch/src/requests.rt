@@ -111,7 +111,13 @@ pub(crate) fn report_call(
     Outcome { answer, session }
 }
 
-pub(crate) fn report_answer(number: u64, session: Session, rows: &[u64], area: &[u8], call: &[u64]) -> Answer
+pub(crate) fn report_answer(
+    number: u64,
+    session: Session,
+    rows: &[u64],
+    area: &[u8],
+    call: &[u64],
+) -> Answer
     ensures { λ r. ⌜ ReadsMemory (outcome r session) (readReporting number (now (call .entry))) session rows area ⌝ }
 {
     let id = state::id_at(call, 1);

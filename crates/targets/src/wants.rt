@@ -35,11 +35,7 @@ fn is_missing(reading: PortReading) -> bool
 }
 
 // The second reading comes after 36, and not for control.
-fn second_wanted(
-    device: DeviceSnapshot,
-    metadata: RequestMetadata,
-    second: PortReading,
-) -> Wanted
+fn second_wanted(device: DeviceSnapshot, metadata: RequestMetadata, second: PortReading) -> Wanted
     ensures { λ r. ⌜ r ≡ secondWanted device metadata second ⌝ }
 {
     let transfer_type = metadata.transfer_type;

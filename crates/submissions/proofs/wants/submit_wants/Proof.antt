@@ -1,0 +1,28 @@
+use Rattle.rows.specs.Store.{storeOf}
+use Rattle.bus.specs.Tables.{busOf}
+use Rattle.submissions.proofs.wants.Laws.{ready-bus, submit-none, submit-wants}
+use borrow.Author.Needs.{needs}
+use Rattle.submissions.proofs.wants.submit_wants.Statement.{statement}
+use Rattle.submissions.proofs.wants.submit_wants.Tie as tie
+
+packets-wants-requires : tie.Need-packets-wants-requires
+packets-wants-requires c κs = search ready-bus
+
+returns : tie.Need-returns
+unfolding storeOf busOf
+returns c = search submit-none
+
+returns-2 : tie.Need-returns-2
+unfolding storeOf busOf
+returns-2 c = search submit-wants
+
+pub submit-wants-spec : {M : Type 1} → statement M
+submit-wants-spec =
+    tie.close
+    (tie.spec
+    (λ c κs. search needs)
+    (λ c. search needs)
+    (λ c. search needs)
+    packets-wants-requires
+    returns
+    returns-2)
