@@ -138,6 +138,8 @@ fn option_u32(value: Option<u32>) -> u64 {
     value.map_or(0, |number| u64::from(number) + 1)
 }
 
+/// A submission is written up to three times, so in line: then where each word
+/// goes is known before it runs.
 impl Words {
     fn option_u64(&mut self, value: Option<u64>) {
         self.put(&[u64::from(value.is_some()), value.unwrap_or(0)]);
@@ -152,6 +154,7 @@ impl Words {
         self.id(id);
     }
 
+    #[inline(always)]
     fn device(&mut self, id: DeviceId) {
         self.put(&[id.session, id.generation, u64::from(id.slot)]);
     }
@@ -160,6 +163,7 @@ impl Words {
         self.put(&[id.session, id.generation, u64::from(id.number)]);
     }
 
+    #[inline(always)]
     fn error(&mut self, error: Option<&Error>) {
         let Some(error) = error else {
             return self.put(&[0; 4]);
@@ -177,6 +181,7 @@ impl Words {
         self.error(error);
     }
 
+    #[inline(always)]
     fn setup(&mut self, setup: SetupPacket) {
         self.put(&[
             u64::from(setup.request_type),
@@ -187,11 +192,13 @@ impl Words {
         ]);
     }
 
+    #[inline(always)]
     fn reading(&mut self, reading: &Reading) {
         self.put(&[u64::from(reading.is_err()), reading.map_or(0, u64::from)]);
         self.error(reading.as_ref().err());
     }
 
+    #[inline(always)]
     fn submit(&mut self, number: u64, submit: &Submit<'_>) {
         self.put(&[number]);
         self.device(submit.device);
@@ -212,6 +219,7 @@ impl Words {
         self.put(submit.packets.unwrap_or_default());
     }
 
+    #[inline(always)]
     fn plan(&mut self, number: u64, plan: &Plan<'_>) {
         self.put(&[number]);
         self.device(plan.device);

@@ -21,7 +21,7 @@ impl Words {
         }
     }
 
-    #[inline]
+    #[inline(always)]
     pub fn put(&mut self, words: &[u64]) {
         let end = self.length + words.len();
         match self.few.get_mut(self.length..end) {
