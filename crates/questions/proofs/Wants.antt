@@ -165,4 +165,4 @@ module _ (s : Session) (l : Lent) (first other : PortReading) (all : length (l .
   plan-told =
       started PlanRefused (planRoomWants q bytes first s (l .bus) (l .memory .store .rows)) (twice first) (twice other) (λ r. after (planRefused s r) l) (planRoomOf q bytes first s l) (planRoomOf q bytes other s l)
       (plan-room-told (roomIn (l .memory .store .rows)) refl)
-        s (lentFits (s .size) l)
+      s (lentFits (s .size) l)
