@@ -1,18 +1,21 @@
 -- Laws of answers to questions as words. Assumes nothing.
-use Prim.Native.Nat.{ℕ}
+use Prim.Native.Nat.{ℕ, _≤_}
 use mathlib.Core.List.{List, [], _∷_}
 use mathlib.Core.Path.{_≡_, _∙_}
-use lib.ListN.{take, drop, replicate}
+use native.Mathlib.Omega.{arith}
+use lib.ListN.{length, take, drop, replicate}
 use Rattle.words.specs.Records.{splice}
 use Rattle.models.specs.declared.Refusal.{Refusal}
 use Rattle.models.specs.declared.RequestReport.{RequestReport}
+use Rattle.targets.specs.declared.wants.Wanted.{Wanted}
+use Rattle.targets.specs.declared.wants.Wanted.the-variants as wanted
 use Rattle.session.specs.declared.Session.{Session}
 use Rattle.session_words.specs.State.{sessionWords}
 use Rattle.calls.specs.declared.Answer.the-variants as call
 use Rattle.answer_words.specs.Encode.{reportWords, answerWords, written}
 use Rattle.questions.specs.declared.QuestionAnswer.{QuestionAnswer}
 use Rattle.questions.specs.declared.QuestionAnswer.the-variants as answer
-use Rattle.question_words.specs.Encode.{statusWords, placedWords, questionWords}
+use Rattle.question_words.specs.Encode.{statusWords, placedWords, wantedWords, questionWords}
 
 -- parts of words, put one behind the other
 module _ (own rest w₁ w : List ℕ) where
@@ -25,6 +28,21 @@ module _ (own rest w₁ w : List ℕ) where
       → w ≡ splice 2 (take 25 rest) w₁ → w ≡ placedWords place x
   unfolding placedWords reportWords splice
   placed-exact place x eo er e₁ e = e ∙ rw (e₁, er, eo)
+
+-- there are as many as are copied
+pub status-room : (own rest : List ℕ) (s : Session) → own ≡ sessionWords s → rest ≡ drop 24 own → 2 ≤ length rest
+unfolding sessionWords
+status-room own rest s eo er = rw (er, eo) (omega arith)
+
+pub placed-room : (own rest : List ℕ) (x : RequestReport) → own ≡ reportWords x → rest ≡ drop 1 own → 25 ≤ length rest
+unfolding reportWords
+placed-room own rest x eo er = rw (er, eo) (omega arith)
+
+pub first-exact : (x : Wanted) (n : ℕ) → x ≡ wanted.First n → 13 ∷ 1 ∷ n ∷ [] ≡ wantedWords x
+first-exact x n e = rw e
+
+pub second-exact : (x : Wanted) (n : ℕ) → x ≡ wanted.Second n → 13 ∷ 2 ∷ n ∷ [] ≡ wantedWords x
+second-exact x n e = rw e
 
 -- an answer's words are put
 module _ (a : QuestionAnswer) (out after : List ℕ) where
