@@ -1,4 +1,5 @@
-//! A C program that includes the header, links the archive and opens a session.
+//! A C program that includes the header, links the archive, opens a session and
+//! asks for its status.
 use std::path::{Path, PathBuf};
 use std::process::Command;
 
@@ -24,7 +25,7 @@ fn compiled(name: &str) -> PathBuf {
 }
 
 #[test]
-fn a_c_program_opens_a_session() {
+fn a_c_program_opens_a_session_and_reads_it() {
     let output = Command::new(compiled("open")).output().unwrap();
     assert!(output.status.success());
     let [session, bus, row] = [SESSION_WORDS, BUS_WORDS, ROW_WORDS];
@@ -33,8 +34,8 @@ fn a_c_program_opens_a_session() {
     let version = library::version();
     let expected = format!(
         "version {version}\nheader {VERSION}\nsession {session}\nbus {bus}\nrow {row}\nout {out}\n\
-         lists {lists}\nrows {rows}\nrow bytes {row_bytes}\nopen 0\nanswer 1\nnumber 7\ncount 0\n\
-         answer 7\nheld 0\nunknown 1\n"
+         lists {lists}\nrows {rows}\nrow bytes {row_bytes}\nopen 0\nanswer 1\nstatus 0\nanswer 11\n\
+         number 7\ncount 0\nanswer 7\nheld 0\nunknown 1\nno report 1\n"
     );
     assert_eq!(String::from_utf8(output.stdout).unwrap(), expected);
 }
