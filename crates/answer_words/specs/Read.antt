@@ -2,11 +2,12 @@
 use Prim.Native.Nat.{ℕ, _+_, _<_, _^_}
 use mathlib.Core.List.{List}
 use lib.Dec.{eqb}
-use lib.ListN.{getD}
+use lib.ListN.{getD, drop}
 use Rattle.chain.specs.Chain.{_if_else_}
 use Rattle.words.specs.Records.{tab}
 use Rattle.words.specs.Words.{readFlag}
 use Rattle.models.specs.Codes.{readDirection, readProfile}
+use Rattle.models.specs.Said.{Said, says}
 use Rattle.models.specs.declared.RequestMetadata.{RequestMetadata}
 use Rattle.models.specs.declared.RequestState.{RequestState}
 use Rattle.models.specs.declared.RequestState.the-variants as state
@@ -60,6 +61,10 @@ readAnswer w =
       «restart_ready» = readFlag (getD w 10 0);
       error = readOptionError w 11;
     })
+
+-- the number and the values
+abbrev pub saidIn : List ℕ → Said
+saidIn w = record { number = getD w 1 0; values = drop 2 w } if eqb (getD w 0 0) 0 else says (drop 1 w)
 
 -- ---- in the range of its type
 abbrev pub MetadataFits : RequestMetadata → Type 0

@@ -62,21 +62,21 @@ use Rattle.recovery.specs.declared.RecoveryAnswer.the-variants as recovery
 use Rattle.recovery.specs.declared.RecoveryReply.the-variants as returned
 
 -- what an example is about
-pub data Said : Type 0 where
-  Prepares : Prepared → Said
-  Packs : Verdict → Said
-  Writes : List ℕ → Said
-  Plans : Planned → Said
+pub data Subject : Type 0 where
+  Prepares : Prepared → Subject
+  Packs : Verdict → Subject
+  Writes : List ℕ → Subject
+  Plans : Planned → Subject
   -- the states of the rows after a reply
-  Leaves : List RequestState → Said
+  Leaves : List RequestState → Subject
   -- a recovery's answer, the controller's state and the states of the rows after its reply
-  Recovers : RecoveryAnswer → ControllerState → List RequestState → Said
+  Recovers : RecoveryAnswer → ControllerState → List RequestState → Subject
 
 pub record Example : Type 0 where
-  pub computed : Said
-  pub expected : Said
+  pub computed : Subject
+  pub expected : Subject
 
-abbrev gives : Said → Said → Example
+abbrev gives : Subject → Subject → Example
 gives a b = record { computed = a; expected = b }
 
 -- a refusal with its category, whose message is its number
@@ -103,26 +103,26 @@ abbrev packet : ℕ → ℕ → ℕ → SetupPacket
 packet t k n = record { «request_type» = t; request = k; value = 0; index = 0; length = n }
 
 -- n bytes from endpoint 81h
-abbrev bulk : ℕ → Said
+abbrev bulk : ℕ → Subject
 bulk n =
     Prepares (prepared (record { device = device; endpoint = 0x81; «transfer_type» = Bulk; direction = In; length = n; setup = setup.None }) 0 65536)
 
 -- n bytes by the packet p, with no data
-abbrev control : Direction → ℕ → SetupPacket → Said
+abbrev control : Direction → ℕ → SetupPacket → Subject
 control d n p =
     Prepares (prepared (record { device = device; endpoint = 0; «transfer_type» = Control; direction = d; length = n; setup = setup.Some p }) 0 65536)
 
-abbrev packets : List ℕ → ℕ → Said
+abbrev packets : List ℕ → ℕ → Subject
 packets l n = Packs (packetsChecked true l Isochronous n)
 
 -- ---- plans: Compliant, status IN, with no data
 
-abbrev compliant : SetupPacket → OptionStage → Said
+abbrev compliant : SetupPacket → OptionStage → Subject
 compliant p s =
     Plans (planned (record { device = device; profile = Compliant; setup = p; «data_stage» = s; «status_direction» = direction.Some In }) 0 65536)
 
 -- the plan of the packet p without a stage
-abbrev planOk : SetupPacket → Said
+abbrev planOk : SetupPacket → Subject
 planOk p = Plans (plan.Ready (record {
   metadata = metadata 0 Control In (setup.Some p) 0;
   «has_data» = false;
@@ -175,7 +175,7 @@ abbrev completion : ℕ → List ℕ → BackendCompletion
 completion k bytes =
     record { «actual_length» = u64.Some (length bytes); «completion_code» = u32.Some k; «has_data» = true; error = error.None; quiescent = true }
 
-abbrev polled : ℕ → List ℕ → Said
+abbrev polled : ℕ → List ℕ → Subject
 polled k bytes =
     Leaves (states (pollReplyOf (reply.Completion (completion k bytes)) bytes (session (flight.Poll (id 1)) 1) (stored (row 1 7 ∷ [])) .lent))
 
@@ -183,10 +183,10 @@ polled k bytes =
 abbrev recovering : InFlight
 recovering = flight.Recovery (record { target = id 1; device = device; endpoint = 0x81; kind = kind.Abort })
 
-abbrev recovered : After Recovered Memory → Said
+abbrev recovered : After Recovered Memory → Subject
 recovered o = Recovers (o .result .answer) (o .result .session .state) (states (o .lent))
 
-abbrev aborted : Bool → List ℕ → Said
+abbrev aborted : Bool → List ℕ → Subject
 aborted ready tokens =
     recovered
     (recoveryReplyOf (returned.Done (record { «restart_ready» = ready; error = error.None })) (replyLists [] [] tokens []) (session recovering 2)

@@ -7,15 +7,19 @@ use reports::change;
 use session::Session;
 ghost use mathlib.Core.Path.{_≡_};
 ghost use Rattle.chain.specs.After.{after};
+ghost use Rattle.models.specs.Said.{Tabled};
 ghost use Rattle.rules.specs.declared.Change.the-variants as Change;
 ghost use Rattle.session.specs.Lent.{storeIn, storeOut};
 ghost use Rattle.reports.specs.Change.{changeOf};
+ghost use Rattle.reports.specs.Said.{reportSaid, cancelNumbers, reclaimNumbers};
 ghost use Rattle.polls.specs.Poll.{pollOf};
+ghost use Rattle.polls.specs.Said.{pollSaid, pollNumbers};
 ghost use Rattle.lent.specs.Lent.{polledAs, reportedAs};
 
 // The rows are lent again, as the others lend theirs: one proof serves all four.
 pub fn poll_request(session: &mut Session, rows: &[u64], id: RequestId) -> PollAnswer
-    ensures { λ r. ⌜ polledAs r (now (session .exit)) ≡ pollOf id (now (session .entry)) (storeIn rows) ⌝ }
+    ensures { λ r. ⌜ (polledAs r (now (session .exit)) ≡ pollOf id (now (session .entry)) (storeIn rows))
+        × Tabled pollNumbers (pollSaid r) ⌝ }
 {
     let done = poll::poll_request(*session, &*rows, id);
     *session = done.session;
@@ -27,8 +31,8 @@ pub fn logical_cancel_request(
     rows: &mut [u64],
     id: RequestId,
 ) -> ReportAnswer
-    ensures { λ r. ⌜ after (reportedAs r (now (session .exit))) (storeOut rows)
-        ≡ changeOf id Change.LogicalCancel (now (session .entry)) (storeIn rows) ⌝ }
+    ensures { λ r. ⌜ (after (reportedAs r (now (session .exit))) (storeOut rows)
+        ≡ changeOf id Change.LogicalCancel (now (session .entry)) (storeIn rows)) × Tabled cancelNumbers (reportSaid r) ⌝ }
 {
     let done = change::logical_cancel_request(*session, rows, id);
     *session = done.session;
@@ -36,8 +40,8 @@ pub fn logical_cancel_request(
 }
 
 pub fn timeout_request(session: &mut Session, rows: &mut [u64], id: RequestId) -> ReportAnswer
-    ensures { λ r. ⌜ after (reportedAs r (now (session .exit))) (storeOut rows)
-        ≡ changeOf id Change.Timeout (now (session .entry)) (storeIn rows) ⌝ }
+    ensures { λ r. ⌜ (after (reportedAs r (now (session .exit))) (storeOut rows)
+        ≡ changeOf id Change.Timeout (now (session .entry)) (storeIn rows)) × Tabled cancelNumbers (reportSaid r) ⌝ }
 {
     let done = change::timeout_request(*session, rows, id);
     *session = done.session;
@@ -45,8 +49,8 @@ pub fn timeout_request(session: &mut Session, rows: &mut [u64], id: RequestId) -
 }
 
 pub fn reclaim_request(session: &mut Session, rows: &mut [u64], id: RequestId) -> ReportAnswer
-    ensures { λ r. ⌜ after (reportedAs r (now (session .exit))) (storeOut rows)
-        ≡ changeOf id Change.Reclaim (now (session .entry)) (storeIn rows) ⌝ }
+    ensures { λ r. ⌜ (after (reportedAs r (now (session .exit))) (storeOut rows)
+        ≡ changeOf id Change.Reclaim (now (session .entry)) (storeIn rows)) × Tabled reclaimNumbers (reportSaid r) ⌝ }
 {
     let done = change::reclaim_request(*session, rows, id);
     *session = done.session;

@@ -42,7 +42,7 @@ use Rattle.recovery.specs.RecoveryReply.{ReplyLists, concludedBy, settle
 use Rattle.recovery.specs.Said.{beginSaid, recoverySaid, recoverNumbers, recoveryReplyNumbers}
 use Rattle.recovery.specs.declared.AbortReport.{AbortReport}
 use Rattle.recovery.specs.declared.Begun.{Begun}
-use Rattle.recovery.specs.declared.Ended.{Ended}
+use Rattle.recovery.specs.declared.recovery_reply.Ended.{Ended}
 use Rattle.recovery.specs.declared.Ids.{Ids}
 use Rattle.recovery.specs.declared.Recovered.{Recovered}
 use Rattle.recovery.specs.declared.RecoveryReply.{RecoveryReply}

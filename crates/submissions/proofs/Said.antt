@@ -63,15 +63,18 @@ use Rattle.submissions.specs.declared.begin.Started.{Started}
 
 -- ---- the end of every submission; 39 is in ns
 module _ (ns : List ℕ) (last : isOneOf ns 39 ≡ true) where
+  abbrev Starts : After Started Memory → Type 0
+  Starts o = Tabled ns (startSaid (o .result .answer))
+
   begin-tabled : (d : Draft) (s : Session) (m : Memory) → Tabled ns (startSaid (beginOf d s m .result .answer))
   unfolding beginOf spendSequence
   begin-tabled d s m =
       if-all
       (λ (x : Spent).
-      Tabled ns (startSaid (elim x [
+      Starts (elim x [
         | spent.Refused r ↦ after (startRefused s r) m
         | spent.Next next ↦ begun next d s m
-      ] .result .answer)))
+      ]))
       _ _ _ (tabled-own ns 39 last) (tabled-says ns _)
 
   target-by : (v : Verdict) → Tabled ns (verdictSaid v) → (d : Draft) (s : Session) (l : Lent) → Tabled ns (startSaid (targetBy v d s l .result .answer))

@@ -7,7 +7,7 @@ returns : tie.Need-returns
 returns c = search begin-stop
 
 returns-2 : tie.Need-returns-2
-returns-2 c = search begin-on
+returns-2 c = search (begin-on, c .before .before .before .before .before .before .before .before .before .before .before .before .before .before .spend-sequence .ensures .0)
 
 pub begin-spec : {M : Type 1} → statement M
 begin-spec =

@@ -11,7 +11,7 @@ returns : tie.Need-returns
 returns c = search planned-stop
 
 returns-2 : tie.Need-returns-2
-returns-2 c = search planned-on
+returns-2 c = search (planned-on, c .before .before .before .before .before .before .before .before .before .before .before .before .before .before .before .validate-plan .ensures .0)
 
 pub plan-prepared-spec : {M : Type 1} → statement M
 plan-prepared-spec =
