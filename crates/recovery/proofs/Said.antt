@@ -117,8 +117,9 @@ aborts-tabled (i ∷ is) store = onward (abortOne i store .result) (abortOne i s
 entries-tabled : (z : Size) (l : RowLists) (m : Memory) → Enters (applyAll z l m)
 unfolding applyAll
 entries-tabled z l m =
-    let done : After Verdict Memory = completeAll z (readEntries (l .completed) (l .completions)) (l .bytes) m in
-    onward (done .result) done (abortsIn (l .aborted)) (completions-tabled z _ _ m) (λ left. aborts-tabled (l .aborted) (left .store))
+    let es : List RowEntry = readEntries (l .completed) (l .completions) in
+    let done : After Verdict Memory = completeAll z es (l .bytes) m in
+    onward (done .result) done (abortsIn (l .aborted)) (completions-tabled z es (l .bytes) m) (λ left. aborts-tabled (l .aborted) (left .store))
 
 -- ---- the reply
 abbrev Replies : After Recovered Memory → Type 0
