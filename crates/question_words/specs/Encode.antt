@@ -14,8 +14,8 @@ use Rattle.questions.specs.declared.QuestionAnswer.{QuestionAnswer}
 use Rattle.questions.specs.declared.QuestionAnswer.the-variants as answer
 
 -- of what is in flight the kind alone
-unfoldable pub statusWords : Session → List ℕ
-statusWords s =
+unfoldable pub sessionStatusWords : Session → List ℕ
+sessionStatusWords s =
     11 ∷ s .number ∷ s .generation ∷ s .«next_sequence»
     ∷ portsTail (portsWords (s .ports))
     (controllerWord (s .state)
@@ -34,7 +34,7 @@ wantedWords (wanted.Second number) = 13 ∷ 2 ∷ number ∷ []
 
 abbrev pub questionWords : QuestionAnswer → List ℕ
 questionWords (answer.Refused r) = refusalWords r
-questionWords (answer.Status s) = statusWords s
+questionWords (answer.Status s) = sessionStatusWords s
 questionWords answer.NoReport = 5 ∷ []
 questionWords (answer.ReportAt place x) = placedWords place x
 questionWords (answer.Reading x) = wantedWords x

@@ -10,11 +10,11 @@ use targets::wants::Wanted;
 use words::slices;
 ghost use mathlib.Core.Path.{_≡_};
 ghost use Rattle.answer_words.specs.Encode.{written};
-ghost use Rattle.question_words.specs.Encode.{statusWords, placedWords, wantedWords, questionWords};
+ghost use Rattle.question_words.specs.Encode.{sessionStatusWords, placedWords, wantedWords, questionWords};
 
 // The session's own words, but for the request in flight.
 fn status_words(session: Session) -> [u64; 19]
-    ensures { λ w. ⌜ w ≡ statusWords session ⌝ }
+    ensures { λ w. ⌜ w ≡ sessionStatusWords session ⌝ }
 {
     let own = state::session_words(session);
     let tag = [11];

@@ -1,7 +1,7 @@
 -- A wanted reading at the checks of the device and its endpoint. Assumes nothing.
 use Prim.Native.Nat.{ℕ, _<_, _≤_, _^_}
 use mathlib.Core.Bool.{Bool, true, false, not, _||_}
-use mathlib.Core.Path.{_≡_, refl, sym, ap, _∙_}
+use mathlib.Core.Path.{_≡_, refl, ap, _∙_}
 use native.Mathlib.Omega.{arith}
 use lib.Dec.{eqb, ltb}
 use lib.ListN.{length}
@@ -23,7 +23,6 @@ use Rattle.models.specs.declared.Verdict.{Verdict}
 use Rattle.models.specs.declared.Verdict.the-variants as verdict
 use Rattle.bus.specs.Tables.{Bus, newPort, portIndex, portAt, putPort}
 use Rattle.bus.specs.Ports.{numberChecked, validatedRow, validatedBy, validated, observedRow, observePortBy, observePort, freshObserved, freshWord, freshReading, freshPortBy, freshPort}
-use Rattle.bus.specs.declared.PortRow.{PortRow}
 use Rattle.bus.specs.declared.ports.Observed.{Observed}
 use Rattle.bus.specs.declared.ports.Observed.the-variants as observed
 use Rattle.bus.specs.declared.ports.PortChecked.{PortChecked}
@@ -35,7 +34,7 @@ use Rattle.targets.specs.declared.target.DeviceChecked.{DeviceChecked}
 use Rattle.targets.specs.declared.target.DeviceChecked.the-variants as answer
 use Rattle.targets.specs.declared.wants.Wanted.{Wanted}
 use Rattle.targets.specs.declared.wants.Wanted.the-variants as wanted
-use Rattle.questions.specs.Wants.{Agrees, Fails, Means}
+use Rattle.questions.specs.Wants.{Taken, Means}
 
 -- refused by 33, with the error
 abbrev pub RefusedBy : OperationError → After Verdict Bus → Type 0
@@ -52,7 +51,7 @@ module _ (o : OptionPorts) (m : RequestMetadata) where
   Told = Means RefusedBy
 
   -- what is done by y counts only where its first reading agrees
-  agreeing : (w : Wanted) (x y : Readings) (a c e : After Verdict Bus) → (Agrees (x .first) (y .first) → e ≡ c) → Told w x y a c → Told w x y a e
+  agreeing : (w : Wanted) (x y : Readings) (a c e : After Verdict Bus) → (Taken (x .first) (y .first) → e ≡ c) → Told w x y a c → Told w x y a e
   agreeing wanted.Nothing x y a c e k t = λ u v. k u ∙ t u v
   agreeing (wanted.First n) x y a c e k t = t
   agreeing (wanted.Second n) x y a c e k t = t

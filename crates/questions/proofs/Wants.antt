@@ -3,7 +3,7 @@
 use Prim.Native.Nat.{ℕ}
 use mathlib.Core.Bool.{Bool, true, false, not}
 use mathlib.Core.List.{List}
-use mathlib.Core.Path.{_≡_, refl, ap, _∙_}
+use mathlib.Core.Path.{_≡_, refl, ap}
 use lib.ListN.{length}
 use Rattle.chain.specs.After.{After, after}
 use Rattle.chain.specs.Chain.{_if_else_}
@@ -46,7 +46,7 @@ use Rattle.submissions.specs.declared.PlanSubmitted.{PlanSubmitted}
 use Rattle.submissions.specs.declared.SubmitAnswer.the-variants as submit
 use Rattle.submissions.specs.declared.Submitted.{Submitted}
 use Rattle.submissions.specs.declared.begin.Started.{Started}
-use Rattle.questions.specs.Wants.{Agrees, Fails, Means}
+use Rattle.questions.specs.Wants.{Fails, Means}
 use Rattle.questions.proofs.Target.{RefusedBy, CountFits, rereads, target-told}
 
 -- what is said of the checks is said of what follows them, f
@@ -165,4 +165,4 @@ module _ (s : Session) (l : Lent) (first other : PortReading) (all : length (l .
   plan-told =
       started PlanRefused (planRoomWants q bytes first s (l .bus) (l .memory .store .rows)) (twice first) (twice other) (λ r. after (planRefused s r) l) (planRoomOf q bytes first s l) (planRoomOf q bytes other s l)
       (plan-room-told (roomIn (l .memory .store .rows)) refl)
-        s (lentFits (s .size) l)
+      s (lentFits (s .size) l)

@@ -8,18 +8,20 @@ use Rattle.targets.specs.declared.wants.Wanted.{Wanted}
 use Rattle.targets.specs.declared.wants.Wanted.the-variants as wanted
 
 -- r is the reading a where a was taken, and any where it was not
-abbrev pub Agrees : PortReading → PortReading → Type 0
-Agrees (Error e) r = Unit {0}
-Agrees (Word raw) r = r ≡ Word raw
+abbrev pub Taken : PortReading → PortReading → Type 0
+Taken (Error e) r = Unit {0}
+Taken (Word raw) r = r ≡ Word raw
 
--- the reading was not taken, and its error, e, is what `refused` says of what the submission does
-abbrev pub Fails : {A : Type 0} → (OperationError → A → Type 0) → PortReading → A → Type 0
-Fails refused (Error e) a = refused e a
-Fails refused (Word raw) a = ⊥
+-- of submissions that do what A holds; `refused e` says of one that it is refused by 33 with the error e
+module _ {A : Type 0} (refused : OperationError → A → Type 0) where
+  -- the reading was not taken, and refuses the submission
+  abbrev pub Fails : PortReading → A → Type 0
+  Fails (Error e) a = refused e a
+  Fails (Word raw) a = ⊥
 
--- of what a submission does by the readings x, with a reading wanted, and by readings y: a reading that is wanted refuses it, and where none is
--- wanted the readings that were not taken do not matter
-abbrev pub Means : {A : Type 0} → (OperationError → A → Type 0) → Wanted → Readings → Readings → A → A → Type 0
-Means refused wanted.Nothing x y a b = Agrees (x .first) (y .first) → Agrees (x .second) (y .second) → b ≡ a
-Means refused (wanted.First number) x y a b = Fails refused (x .first) a
-Means refused (wanted.Second number) x y a b = Fails refused (x .second) a
+  -- what a submission does is a by the readings x, of which one is wanted or none, and b by the readings y: one that is wanted refuses it,
+  -- and where none is wanted those that were not taken do not matter
+  abbrev pub Means : Wanted → Readings → Readings → A → A → Type 0
+  Means wanted.Nothing x y a b = Taken (x .first) (y .first) → Taken (x .second) (y .second) → b ≡ a
+  Means (wanted.First number) x y a b = Fails (x .first) a
+  Means (wanted.Second number) x y a b = Fails (x .second) a

@@ -107,7 +107,12 @@ module _ (call bytes s out left : List ℕ) (own : Session) (n : ℕ) (es : own 
 
   reported : n ≤ 21 → 15 < n → readReporting n call ≡ readCall call bytes
   unfolding readCall
-  reported h k = rw (← en) (search chain depth 20)
+  reported h k =
+      rw (← en)
+      (passes Call _ _ _ _ (lt-leb n 4 (omega (arith, k)))
+      (passes Call _ _ _ _ (lt-leb n 7 (omega (arith, k)))
+      (passes Call _ _ _ _ (lt-leb n 9 (omega (arith, k)))
+      (passes Call _ _ _ _ (lt-leb n 12 (omega (arith, k))) (passes Call _ _ _ _ (lt-leb n 15 (omega (arith, k))) (takes Call _ _ _ _ (le-leb n 21 h) refl))))))
 
   pub report-read : (r : Answer) (b : Bus) (m : Memory) → n ≤ 21 → isRead call ≡ true
       → ((o : Bus) → after (outcome r own) (lent o m) ≡ stepOf (readReporting n call) (world own (lent o m))) → left ≡ written (answerWords r) out

@@ -15,13 +15,13 @@ use Rattle.calls.specs.declared.Answer.the-variants as call
 use Rattle.answer_words.specs.Encode.{reportWords, answerWords, written}
 use Rattle.questions.specs.declared.QuestionAnswer.{QuestionAnswer}
 use Rattle.questions.specs.declared.QuestionAnswer.the-variants as answer
-use Rattle.question_words.specs.Encode.{statusWords, placedWords, wantedWords, questionWords}
+use Rattle.question_words.specs.Encode.{sessionStatusWords, placedWords, wantedWords, questionWords}
 
 -- parts of words, put one behind the other
 module _ (own rest w₁ w : List ℕ) where
   pub status-exact : (s : Session) (w₂ : List ℕ) → own ≡ sessionWords s → rest ≡ drop 24 own → w₁ ≡ splice 0 (take 1 (11 ∷ [])) (replicate 19 0)
-      → w₂ ≡ splice 1 (take 16 own) w₁ → w ≡ splice 17 (take 2 rest) w₂ → w ≡ statusWords s
-  unfolding statusWords sessionWords splice
+      → w₂ ≡ splice 1 (take 16 own) w₁ → w ≡ splice 17 (take 2 rest) w₂ → w ≡ sessionStatusWords s
+  unfolding sessionStatusWords sessionWords splice
   status-exact s w₂ eo er e₁ e₂ e = e ∙ rw (e₂, e₁, er, eo)
 
   pub placed-exact : (place : ℕ) (x : RequestReport) → own ≡ reportWords x → rest ≡ drop 1 own → w₁ ≡ splice 0 (take 2 (12 ∷ place ∷ [])) (replicate 27 0)
