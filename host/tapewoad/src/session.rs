@@ -222,10 +222,8 @@ impl<B: Backend> UsbSession<B> {
             packets: lengths.as_deref(),
             readings,
         };
-        let most = match spec.transfer_type {
-            TransferType::Control => 1,
-            _ => 2,
-        };
+        let control = spec.transfer_type == TransferType::Control;
+        let most = if control { 1 } else { 2 };
         let readings = self.readings(most, |it| Question::SubmitWants(submit(it)));
         let call = Call::SubmitRequestPackets(submit(readings));
         let begun = match self.store.apply(&call) {
