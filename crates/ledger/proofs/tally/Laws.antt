@@ -77,6 +77,11 @@ module _ (w : ℕ) where
     pub bytes-more : (n next : ℕ) → not held ≡ false → n ≡ r .metadata .«requested_length» → next ≡ saturate w (total + n) → next ≡ saturate w (total + heldLength r)
     bytes-more n next h en es = rw (sym e ∙ not-false held h, ← en) es
 
+-- one row more of a count
+pub count-on : (p : Row → Bool) (l : List Row) (i total word : ℕ) → i < length l → total ≡ count p (take i l)
+    → word ≡ cond (p (getD l i emptyRow)) 1 0 → total + word ≡ count p (take (i + 1) l)
+count-on p l i total word h t ew = rw (add-one, sum-suc (only p (λ r. 1)) l i emptyRow h, t, ew)
+
 -- a count of held rows that has come to row i of n: at most i, so that 64 bits hold it, and cut once at the end
 abbrev pub Counted : List Row → ℕ → ℕ → ℕ → Type 0
 Counted l n i total = (n ≡ length l) × (i ≤ n) × (total ≤ i) × (total ≡ count isHeld (take i l))
@@ -84,7 +89,7 @@ Counted l n i total = (n ≡ length l) × (i ≤ n) × (total ≤ i) × (total �
 module _ (l : List Row) (n i total : ℕ) where
   pub counted-on : (word : ℕ) → i < n → n ≡ length l → total ≡ count isHeld (take i l) → word ≡ cond (isHeld (getD l i emptyRow)) 1 0
       → total + word ≡ count isHeld (take (i + 1) l)
-  counted-on word h e t ew = rw (add-one, sum-suc (only isHeld (λ r. 1)) l i emptyRow (omega arith), t, ew)
+  counted-on word h e t ew = count-on isHeld l i total word (omega arith) t ew
 
   pub counted-end : (w r : ℕ) → n ≤ i → n ≡ length l → total ≡ count isHeld (take i l) → r ≡ saturate w total → r ≡ heldCount w l
   unfolding heldCount
