@@ -32,7 +32,8 @@ pub fn logical_cancel_request(
     id: RequestId,
 ) -> ReportAnswer
     ensures { λ r. ⌜ (after (reportedAs r (now (session .exit))) (storeOut rows)
-        ≡ changeOf id Change.LogicalCancel (now (session .entry)) (storeIn rows)) × Tabled cancelNumbers (reportSaid r) ⌝ }
+        ≡ changeOf id Change.LogicalCancel (now (session .entry)) (storeIn rows))
+        × Tabled cancelNumbers (reportSaid r) ⌝ }
 {
     let done = change::logical_cancel_request(*session, rows, id);
     *session = done.session;
@@ -41,7 +42,8 @@ pub fn logical_cancel_request(
 
 pub fn timeout_request(session: &mut Session, rows: &mut [u64], id: RequestId) -> ReportAnswer
     ensures { λ r. ⌜ (after (reportedAs r (now (session .exit))) (storeOut rows)
-        ≡ changeOf id Change.Timeout (now (session .entry)) (storeIn rows)) × Tabled cancelNumbers (reportSaid r) ⌝ }
+        ≡ changeOf id Change.Timeout (now (session .entry)) (storeIn rows))
+        × Tabled cancelNumbers (reportSaid r) ⌝ }
 {
     let done = change::timeout_request(*session, rows, id);
     *session = done.session;
@@ -50,7 +52,8 @@ pub fn timeout_request(session: &mut Session, rows: &mut [u64], id: RequestId) -
 
 pub fn reclaim_request(session: &mut Session, rows: &mut [u64], id: RequestId) -> ReportAnswer
     ensures { λ r. ⌜ (after (reportedAs r (now (session .exit))) (storeOut rows)
-        ≡ changeOf id Change.Reclaim (now (session .entry)) (storeIn rows)) × Tabled reclaimNumbers (reportSaid r) ⌝ }
+        ≡ changeOf id Change.Reclaim (now (session .entry)) (storeIn rows))
+        × Tabled reclaimNumbers (reportSaid r) ⌝ }
 {
     let done = change::reclaim_request(*session, rows, id);
     *session = done.session;

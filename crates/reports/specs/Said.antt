@@ -34,6 +34,10 @@ abbrev pub partSaid : PartAnswer → Said
 partSaid (bytes.Refused r) = refused r
 partSaid (bytes.Part p) = says (partValues p)
 
+-- the lent form has the number alone
+abbrev pub partNumber : PartAnswer → ℕ
+partNumber a = partSaid a .number
+
 -- a report by id, and completed bytes
 abbrev pub statusNumbers : List ℕ
 statusNumbers = 3 ∷ 40 ∷ []

@@ -24,7 +24,7 @@ ghost use Rattle.reports.specs.declared.NextReport.the-variants as NextR
 ghost use Prim.Native.Nat.{_+_, _<_, min};
 ghost use Rattle.reports.specs.Status.{isSubmitting, shownAt, statusOf, isShown, comesAfter, beats, reportAt, betterAt, bestFrom, nextOf, shownCount, completedLength, completedPart, partOf, bytesOf, heldCountOf, heldBytesOf};
 ghost use Rattle.models.specs.Said.{Tabled};
-ghost use Rattle.reports.specs.Said.{reportSaid, nextSaid, tallySaid, partSaid, statusNumbers, tallyNumbers};
+ghost use Rattle.reports.specs.Said.{reportSaid, nextSaid, tallySaid, partSaid, statusNumbers, tallyNumbers, partNumber};
 
 // The id's submission is in flight.
 pub(crate) fn is_submitting(flight: InFlight, id: RequestId) -> bool
@@ -238,7 +238,7 @@ fn part_of(answer: PartAnswer) -> Part
 
 // The refusal's number, or 0.
 fn number_of(answer: PartAnswer) -> u16
-    ensures { λ r. ⌜ r ≡ partSaid answer .number ⌝ }
+    ensures { λ r. ⌜ r ≡ partNumber answer ⌝ }
 {
     match answer {
         PartAnswer::Refused(refusal) => refusal.number,
@@ -256,7 +256,7 @@ pub fn completed_bytes<'a>(
 ) -> &'a [u8]
     ensures { λ r. ⌜ (now r
         ≡ bytesOf (completedPart id (length (now (area .entry))) session (storeIn rows)) (now (area .entry)))
-        × (now (number .exit) ≡ partSaid (completedPart id (length (now (area .entry))) session (storeIn rows)) .number) ⌝ }
+        × (now (number .exit) ≡ partNumber (completedPart id (length (now (area .entry))) session (storeIn rows))) ⌝ }
 {
     let answer = completed_part(session, rows, area.len(), id);
     *number = number_of(answer);
