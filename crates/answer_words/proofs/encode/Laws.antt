@@ -1,11 +1,12 @@
 -- Laws of answers as words. Assumes nothing.
-use Prim.Native.Nat.{ℕ, _≤_}
+use Prim.Native.Nat.{ℕ, suc, _+_, _≤_, _<_}
 use mathlib.Core.List.{List, [], _∷_, _++_}
-use mathlib.Core.Path.{_≡_, refl, _∙_}
-use lib.ListN.{length, take, replicate, getD}
+use mathlib.Core.Path.{_≡_, refl, sym, ap, _∙_}
+use lib.ListN.{length, take, drop, replicate, getD}
 use lib.Seq.{take-length}
-use borrow.Author.Tests.{le-ltb}
-use Rattle.chain.proofs.Chain.{passes}
+use native.Mathlib.Omega.{arith}
+use borrow.Author.Tests.{lt-ltb, le-ltb}
+use Rattle.chain.proofs.Chain.{takes, passes}
 use Rattle.words.specs.Records.{splice}
 use Rattle.words.specs.Words.{flagWord, optionU32Word, optionI32Word}
 use Rattle.models.specs.Codes.{categoryWord, transferWord, directionWord}
@@ -105,3 +106,34 @@ pub put-on : (w out cleared after : List ℕ) → 32 ≤ length out → length w
 unfolding written
 put-on w out cleared after h k ec ea =
     passes (List ℕ) _ _ _ _ (le-ltb _ _ h) (passes (List ℕ) _ _ _ _ (le-ltb _ _ k) (ea ∙ rw (ec, take-length w)))
+
+-- a report's tag, and behind it its values
+tag-first : (x y : ℕ) (v l : List ℕ) → splice 1 v (x ∷ l) ≡ splice 0 (x ∷ v) (y ∷ l)
+unfolding splice
+tag-first x y v l =
+    let z : 1 + length v ≡ suc (length v) = omega arith in
+    let o : 0 + suc (length v) ≡ suc (length v) = omega arith in
+    rw (z, o)
+
+cleared-first : (out : List ℕ) → splice 0 (replicate 32 0) out ≡ 0 ∷ replicate 31 0 ++ drop 32 out
+unfolding splice
+cleared-first out = refl
+
+tag-put : (l : List ℕ) → splice 0 (4 ∷ []) (0 ∷ l) ≡ 4 ∷ l
+unfolding splice
+tag-put l = refl
+
+pub report-put : (v out cleared tagged after : List ℕ) → 32 ≤ length out → length v < 32 → cleared ≡ splice 0 (replicate 32 0) out
+    → tagged ≡ splice 0 (take 1 (4 ∷ [])) cleared → after ≡ splice 1 (take (length v) v) tagged → after ≡ written (4 ∷ v) out
+unfolding written
+report-put v out cleared tagged after h k ec et ea =
+    let next = replicate 31 0 ++ drop 32 out in
+    let c : cleared ≡ 0 ∷ next = ec ∙ cleared-first out in
+    let t : tagged ≡ 4 ∷ next = et ∙ ap (splice 0 (4 ∷ [])) c ∙ tag-put next in
+    let z : splice 0 (4 ∷ v) (0 ∷ next) ≡ splice 0 (4 ∷ v) cleared = ap (splice 0 (4 ∷ v)) (sym c) in
+    passes (List ℕ) _ _ _ _ (le-ltb _ _ h) (passes (List ℕ) _ _ _ _ (le-ltb _ _ k)
+    (ea ∙ rw (take-length v, t) (tag-first 4 0 v next ∙ z ∙ ap (splice 0 (4 ∷ v)) ec)))
+
+pub report-long : (v out : List ℕ) → 32 ≤ length out → 32 ≤ length v → out ≡ written (4 ∷ v) out
+unfolding written
+report-long v out h k = passes (List ℕ) _ _ _ _ (le-ltb _ _ h) (takes (List ℕ) _ _ _ _ (lt-ltb 32 (suc (length v)) (omega arith)) refl)
