@@ -14,6 +14,7 @@ use Rattle.words.specs.Records.{tab, splice}
 use Rattle.words.specs.Words.{flagWord, readFlag}
 use Rattle.words.proofs.Options.{low, flag-back}
 use Rattle.words.proofs.Records.{tab-same, le-or-lt}
+use Rattle.models.specs.Values.{optionErrorWords, metadataTail}
 use Rattle.models.specs.declared.ControlProfile.{ControlProfile}
 use Rattle.models.specs.declared.DeviceId.{DeviceId}
 use Rattle.models.specs.declared.Direction.{Direction}
@@ -28,11 +29,11 @@ use Rattle.models.specs.declared.Refusal.{Refusal}
 use Rattle.models.proofs.Enums.{transfer-back, direction-back, profile-back}
 use Rattle.standards.specs.Setup.{setupBytes}
 use Rattle.rows.specs.Codec.{readMetadata, readStateWords, stateWords}
-use Rattle.scope.specs.Returned.{optionErrorWords}
+use Rattle.session.specs.Said.{recoveryWord}
 use Rattle.session.specs.declared.Recovery.{Recovery}
 use Rattle.session.specs.declared.RecoveryKind.{RecoveryKind}
 use Rattle.session.specs.declared.RecoveryKind.the-variants as kind
-use Rattle.session_words.specs.State.{readDeviceWords, readKind, recoveryWord}
+use Rattle.session_words.specs.State.{readDeviceWords, readKind}
 use Rattle.submissions.specs.declared.PlanSubmission.{PlanSubmission}
 use Rattle.submissions.specs.declared.Submission.{Submission}
 use Rattle.recovery.specs.declared.AbortReport.{AbortReport}
@@ -40,7 +41,7 @@ use Rattle.calls.specs.Fits.{ErrorFits, OptionErrorFits, DeviceFits}
 use Rattle.calls.specs.declared.Answer.{Answer}
 use Rattle.calls.specs.declared.Answer.the-variants as answer
 use Rattle.calls.proofs.Fits.{u32-back, error-back, option-error-back, setup-back}
-use Rattle.answer_words.specs.Encode.{answerSize, refusalWords, metadataTail, begunWords, planWords, reportWords, recoveringWords, recoveredWords, answerWords, written}
+use Rattle.answer_words.specs.Encode.{answerSize, refusalWords, begunWords, planWords, reportWords, recoveringWords, recoveredWords, answerWords, written}
 use Rattle.answer_words.specs.Read.{readAnswer, MetadataFits, StateFits, AnswerFits}
 
 -- ---- what a value's word says is the value

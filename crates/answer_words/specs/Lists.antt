@@ -5,6 +5,7 @@ use lib.ListN.{length, take}
 use lib.Dec.{ltb}
 use Rattle.chain.specs.Chain.{_if_else_}
 use Rattle.words.specs.Records.{splice}
+use Rattle.models.specs.Values.{requestIdWords}
 use Rattle.models.specs.declared.RequestId.{RequestId}
 use Rattle.recovery.specs.Recover.{recoverOf}
 use Rattle.recovery.specs.RecoveryReply.{recoveryReplyOf}
@@ -17,7 +18,6 @@ use Rattle.recovery.specs.declared.RecoveryAnswer.{RecoveryAnswer}
 use Rattle.recovery.specs.declared.RecoveryAnswer.the-variants as recovery
 use Rattle.calls.specs.Calls.{Beginning, Submit, SubmitPlan, Poll, Recover, Replying, ToSubmit, ToPoll, ToRecovery, Call, Open, Place, Move, Begin, Reply, Change, Read}
 use Rattle.calls.specs.Step.{World, worldStore}
-use Rattle.session_words.specs.State.{requestIdWords}
 
 -- how many words the lists have at most: two lengths, and 128 ids
 abbrev pub listSize : ℕ

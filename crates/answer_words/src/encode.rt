@@ -17,9 +17,10 @@ use submissions::Submission;
 use words::slices;
 ghost use mathlib.Core.Path.{_≡_};
 ghost use mathlib.Core.List.{[], _∷_};
+ghost use Rattle.models.specs.Values.{optionErrorWords, metadataTail};
 ghost use Rattle.standards.specs.Setup.{setupBytes};
-ghost use Rattle.scope.specs.Returned.{optionErrorWords};
-ghost use Rattle.answer_words.specs.Encode.{refusalWords, metadataTail, begunWords, stageTail, planWords, reportWords, recoveringWords, recoveredWords, answerWords, written};
+ghost use Rattle.checks.specs.Said.{stageTail};
+ghost use Rattle.answer_words.specs.Encode.{refusalWords, begunWords, planWords, reportWords, recoveringWords, recoveredWords, answerWords, written};
 
 // How many words an answer has.
 pub const WORDS: usize = 32;

@@ -10,7 +10,7 @@ ghost use mathlib.Core.List.{_++_};
 ghost use Prim.Native.Nat.{_+_, _*_, _≤_, min};
 ghost use lib.ListN.{length, take};
 ghost use Rattle.words.specs.Records.{splice};
-ghost use Rattle.session_words.specs.State.{requestIdWords};
+ghost use Rattle.models.specs.Values.{requestIdWords};
 ghost use Rattle.answer_words.specs.Lists.{tokenList, idList, begunLists, recoveredLists, putLists};
 
 // How many words the lists of an answer have at most.

@@ -8,15 +8,18 @@ ghost use mathlib.Core.Path.{_≡_};
 ghost use Prim.Native.Nat.{_<_, min};
 ghost use lib.ListN.{length};
 ghost use Rattle.chain.specs.After.{after};
+ghost use Rattle.models.specs.Said.{Tabled, verdictSaid};
 ghost use Rattle.bus.specs.Layout.{busWords, endpointWord};
 ghost use Rattle.bus.specs.Tables.{busOf};
 ghost use Rattle.bus.specs.Endpoints.{hasEndpoint, setEndpoints};
+ghost use Rattle.bus.specs.Said.{placedListNumbers};
 
 // The list takes the place of the slot's; 53: it has more than 30.
 pub fn set_endpoints(bus: &mut [u64], slot: u8, list: &[u64]) -> Verdict
     requires { ⌜ length (now bus) ≡ busWords ⌝ }
-    ensures { λ r. ⌜ after r (busOf (now (bus .exit)))
-        ≡ setEndpoints slot (now (list .entry)) (busOf (now (bus .entry))) ⌝ }
+    ensures { λ r. ⌜ (after r (busOf (now (bus .exit)))
+        ≡ setEndpoints slot (now (list .entry)) (busOf (now (bus .entry))))
+        × Tabled placedListNumbers (verdictSaid r) ⌝ }
 {
     if list.len() > 30 {
         return Verdict::Refused(models::refuse(53));

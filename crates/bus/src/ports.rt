@@ -12,9 +12,11 @@ ghost use mathlib.Core.Path.{_≡_};
 ghost use Prim.Native.Nat.{_<_};
 ghost use lib.ListN.{length};
 ghost use Rattle.chain.specs.After.{after};
+ghost use Rattle.models.specs.Said.{Tabled, verdictSaid};
 ghost use Rattle.bus.specs.Layout.{busWords};
 ghost use Rattle.bus.specs.Tables.{busOf, portIndex, portAt, putPort};
 ghost use Rattle.bus.specs.Ports.{numberChecked, setPort, readingChecked, ofOpening, validatedRow, validated, raisedRow, observedRow, observePort, freshWord, freshReading, freshPort};
+ghost use Rattle.bus.specs.Said.{portSaid, placedPortNumbers, freshPortNumbers};
 
 // The greatest generation, 2^64 - 1.
 const LAST_GENERATION: u64 = 18446744073709551615;
@@ -80,7 +82,8 @@ fn check_number(ports: OptionPorts, number: u8) -> Verdict
 // Puts a port row, whatever its old words.
 pub fn set_port(bus: &mut [u64], ports: OptionPorts, number: u8, row: PortRow) -> Verdict
     requires { ⌜ length (now bus) ≡ busWords ⌝ }
-    ensures { λ r. ⌜ after r (busOf (now (bus .exit))) ≡ setPort ports number row (busOf (now (bus .entry))) ⌝ }
+    ensures { λ r. ⌜ (after r (busOf (now (bus .exit))) ≡ setPort ports number row (busOf (now (bus .entry))))
+        × Tabled placedPortNumbers (verdictSaid r) ⌝ }
 {
     let checked = check_number(ports, number);
     let Verdict::Pass = checked else {
@@ -220,7 +223,8 @@ pub fn fresh_port(
     reading: PortReading,
 ) -> PortChecked
     requires { ⌜ length (now bus) ≡ busWords ⌝ }
-    ensures { λ r. ⌜ after r (busOf (now (bus .exit))) ≡ freshPort ports id reading (busOf (now (bus .entry))) ⌝ }
+    ensures { λ r. ⌜ (after r (busOf (now (bus .exit))) ≡ freshPort ports id reading (busOf (now (bus .entry))))
+        × Tabled freshPortNumbers (portSaid r) ⌝ }
 {
     let checked = validate(bus, ports, id);
     let PortChecked::Read(_) = checked else {

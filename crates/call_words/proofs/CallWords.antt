@@ -13,8 +13,9 @@ use Rattle.chain.proofs.Chain.{caseB, both, and3, if-by}
 use Rattle.words.specs.Records.{tab, part}
 use Rattle.words.specs.Words.{readFlag, readOptionU64}
 use Rattle.words.proofs.Records.{part-length}
+use Rattle.models.specs.Values.{requestIdWords}
 use Rattle.scope.specs.Returned.{completionWords, readOptionError, readCompletion}
-use Rattle.session_words.specs.State.{readRequestId, requestIdWords}
+use Rattle.session_words.specs.State.{readRequestId}
 use Rattle.session.specs.declared.RecoveryKind.the-variants as kind
 use Rattle.calls.specs.Calls.{Call, Open, Place, Device, Port, Endpoints, Reconcile, Move, Acquire, Initialize, Close, Begin, Submit, SubmitPlan, Recover, Reply, ToSubmit, ToPoll, ToRecovery, Change, Cancel, Timeout, Read, Reports, HeldCount, HeldBytes}
 use Rattle.call_words.specs.Parts.{isZero, isFlag, isByte, areZero, byFlag, zeros, backendCompletionWords, isError, isOptionError, readReading, isCompletion}

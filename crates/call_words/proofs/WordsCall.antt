@@ -11,6 +11,7 @@ use Rattle.words.specs.Words.{flagWord, readOptionU64, optionU64Words}
 use Rattle.words.specs.declared.OptionU64.{OptionU64}
 use Rattle.words.specs.declared.OptionU64.the-variants as u64
 use Rattle.words.proofs.Options.{low, flag-back}
+use Rattle.models.specs.Values.{optionErrorWords}
 use Rattle.models.specs.declared.Direction.the-variants as direction
 use Rattle.models.specs.declared.OptionDirection.{OptionDirection}
 use Rattle.models.specs.declared.OptionDirection.the-variants as status
@@ -22,7 +23,7 @@ use Rattle.models.specs.declared.PortReading.{PortReading}
 use Rattle.models.specs.declared.PortReading.the-variants as reading
 use Rattle.models.specs.declared.RequestId.{RequestId}
 use Rattle.models.proofs.Enums.{transfer-back, direction-back, profile-back, device-state-back}
-use Rattle.scope.specs.Returned.{completionWords, optionErrorWords}
+use Rattle.scope.specs.Returned.{completionWords}
 use Rattle.session.specs.declared.RecoveryKind.the-variants as kind
 use Rattle.session.specs.declared.lifecycle.AcquireReply.the-variants as acquire
 use Rattle.reports.specs.declared.OptionId.the-variants as option

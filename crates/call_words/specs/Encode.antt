@@ -3,7 +3,8 @@ use Prim.Native.Nat.{ℕ, _/_}
 use mathlib.Core.List.{List, [], _∷_, _++_}
 use lib.ListN.{length}
 use Rattle.words.specs.Words.{flagWord, optionU32Word}
-use Rattle.models.specs.Codes.{transferWord, directionWord, profileWord, deviceStateWord}
+use Rattle.models.specs.Codes.{transferWord, directionWord, profileWord}
+use Rattle.models.specs.Values.{errorWords, optionErrorWords, requestIdWords, deviceIdWords, snapshotWords}
 use Rattle.models.specs.declared.ControlPlan.{ControlPlan}
 use Rattle.models.specs.declared.RequestSpec.{RequestSpec}
 use Rattle.session.specs.declared.RecoveryKind.the-variants as kind
@@ -16,12 +17,11 @@ use Rattle.polls.specs.declared.PollReply.{PollReply}
 use Rattle.polls.specs.declared.PollReply.the-variants as poll
 use Rattle.submissions.specs.declared.SubmitReply.{SubmitReply}
 use Rattle.submissions.specs.declared.SubmitReply.the-variants as submit
-use Rattle.scope.specs.Returned.{completionWords, errorWords, optionErrorWords}
+use Rattle.scope.specs.Returned.{completionWords}
 use Rattle.recovery.specs.declared.RecoveryReply.{RecoveryReply}
 use Rattle.recovery.specs.declared.RecoveryReply.the-variants as recovery
 use Rattle.calls.specs.Calls.{Call, Open, Placing, Place, Device, Port, Endpoints, Reconcile, Moving, Move, Acquire, Initialize, Close, Beginning, Begin, Submit, SubmitPlan, Poll, Recover, Replying, Reply, ToSubmit, ToPoll, ToRecovery, Changing, Change, Cancel, Timeout, Reclaim, Reading, Read, Status, Reports, CountReports, CompletedBytes, HeldCount, HeldBytes}
-use Rattle.session_words.specs.State.{requestIdWords, deviceIdWords}
-use Rattle.call_words.specs.Parts.{zeros, portIdWords, optionNumberWords, packetWords, optionSetupWords, readingWords, backendCompletionWords, stageWords, statusWord}
+use Rattle.call_words.specs.Parts.{zeros, optionNumberWords, packetWords, optionSetupWords, readingWords, backendCompletionWords, stageWords, statusWord}
 
 -- ---- the arguments of several words
 
@@ -63,7 +63,7 @@ recoveryReplyWords (recovery.Error e) = 1 ∷ 0 ∷ 0 ∷ errorWords e
 -- ---- by group
 
 abbrev pub placingWords : Placing → List ℕ
-placingWords (Device d) = 1 ∷ deviceIdWords (d .id) ++ portIdWords (d .port) ++ deviceStateWord (d .state) ∷ []
+placingWords (Device d) = 1 ∷ snapshotWords d
 placingWords (Port n r) = 2 ∷ n ∷ r .generation ∷ optionU32Word (r .reading) ∷ []
 placingWords (Endpoints slot list) = 3 ∷ slot ∷ list
 placingWords (Reconcile slot mark) = 4 ∷ slot ∷ flagWord mark ∷ []

@@ -8,6 +8,7 @@ use lib.Dec.{eqb, leb}
 use Rattle.words.specs.Words.{flagWord, optionU32Word, optionU64Words}
 use Rattle.words.specs.declared.OptionU64.{OptionU64}
 use Rattle.models.specs.Codes.{readDirection, directionWord}
+use Rattle.models.specs.Values.{setupWords, setupTail, errorWords, optionErrorWords}
 use Rattle.models.specs.declared.BackendCompletion.{BackendCompletion}
 use Rattle.models.specs.declared.OptionDirection.{OptionDirection}
 use Rattle.models.specs.declared.OptionDirection.the-variants as direction
@@ -18,8 +19,8 @@ use Rattle.models.specs.declared.PortId.{PortId}
 use Rattle.models.specs.declared.PortReading.{PortReading}
 use Rattle.models.specs.declared.PortReading.the-variants as reading
 use Rattle.models.specs.declared.SetupPacket.{SetupPacket}
-use Rattle.rows.specs.Codec.{readSetupWords, setupWords, setupTail}
-use Rattle.scope.specs.Returned.{readError, errorWords, optionErrorWords}
+use Rattle.rows.specs.Codec.{readSetupWords}
+use Rattle.scope.specs.Returned.{readError}
 
 -- ---- one word
 
@@ -63,9 +64,6 @@ isBusId w at = isByte w (at + 2)
 
 abbrev pub readPortId : List ℕ → ℕ → PortId
 readPortId w at = record { session = getD w at 0; generation = getD w (at + 1) 0; number = getD w (at + 2) 0 % 2 ^ 8 }
-
-abbrev pub portIdWords : PortId → List ℕ
-portIdWords x = x .session ∷ x .generation ∷ x .number ∷ []
 
 -- ---- an optional 64-bit number, two words: a flag, the number
 

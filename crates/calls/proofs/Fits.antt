@@ -5,15 +5,16 @@ use Rattle.words.specs.declared.OptionU32.{OptionU32}
 use Rattle.words.specs.declared.OptionU32.the-variants as u32
 use Rattle.words.proofs.Options.{low, option-u32-back}
 use Rattle.words.proofs.Signed.{option-i32-says}
+use Rattle.models.specs.Values.{setupWords, errorWords, optionErrorWords}
 use Rattle.models.specs.declared.OperationError.{OperationError}
 use Rattle.models.specs.declared.OptionError.{OptionError}
 use Rattle.models.specs.declared.OptionError.the-variants as error
 use Rattle.models.specs.declared.OptionSetup.{OptionSetup}
 use Rattle.models.specs.declared.OptionSetup.the-variants as setup
 use Rattle.models.proofs.Enums.{category-back}
-use Rattle.rows.specs.Codec.{readSetupWords, setupWords}
-use Rattle.rows.specs.declared.codec.SetupWords.{SetupWords}
-use Rattle.scope.specs.Returned.{readError, errorWords, readOptionError, optionErrorWords}
+use Rattle.rows.specs.Codec.{readSetupWords}
+use Rattle.models.specs.declared.SetupWords.{SetupWords}
+use Rattle.scope.specs.Returned.{readError, readOptionError}
 use Rattle.calls.specs.Fits.{U32Fits, ErrorFits, OptionErrorFits, SetupFits}
 
 pub u32-back : (o : OptionU32) → U32Fits o → readOptionU32 (optionU32Word o) ≡ o

@@ -2,3 +2,4 @@ pub mod Packets
 pub mod Prepare
 pub mod Plan
 pub mod Completion
+pub mod Said

@@ -5,7 +5,9 @@ use standards::completion::is_finished;
 use words::OptionU32;
 use words::OptionU64;
 ghost use mathlib.Core.Path.{_≡_};
+ghost use Rattle.models.specs.Said.{Tabled};
 ghost use Rattle.checks.specs.Completion.{hasError, testCode, testCompletion};
+ghost use Rattle.checks.specs.Said.{testSaid, completionNumbers};
 
 // A completion: valid with its length and code, or why not.
 pub enum CompletionTest {
@@ -56,7 +58,8 @@ pub fn test_completion(
     data_length: u64,
     requested: u64,
 ) -> CompletionTest
-    ensures { λ r. ⌜ r ≡ testCompletion completion «data_length» requested ⌝ }
+    ensures { λ r. ⌜ (r ≡ testCompletion completion «data_length» requested)
+        × Tabled completionNumbers (testSaid (completion .«completion_code») r) ⌝ }
 {
     let optional = completion.actual_length;
     let OptionU64::Some(actual) = optional else {

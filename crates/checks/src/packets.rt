@@ -5,7 +5,9 @@ use models::kinds;
 use models::reject;
 ghost use mathlib.Core.Path.{_≡_};
 ghost use lib.Dec.{eqb};
+ghost use Rattle.models.specs.Said.{Tabled, verdictSaid};
 ghost use Rattle.checks.specs.Packets.{total, packetsChecked};
+ghost use Rattle.checks.specs.Said.{packetsNumbers};
 
 // The packets sum to the length. A sum that passes the length ends the walk, so it can't wrap.
 fn sums_to(packets: &[u64], length: u64) -> bool
@@ -31,7 +33,8 @@ pub fn check_packets(
     transfer_type: TransferType,
     length: u64,
 ) -> Verdict
-    ensures { λ r. ⌜ r ≡ packetsChecked given (now (packets .entry)) «transfer_type» length ⌝ }
+    ensures { λ r. ⌜ (r ≡ packetsChecked given (now (packets .entry)) «transfer_type» length)
+        × Tabled packetsNumbers (verdictSaid r) ⌝ }
 {
     if !given {
         return Verdict::Pass;

@@ -15,7 +15,9 @@ use models::reject;
 use standards::setup;
 ghost use mathlib.Core.Path.{_≡_};
 ghost use Rattle.models.specs.Kinds.{isIn};
+ghost use Rattle.models.specs.Said.{Tabled};
 ghost use Rattle.checks.specs.Plan.{hasStatus, statusOrIn, isCompliant, hasStage, stageOf, planFacts, payloadChecked, compliantStatus, stagesChecked, sizeChecked, planChecked, planOf, planned};
+ghost use Rattle.checks.specs.Said.{plannedSaid, planNumbers};
 
 // A plan that may go on. Its SETUP bytes are `standards::setup::setup_bytes` of the metadata's packet.
 pub struct ValidatedControlPlan {
@@ -229,7 +231,7 @@ fn plan_of(q: ControlPlan) -> ValidatedControlPlan
 
 // Checks a plan with `data_length` bytes of data against a store whose rows have `row_bytes`.
 pub fn validate_plan(q: ControlPlan, data_length: u64, row_bytes: u64) -> Planned
-    ensures { λ r. ⌜ r ≡ planned q «data_length» «row_bytes» ⌝ }
+    ensures { λ r. ⌜ (r ≡ planned q «data_length» «row_bytes») × Tabled planNumbers (plannedSaid r) ⌝ }
 {
     let facts = plan_facts(q, data_length, row_bytes);
     let verdict = check_plan(facts);

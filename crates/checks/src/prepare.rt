@@ -8,7 +8,9 @@ use models::kinds;
 use models::reject;
 use standards::setup;
 ghost use mathlib.Core.Path.{_≡_};
+ghost use Rattle.models.specs.Said.{Tabled};
 ghost use Rattle.checks.specs.Prepare.{hasSetup, specFacts, dataChecked, controlChecked, otherChecked, specChecked, metadataOf, prepared};
+ghost use Rattle.checks.specs.Said.{preparedSaid, prepareNumbers};
 
 // A request that may go on, or its refusal. Its buffer is zeros of the length (IN) or the data (OUT).
 pub enum Prepared {
@@ -161,7 +163,7 @@ fn metadata_of(q: RequestSpec) -> RequestMetadata
 
 // Checks a request with `data_length` bytes of data against a store whose rows have `row_bytes`.
 pub fn prepare(q: RequestSpec, data_length: u64, row_bytes: u64) -> Prepared
-    ensures { λ r. ⌜ r ≡ prepared q «data_length» «row_bytes» ⌝ }
+    ensures { λ r. ⌜ (r ≡ prepared q «data_length» «row_bytes») × Tabled prepareNumbers (preparedSaid r) ⌝ }
 {
     let facts = spec_facts(q, data_length, row_bytes);
     let verdict = check_spec(facts);

@@ -7,9 +7,12 @@ use rules::Change;
 use rules::Step;
 ghost use mathlib.Core.Path.{_≡_};
 ghost use Rattle.chain.specs.After.{after};
+ghost use Rattle.models.specs.Said.{Tabled};
 ghost use Rattle.rows.specs.Store.{storeOf};
 ghost use Rattle.ledger.specs.Apply.{applyOf};
+ghost use Rattle.ledger.specs.Said.{appliedSaid, applyNumbers};
 
+pub mod in_place;
 pub mod search;
 pub mod tally;
 
@@ -21,7 +24,8 @@ pub enum Applied {
 
 // Finds the row of an id, changes it by a rule and writes it.
 pub fn apply(rows: &mut [u64], id: RequestId, change: Change) -> Applied
-    ensures { λ r. ⌜ after r (storeOf (now (rows .exit))) ≡ applyOf id change (storeOf (now (rows .entry))) ⌝ }
+    ensures { λ r. ⌜ (after r (storeOf (now (rows .exit))) ≡ applyOf id change (storeOf (now (rows .entry))))
+        × Tabled (applyNumbers change) (appliedSaid r) ⌝ }
 {
     let found = search::find(rows, id);
     let Found::At(i) = found else {

@@ -1,7 +1,6 @@
 // Searches along the columns of the rows.
 use chain::Found;
 use models::RequestId;
-use rows::Row;
 use rows::columns;
 ghost use mathlib.Core.Path.{_≡_};
 ghost use Prim.Native.Nat.{_<_};
@@ -10,15 +9,7 @@ ghost use Rattle.chain.specs.Lists.{foundIn, anyIn};
 ghost use Rattle.rows.specs.Table.{readRows, rowAt, isUncertain};
 ghost use Rattle.ledger.specs.Search.{isAt, isFree};
 
-// The row is a request with the whole id.
-fn is_at(row: Row, id: RequestId) -> bool
-    ensures { λ r. ⌜ r ≡ isAt id row ⌝ }
-{
-    let own = row.id;
-    row.used & models::same_request(own, id)
-}
-
-// Row i has the id. Only a row with the id's sequence is read whole.
+// Row i has the id. Of a row with another sequence no other word is read.
 fn holds(rows: &[u64], i: usize, id: RequestId) -> bool
     requires { ⌜ i < length (readRows (now rows)) ⌝ }
     ensures { λ r. ⌜ r ≡ isAt id (rowAt (now (rows .entry)) i) ⌝ }
@@ -27,8 +18,9 @@ fn holds(rows: &[u64], i: usize, id: RequestId) -> bool
     if own != id.sequence {
         return false;
     }
-    let row = rows::read_row(rows, i);
-    is_at(row, id)
+    let whole = columns::id_at(rows, i);
+    let used = columns::used_at(rows, i);
+    used & models::same_request(whole, id)
 }
 
 // The row of an id.

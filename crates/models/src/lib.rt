@@ -117,6 +117,16 @@ pub enum OptionSetup {
     Some(SetupPacket),
 }
 
+// An optional SETUP packet as words.
+pub struct SetupWords {
+    pub present: u64,
+    pub request_type: u64,
+    pub request: u64,
+    pub value: u64,
+    pub index: u64,
+    pub length: u64,
+}
+
 pub struct RequestMetadata {
     pub device: DeviceId,
     pub endpoint: u8,

@@ -1,2 +1,3 @@
 pub mod Poll
 pub mod PollReply
+pub mod Said

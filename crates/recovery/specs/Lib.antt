@@ -3,3 +3,4 @@ pub mod Entries
 pub mod Reports
 pub mod Recover
 pub mod RecoveryReply
+pub mod Said

@@ -7,14 +7,15 @@ use lib.Dec.{eqb, ltb}
 use Rattle.words.specs.Words.{readFlag, flagWord, readOptionU32, optionU32Word, readOptionI32, optionI32Word}
 use Rattle.words.specs.declared.OptionU32.{OptionU32}
 use Rattle.models.specs.Codes.{readCategory, categoryWord, readTransfer, transferWord, readDirection, directionWord}
+use Rattle.models.specs.Values.{setupWords, setupTail}
 use Rattle.models.specs.declared.OperationError.{OperationError}
 use Rattle.models.specs.declared.OptionSetup.{OptionSetup}
 use Rattle.models.specs.declared.OptionSetup.the-variants as setup
 use Rattle.models.specs.declared.RequestMetadata.{RequestMetadata}
 use Rattle.models.specs.declared.RequestState.{RequestState}
 use Rattle.models.specs.declared.RequestState.the-variants.{Pending, Completed, Failed, Aborted}
+use Rattle.models.specs.declared.SetupWords.{SetupWords}
 use Rattle.rows.specs.declared.Row.{Row}
-use Rattle.rows.specs.declared.codec.SetupWords.{SetupWords}
 use Rattle.rows.specs.declared.codec.StateWords.{StateWords}
 use Rattle.rows.specs.declared.codec.StatusWords.{StatusWords}
 
@@ -25,10 +26,6 @@ readSetupWords present type request value index length =
 
 abbrev pub setupIn : SetupWords → OptionSetup
 setupIn p = readSetupWords (p .present) (p .«request_type») (p .request) (p .value) (p .index) (p .length)
-
-abbrev pub setupWords : OptionSetup → SetupWords
-setupWords setup.None = record { present = 0; «request_type» = 0; request = 0; value = 0; index = 0; length = 0 }
-setupWords (setup.Some p) = record { present = 1; «request_type» = p .«request_type»; request = p .request; value = p .value; index = p .index; length = p .length }
 
 unfoldable pub readMetadata : List ℕ → RequestMetadata
 readMetadata w = record {
@@ -128,9 +125,6 @@ readRow w = record {
   «timed_out» = readFlag (getD w 19 0);
   state = stateByKind (kindBy (getD w 1 0) (getD w 22 0)) (getD w 20 0) (getD w 21 0) (getD w 23 0) (getD w 24 0) (getD w 25 0);
 }
-
-abbrev pub setupTail : SetupWords → List ℕ → List ℕ
-setupTail p rest = p .present ∷ p .«request_type» ∷ p .request ∷ p .value ∷ p .index ∷ p .length ∷ rest
 
 abbrev pub statusTail : StatusWords → List ℕ
 statusTail s = s .a ∷ s .b ∷ s .rest ∷ s .d ∷ s .e ∷ s .f ∷ []

@@ -5,8 +5,10 @@ use mathlib.Core.Bool.{Bool, _&&_}
 use mathlib.Core.List.{List, [], _∷_}
 use lib.ListN.{length, getD, set}
 use Rattle.words.specs.Records.{tab, splice, part}
-use Rattle.models.specs.Requests.{deviceMayAccess, isUncertainFailure}
+use Rattle.models.specs.Requests.{deviceMayAccess, isPending, isUncertainFailure}
 use Rattle.models.specs.declared.RequestId.{RequestId}
+use Rattle.models.specs.declared.RequestReport.{RequestReport}
+use Rattle.models.specs.declared.RequestState.the-variants.{Pending}
 use Rattle.rows.specs.Codec.{readRow, recordOf, statusWords}
 use Rattle.rows.specs.declared.Row.{Row}
 
@@ -71,3 +73,23 @@ isHeld r = r .used && deviceMayAccess (r .state)
 -- a row that is Failed and not quiescent
 unfoldable pub isUncertain : Row → Bool
 isUncertain r = r .used && isUncertainFailure (r .state)
+
+-- a request that is Pending
+unfoldable pub isPendingRow : Row → Bool
+isPendingRow r = r .used && isPending (r .state)
+
+-- what is reported of a row
+abbrev pub reportOf : Row → RequestReport
+reportOf r = record { id = r .id; metadata = r .metadata; state = r .state; «logical_cancel» = r .«logical_cancel»; «timed_out» = r .«timed_out» }
+
+-- Pending with the flags sc and st in its state, and c and t as the row's own copies
+abbrev pub flagged : Row → Bool → Bool → Bool → Bool → Row
+flagged r sc st c t = record {
+  used = r .used;
+  id = r .id;
+  metadata = r .metadata;
+  token = r .token;
+  «logical_cancel» = c;
+  «timed_out» = t;
+  state = Pending sc st;
+}

@@ -7,6 +7,7 @@ use models::RequestId;
 use models::RequestMetadata;
 use models::RequestState;
 use models::SetupPacket;
+use models::SetupWords;
 use models::codes;
 use words::OptionU32;
 ghost use mathlib.Core.Path.{_≡_};
@@ -15,7 +16,8 @@ ghost use mathlib.Core.Bool.{cond};
 ghost use lib.Dec.{eqb};
 ghost use lib.ListN.{length};
 ghost use Rattle.words.specs.Words.{readFlag, readOptionU32};
-ghost use Rattle.rows.specs.Codec.{readSetupWords, setupIn, setupWords, readMetadata, readStateWords, shortWords, failedWords, stateWords, readErrorWords, kindWord, stateByKind, kindBy, stateIn, rowStatusWords, statusWords, readRow, recordOf};
+ghost use Rattle.models.specs.Values.{setupWords};
+ghost use Rattle.rows.specs.Codec.{readSetupWords, setupIn, readMetadata, readStateWords, shortWords, failedWords, stateWords, readErrorWords, kindWord, stateByKind, kindBy, stateIn, rowStatusWords, statusWords, readRow, recordOf};
 ghost use Rattle.models.specs.declared.RequestState.the-variants as RequestState;
 
 // The kinds of a row's state: odd, where the row is held.
@@ -28,16 +30,6 @@ const UNCERTAIN: u64 = 3;
 const QUIESCENT: u64 = 4;
 
 const ABORTED: u64 = 6;
-
-// The words of an optional SETUP packet.
-pub struct SetupWords {
-    pub present: u64,
-    pub request_type: u64,
-    pub request: u64,
-    pub value: u64,
-    pub index: u64,
-    pub length: u64,
-}
 
 // The words of a report's state. What a to f hold depends on the tag.
 pub struct StateWords {
@@ -242,7 +234,7 @@ fn to_failed(a: u64, b: u64, d: u64, e: u64, f: u64, quiescent: bool) -> Request
     }
 }
 
-fn to_state(kind: u64, a: u64, b: u64, d: u64, e: u64, f: u64) -> RequestState
+pub(crate) fn to_state(kind: u64, a: u64, b: u64, d: u64, e: u64, f: u64) -> RequestState
     ensures { λ r. ⌜ r ≡ stateByKind kind a b d e f ⌝ }
 {
     if kind < COMPLETED {
@@ -321,7 +313,7 @@ pub(crate) fn status_words(used: bool, s: RequestState) -> StatusWords
     status_by(used, kind, w)
 }
 
-fn kind_by(status: u64, rest: u64) -> u64
+pub(crate) fn kind_by(status: u64, rest: u64) -> u64
     ensures { λ r. ⌜ r ≡ kindBy status rest ⌝ }
 {
     if status == 0 {

@@ -11,7 +11,7 @@ ghost use mathlib.Core.Path.{_≡_};
 ghost use Prim.Native.Nat.{_+_, _<_, _≤_};
 ghost use mathlib.Core.Bool.{cond};
 ghost use lib.ListN.{length};
-ghost use Rattle.rows.specs.Table.{columnWords, recordWords, rowCount, recordAt, wordAt, readRows, rowAt, idIn, tokenIn, isHeld, isUncertain};
+ghost use Rattle.rows.specs.Table.{columnWords, recordWords, rowCount, recordAt, wordAt, readRows, rowAt, idIn, tokenIn, isHeld, isUncertain, isPendingRow};
 
 // Words of a record.
 const SESSION: usize = 0;
@@ -65,7 +65,7 @@ pub fn sequence_at(rows: &[u64], i: usize) -> u64
     column(rows, i, SEQUENCE)
 }
 
-fn id_at(rows: &[u64], i: usize) -> RequestId
+pub fn id_at(rows: &[u64], i: usize) -> RequestId
     requires { ⌜ i < length (readRows (now rows)) ⌝ }
     ensures { λ r. ⌜ r ≡ rowAt (now (rows .entry)) i .id ⌝ }
 {
@@ -122,7 +122,7 @@ pub fn requested_length_at(rows: &[u64], i: usize) -> u64
     field(rows, i, REQUESTED_LENGTH)
 }
 
-fn token_at(rows: &[u64], i: usize) -> u64
+pub fn token_at(rows: &[u64], i: usize) -> u64
     requires { ⌜ i < length (readRows (now rows)) ⌝ }
     ensures { λ r. ⌜ r ≡ rowAt (now (rows .entry)) i .token ⌝ }
 {
@@ -146,6 +146,14 @@ pub fn uncertain_at(rows: &[u64], i: usize) -> bool
 {
     let status = column(rows, i, STATUS);
     (status % 2 == 1) & (status != PENDING)
+}
+
+// The row is a request that is Pending.
+pub fn pending_at(rows: &[u64], i: usize) -> bool
+    requires { ⌜ i < length (readRows (now rows)) ⌝ }
+    ensures { λ r. ⌜ r ≡ isPendingRow (rowAt (now (rows .entry)) i) ⌝ }
+{
+    column(rows, i, STATUS) == PENDING
 }
 
 // The controller may still write to the row's bytes.

@@ -11,6 +11,7 @@ ghost use Rattle.rows.specs.Store.{storeOf, putIn, emptied};
 
 pub mod codec;
 pub mod columns;
+pub mod in_place;
 
 // How many words of a row stand in columns, how many in its record, and how many it has.
 const COLUMN_WORDS: usize = 2;
@@ -62,7 +63,7 @@ pub fn read_row(rows: &[u64], i: usize) -> Row
 }
 
 // The words of row i of n that stand in columns.
-fn put_columns(rows: &mut [u64], n: usize, i: usize, sequence: u64, status: u64)
+pub(crate) fn put_columns(rows: &mut [u64], n: usize, i: usize, sequence: u64, status: u64)
     requires { ⌜ (i < n) × (n * rowWords ≤ length (now rows)) ⌝ }
     ensures { λ _. ⌜ now (rows .exit) ≡ set (set (now (rows .entry)) i sequence) (n + i) status ⌝ }
 {

@@ -13,6 +13,7 @@ use Rattle.models.specs.declared.RequestReport.{RequestReport}
 use Rattle.models.specs.declared.RequestState.{RequestState}
 use Rattle.models.specs.declared.RequestState.the-variants.{Pending, Completed, Failed, Aborted}
 use Rattle.rows.specs.Table.{emptyRow}
+pub use Rattle.rows.specs.Table.{reportOf, flagged}
 use Rattle.rows.specs.declared.Row.{Row}
 use Rattle.rules.specs.declared.Step.{Step}
 use Rattle.rules.specs.declared.Step.the-variants as step
@@ -20,9 +21,6 @@ use Rattle.rules.specs.declared.Change.{Change}
 use Rattle.rules.specs.declared.Change.the-variants as change
 use Rattle.rules.specs.declared.Spent.{Spent}
 use Rattle.rules.specs.declared.Spent.the-variants as spent
-
-abbrev pub reportOf : Row → RequestReport
-reportOf r = record { id = r .id; metadata = r .metadata; state = r .state; «logical_cancel» = r .«logical_cancel»; «timed_out» = r .«timed_out» }
 
 -- the row of a submission, without a token yet
 unfoldable pub pendingRow : RequestId → RequestMetadata → Row
@@ -51,18 +49,6 @@ withState r s = record {
   «logical_cancel» = r .«logical_cancel»;
   «timed_out» = r .«timed_out»;
   state = s;
-}
-
--- Pending with the flags sc and st in its state, and c and t as the row's own copies
-abbrev pub flagged : Row → Bool → Bool → Bool → Bool → Row
-flagged r sc st c t = record {
-  used = r .used;
-  id = r .id;
-  metadata = r .metadata;
-  token = r .token;
-  «logical_cancel» = c;
-  «timed_out» = t;
-  state = Pending sc st;
 }
 
 -- the backend took the submission

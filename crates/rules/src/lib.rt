@@ -8,7 +8,9 @@ use models::RequestState;
 use rows::Row;
 use words::OptionU32;
 ghost use mathlib.Core.Path.{_≡_};
+ghost use Rattle.models.specs.Said.{Tabled};
 ghost use Rattle.rules.specs.Rules.{reportOf, pendingRow, spendSequence, refusedBy, moved, freed, accepted, logicalCancel, timeOut, completed, failed, abortConfirmed, reclaimed, changeRow};
+ghost use Rattle.rules.specs.Said.{stepSaid, spentSaid, spendNumbers, changeNumbers};
 
 // What a change of a row leaves: the next row, and what is reported of the request.
 pub enum Step {
@@ -72,7 +74,7 @@ pub fn pending_row(id: RequestId, metadata: RequestMetadata) -> Row
 
 // Spends the sequence number `next`: the greatest is never given.
 pub fn spend_sequence(next: u64) -> Spent
-    ensures { λ r. ⌜ r ≡ spendSequence next ⌝ }
+    ensures { λ r. ⌜ (r ≡ spendSequence next) × Tabled spendNumbers (spentSaid r) ⌝ }
 {
     if next == LAST_SEQUENCE {
         return Spent::Refused(models::refuse(39));
@@ -219,7 +221,7 @@ fn reclaim(row: Row) -> Step
 }
 
 pub fn change_row(row: Row, change: Change) -> Step
-    ensures { λ r. ⌜ r ≡ changeRow row change ⌝ }
+    ensures { λ r. ⌜ (r ≡ changeRow row change) × Tabled (changeNumbers change) (stepSaid r) ⌝ }
 {
     match change {
         Change::Accept(token) => accept(row, token),

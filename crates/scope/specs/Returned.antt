@@ -1,13 +1,12 @@
 -- What a reply brings of each request that the backend completed, in words (the Rust's `BackendAbort::completed`). Assumes nothing.
 use Prim.Native.Nat.{ℕ, _+_, _*_}
 use mathlib.Core.Bool.{Bool, cond, _&&_}
-use mathlib.Core.List.{List, [], _∷_}
+use mathlib.Core.List.{List}
 use lib.Dec.{eqb}
-use lib.ListN.{length, getD, replicate}
+use lib.ListN.{length, getD}
 use Rattle.chain.specs.Lists.{sumBy}
 use Rattle.words.specs.Records.{tab, part}
-use Rattle.words.specs.Words.{readFlag, readOptionU32, optionU32Word, optionI32Word, readOptionU64}
-use Rattle.models.specs.Codes.{categoryWord}
+use Rattle.words.specs.Words.{readFlag, readOptionU32, readOptionU64}
 use Rattle.models.specs.declared.BackendCompletion.{BackendCompletion}
 use Rattle.models.specs.declared.OperationError.{OperationError}
 use Rattle.models.specs.declared.OptionError.{OptionError}
@@ -24,16 +23,9 @@ completionWords = 11
 abbrev pub readError : List ℕ → ℕ → OperationError
 readError w at = readErrorWords (getD w at 0) (getD w (at + 1) 0) (getD w (at + 2) 0) (getD w (at + 3) 0)
 
-abbrev pub errorWords : OperationError → List ℕ
-errorWords e = categoryWord (e .category) ∷ e .message ∷ optionI32Word (e .«os_code») ∷ optionU32Word (e .«completion_code») ∷ []
-
 -- an optional one, five: a flag, and the error
 abbrev pub readOptionError : List ℕ → ℕ → OptionError
 readOptionError w at = cond (eqb (getD w at 0) 0) error.None (error.Some (readError w (at + 1)))
-
-abbrev pub optionErrorWords : OptionError → List ℕ
-optionErrorWords error.None = replicate 5 0
-optionErrorWords (error.Some e) = 1 ∷ errorWords e
 
 -- what the first ten words say
 abbrev pub readCompletion : List ℕ → BackendCompletion

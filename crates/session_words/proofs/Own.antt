@@ -13,7 +13,8 @@ use Rattle.chain.proofs.Chain.{caseB, both, if-all}
 use Rattle.words.specs.Words.{optionU64Words}
 use Rattle.words.proofs.Options.{low}
 use Rattle.models.specs.Codes.{readController, controllerWord}
-use Rattle.session_words.specs.State.{sessionSize, portsWords, portsIn, revisionIn, stallWords, stallIn, readKind, recoveryWord, flightWords, flightIn, portsTail, revisionTail, stallTail, flightTail, readSession, sessionWords, standsAt, isSession, Kept, keptOf, keptAs}
+use Rattle.session.specs.Said.{recoveryWord}
+use Rattle.session_words.specs.State.{sessionSize, portsWords, portsIn, revisionIn, stallWords, stallIn, readKind, flightWords, flightIn, portsTail, revisionTail, stallTail, flightTail, readSession, sessionWords, standsAt, isSession, Kept, keptOf, keptAs}
 
 -- ---- words in a list
 and-true : (a : Bool) → (a && true) ≡ a

@@ -13,6 +13,7 @@ use Rattle.models.specs.declared.DeviceId.{DeviceId}
 use Rattle.models.specs.declared.OptionPorts.{OptionPorts}
 use Rattle.models.specs.declared.OptionPorts.the-variants as ports
 use Rattle.models.specs.declared.RequestId.{RequestId}
+use Rattle.session.specs.Said.{recoveryWord}
 use Rattle.session.specs.declared.InFlight.{InFlight}
 use Rattle.session.specs.declared.InFlight.the-variants as flight
 use Rattle.session.specs.declared.OptionStall.{OptionStall}
@@ -49,12 +50,6 @@ readDeviceId w at = readDeviceWords (getD w at 0) (getD w (at + 1) 0) (getD w (a
 abbrev pub readRequestId : List ℕ → ℕ → RequestId
 readRequestId w at = readRequestWords (getD w at 0) (getD w (at + 1) 0) (getD w (at + 2) 0)
 
-abbrev pub requestIdWords : RequestId → List ℕ
-requestIdWords x = x .session ∷ x .generation ∷ x .sequence ∷ []
-
-abbrev pub deviceIdWords : DeviceId → List ℕ
-deviceIdWords x = x .session ∷ x .generation ∷ x .slot ∷ []
-
 abbrev pub readStall : ℕ → ℕ → DeviceId → ℕ → OptionStall
 readStall present revision device endpoint =
     cond (eqb present 0) stall.None (stall.Some (record { revision = revision; device = device; endpoint = endpoint % 2 ^ 8 }))
@@ -73,10 +68,6 @@ stallWords (stall.Some x) = record {
 -- 0 abort, 1 reset, any other a reset that preserves the data toggle
 abbrev pub readKind : ℕ → RecoveryKind
 readKind w = cond (eqb w 0) kind.Abort (kind.Reset (readFlag (w - 1)))
-
-abbrev pub recoveryWord : RecoveryKind → ℕ
-recoveryWord kind.Abort = 0
-recoveryWord (kind.Reset preserve) = 1 + flagWord preserve
 
 -- tags: 0 nothing, 1 a submission, 2 a poll, any other a recovery
 abbrev pub readFlight : ℕ → RequestId → DeviceId → ℕ → ℕ → InFlight

@@ -16,7 +16,8 @@ use words::slices::word_at;
 ghost use mathlib.Core.Path.{_≡_};
 ghost use mathlib.Core.List.{[], _∷_};
 ghost use Rattle.words.specs.Words.{optionU64Words};
-ghost use Rattle.session_words.specs.State.{readDeviceId, readRequestId, readPorts, portsIn, portsWords, revisionIn, readDeviceWords, readRequestWords, readStall, stallIn, stallWords, readKind, recoveryWord, readFlight, flightIn, idFlight, recoveryFlight, flightWords, readSession, sessionWords, portsTail, revisionTail, stallTail, flightTail, standsAt, isSession, keptOf, keptAs};
+ghost use Rattle.session.specs.Said.{recoveryWord};
+ghost use Rattle.session_words.specs.State.{readDeviceId, readRequestId, readPorts, portsIn, portsWords, revisionIn, readDeviceWords, readRequestWords, readStall, stallIn, stallWords, readKind, readFlight, flightIn, idFlight, recoveryFlight, flightWords, readSession, sessionWords, portsTail, revisionTail, stallTail, flightTail, standsAt, isSession, keptOf, keptAs};
 
 // How many words a session has.
 pub const WORDS: usize = 26;

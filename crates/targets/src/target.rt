@@ -19,8 +19,10 @@ use standards::ports::port_speed;
 ghost use mathlib.Core.Path.{_≡_};
 ghost use lib.ListN.{length};
 ghost use Rattle.chain.specs.After.{after};
+ghost use Rattle.models.specs.Said.{Tabled, verdictSaid};
 ghost use Rattle.bus.specs.Layout.{busWords};
 ghost use Rattle.bus.specs.Tables.{busOf};
+ghost use Rattle.targets.specs.Said.{targetNumbers};
 ghost use Rattle.targets.specs.Target.{refusedDevice, knownDevice, preparedDevice, freshDevice, checkDevice, speedChecked, endpointBy, checkEndpoint, checkTargetBy, checkTarget};
 
 // A device that may take a request, or the refusal.
@@ -204,8 +206,9 @@ pub fn check_target(
     readings: Readings,
 ) -> Verdict
     requires { ⌜ length (now bus) ≡ busWords ⌝ }
-    ensures { λ r. ⌜ after r (busOf (now (bus .exit)))
-        ≡ checkTarget initialized ports metadata readings (busOf (now (bus .entry))) ⌝ }
+    ensures { λ r. ⌜ (after r (busOf (now (bus .exit)))
+        ≡ checkTarget initialized ports metadata readings (busOf (now (bus .entry))))
+        × Tabled targetNumbers (verdictSaid r) ⌝ }
 {
     let id = metadata.device;
     let first = readings.first;

@@ -10,25 +10,27 @@ use Rattle.chain.proofs.Chain.{takes, passes}
 use Rattle.words.specs.Records.{splice}
 use Rattle.words.specs.Words.{flagWord, optionU32Word, optionI32Word}
 use Rattle.models.specs.Codes.{categoryWord, transferWord, directionWord}
+use Rattle.models.specs.Values.{setupTail, setupWords, optionErrorWords, requestIdWords, deviceIdWords, metadataTail}
 use Rattle.models.specs.declared.Refusal.{Refusal}
 use Rattle.models.specs.declared.RequestMetadata.{RequestMetadata}
 use Rattle.models.specs.declared.RequestReport.{RequestReport}
 use Rattle.models.specs.declared.SetupPacket.{SetupPacket}
 use Rattle.standards.specs.Setup.{packetOf, setupBytes}
-use Rattle.rows.specs.Codec.{setupTail, setupWords, stateWords}
-use Rattle.rows.specs.declared.codec.SetupWords.{SetupWords}
+use Rattle.rows.specs.Codec.{stateWords}
+use Rattle.models.specs.declared.SetupWords.{SetupWords}
+use Rattle.rows.specs.Values.{stateTail}
 use Rattle.rows.specs.declared.codec.StateWords.{StateWords}
+use Rattle.checks.specs.Said.{stageTail}
+use Rattle.session.specs.Said.{recoveryWord}
 use Rattle.submissions.specs.declared.PlanSubmission.{PlanSubmission}
 use Rattle.submissions.specs.declared.Submission.{Submission}
 use Rattle.models.specs.declared.OperationError.{OperationError}
 use Rattle.models.specs.declared.OptionError.{OptionError}
 use Rattle.models.specs.declared.OptionError.the-variants as error
-use Rattle.scope.specs.Returned.{optionErrorWords}
 use Rattle.recovery.specs.declared.AbortReport.{AbortReport}
 use Rattle.session.specs.declared.Recovery.{Recovery}
-use Rattle.session_words.specs.State.{requestIdWords, deviceIdWords, recoveryWord}
 use Rattle.calls.specs.declared.Answer.{Answer}
-use Rattle.answer_words.specs.Encode.{refusalWords, metadataTail, begunWords, stageTail, planWords, stateTail, reportWords, recoveringWords, recoveredWords, answerWords, written}
+use Rattle.answer_words.specs.Encode.{refusalWords, begunWords, planWords, reportWords, recoveringWords, recoveredWords, answerWords, written}
 
 pub refusal-exact : (r : Refusal) (c o k : ℕ) → c ≡ categoryWord (r .error .category) → o ≡ optionI32Word (r .error .«os_code»)
     → k ≡ optionU32Word (r .error .«completion_code») → 0 ∷ r .number ∷ c ∷ r .error .message ∷ o ∷ k ∷ [] ≡ refusalWords r

@@ -10,6 +10,7 @@ use borrow.Author.Tests.{lt-ltb, le-ltb}
 use Rattle.chain.proofs.Chain.{takes, passes}
 use Rattle.words.proofs.Parts.{take-cut}
 use Rattle.words.specs.Records.{splice}
+use Rattle.models.specs.Values.{requestIdWords}
 use Rattle.models.specs.declared.Refusal.{Refusal}
 use Rattle.models.specs.declared.RequestId.{RequestId}
 use Rattle.session.specs.declared.Recovery.{Recovery}
@@ -18,7 +19,6 @@ use Rattle.recovery.specs.declared.BeginAnswer.the-variants as begin
 use Rattle.recovery.specs.declared.Begun.{Begun}
 use Rattle.recovery.specs.declared.Recovered.{Recovered}
 use Rattle.recovery.specs.declared.RecoveryAnswer.the-variants as recovery
-use Rattle.session_words.specs.State.{requestIdWords}
 use Rattle.answer_words.specs.Lists.{tokenList, idWords, idList, begunLists, recoveredLists, putLists}
 
 -- a, and then b behind it

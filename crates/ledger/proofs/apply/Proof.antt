@@ -1,13 +1,14 @@
 use Rattle.ledger.proofs.Found.{found-in}
 use Rattle.ledger.proofs.Changes.{apply-none, apply-no, apply-to}
 use Rattle.rows.specs.Store.{storeOf}
+use Rattle.ledger.proofs.Said.{apply-said}
 use borrow.Author.Needs.{needs}
 use Rattle.ledger.proofs.apply.Statement.{statement}
 use Rattle.ledger.proofs.apply.Tie as tie
 
 returns : tie.Need-returns
 unfolding storeOf
-returns c = search apply-none
+returns c = apply-said _ _ _ _ _ (search apply-none)
 
 read-row-requires : tie.Need-read-row-requires
 read-row-requires c κs = search found-in
@@ -17,11 +18,11 @@ write-row-requires c κs = search found-in
 
 returns-2 : tie.Need-returns-2
 unfolding storeOf
-returns-2 c = search apply-no
+returns-2 c = apply-said _ _ _ _ _ (search apply-no)
 
 returns-3 : tie.Need-returns-3
 unfolding storeOf
-returns-3 c = search apply-to
+returns-3 c = apply-said _ _ _ _ _ (search apply-to)
 
 pub apply-spec : {M : Type 1} → statement M
 apply-spec =

@@ -10,11 +10,11 @@ use lib.Dec.{eqb}
 use borrow.Author.Tests.{ne-eqb, le-ltb, eqb-true, eqb-false}
 use Rattle.chain.proofs.Chain.{caseB}
 use Rattle.words.specs.Words.{readFlag}
-use Rattle.models.specs.Requests.{deviceMayAccess, isUncertainFailure}
+use Rattle.models.specs.Requests.{deviceMayAccess, isPending, isUncertainFailure}
 use Rattle.models.specs.declared.DeviceId.{DeviceId}
 use Rattle.models.specs.declared.RequestId.{RequestId}
 use Rattle.rows.specs.Codec.{readRow, readMetadata, stateByKind, kindBy}
-use Rattle.rows.specs.Table.{wordsAt, wordAt, readRows, rowCount, emptyRow, rowAt, idIn, tokenIn, isHeld, isUncertain}
+use Rattle.rows.specs.Table.{wordsAt, wordAt, readRows, rowCount, emptyRow, rowAt, idIn, tokenIn, isHeld, isUncertain, isPendingRow}
 use Rattle.rows.specs.declared.Row.{Row}
 use Rattle.rows.proofs.Rows.{row-is}
 
@@ -91,6 +91,15 @@ uncertain-kind (suc (suc (suc t))) r a b d e f =
     rw (ne-eqb k 0 (λ z. omega arith), ne-eqb k 1 (λ z. omega arith), le-ltb k 2 (omega arith), ne-eqb k 2 (λ z. omega arith))
     (caseB (eqb (k % 2) 1) (λ y. rw y) (λ y. rw y (caseB (eqb k 4) (λ z. rw z) (λ z. rw z))))
 
+pending-kind : (t r a b d e f : ℕ) → (not (eqb t 0) && isPending (stateByKind (kindBy t r) a b d e f)) ≡ eqb t 1
+pending-kind zero r a b d e f = refl
+pending-kind (suc zero) r a b d e f = refl
+pending-kind (suc (suc zero)) r a b d e f = refl
+pending-kind (suc (suc (suc t))) r a b d e f =
+    let k = suc (suc (suc t)) in
+    rw (ne-eqb k 0 (λ z. omega arith), ne-eqb k 1 (λ z. omega arith), le-ltb k 2 (omega arith), ne-eqb k 2 (λ z. omega arith))
+    (caseB (eqb (k % 2) 1) (λ y. rw y) (λ y. rw y (caseB (eqb k 4) (λ z. rw z) (λ z. rw z))))
+
 odd-word : (t : ℕ) → cond (eqb (t % 2) 1) 1 0 ≡ t % 2
 odd-word t = caseB (eqb (t % 2) 1) (λ y. rw y (sym (eqb-true (t % 2) 1 y))) (λ y. rw y (let n = eqb-false (t % 2) 1 y in omega arith))
 
@@ -105,6 +114,10 @@ module _ (l : List ℕ) (i t : ℕ) (h : i < length (readRows l)) (et : t ≡ wo
   pub uncertain-is : (eqb (t % 2) 1 && not (eqb t 1)) ≡ isUncertain (rowAt l i)
   unfolding isUncertain readRow
   uncertain-is = rw (← row-is l i h, ← et) (sym (uncertain-kind t (wordAt l i 22) (wordAt l i 20) (wordAt l i 21) (wordAt l i 23) (wordAt l i 24) (wordAt l i 25)))
+
+  pub pending-is : eqb t 1 ≡ isPendingRow (rowAt l i)
+  unfolding isPendingRow readRow
+  pending-is = rw (← row-is l i h, ← et) (sym (pending-kind t (wordAt l i 22) (wordAt l i 20) (wordAt l i 21) (wordAt l i 23) (wordAt l i 24) (wordAt l i 25)))
 
   pub held-word : t % 2 ≡ cond (isHeld (rowAt l i)) 1 0
   held-word = rw held-by (sym (odd-word t))

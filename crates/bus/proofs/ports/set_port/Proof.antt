@@ -1,13 +1,14 @@
 use Rattle.bus.proofs.ports.Laws.{set-in, set-out}
+use Rattle.bus.proofs.Said.{set-port-said}
 use borrow.Author.Needs.{needs}
 use Rattle.bus.proofs.ports.set_port.Statement.{statement}
 use Rattle.bus.proofs.ports.set_port.Tie as tie
 
 returns : tie.Need-returns
-returns c = search set-out
+returns c = set-port-said _ _ _ _ _ _ (search set-out)
 
 returns-2 : tie.Need-returns-2
-returns-2 c = search set-in
+returns-2 c = set-port-said _ _ _ _ _ _ (search set-in)
 
 pub set-port-spec : {M : Type 1} → statement M
 set-port-spec =

@@ -1,5 +1,6 @@
 -- `checks::plan::validate_plan` meets its contract: the facts, their verdict, then by its case. Assumes nothing.
 use borrow.Author.Needs.{needs}
+use Rattle.checks.proofs.Said.{planned-said}
 use Rattle.checks.proofs.Answers.{plan-stop, plan-go}
 use Rattle.checks.proofs.plan.validate_plan.Statement.{statement}
 use Rattle.checks.proofs.plan.validate_plan.Tie as tie
@@ -13,5 +14,5 @@ validate-plan-spec =
     (λ c. search needs)
     (λ c. search needs)
     (λ c κs. search needs)
-    (λ c. search (plan-stop, plan-go))
-    (λ c. search (plan-stop, plan-go)))
+    (λ c. planned-said _ _ _ _ (search (plan-stop, plan-go)))
+    (λ c. planned-said _ _ _ _ (search (plan-stop, plan-go))))

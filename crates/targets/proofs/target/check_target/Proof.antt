@@ -1,5 +1,6 @@
 -- `targets::target::check_target` meets its contract: one law for each way out. Assumes nothing.
 use borrow.Author.Needs.{needs}
+use Rattle.targets.proofs.Said.{target-said}
 use Rattle.targets.proofs.target.Laws.{target-is}
 use Rattle.targets.proofs.target.check_target.Statement.{statement}
 use Rattle.targets.proofs.target.check_target.Tie as tie
@@ -11,4 +12,4 @@ check-target-spec =
     (λ c κs. search needs)
     (λ c κs. search needs)
     (λ c. search needs)
-    (λ c. search target-is))
+    (λ c. target-said _ _ _ _ _ _ _ (search target-is)))

@@ -1,0 +1,58 @@
+-- What a change of the row of an id refuses is of the table. Assumes nothing.
+use Prim.Native.Nat.{ℕ}
+use mathlib.Core.Bool.{true}
+use mathlib.Core.List.{_∷_}
+use mathlib.Core.Path.{_≡_, refl}
+use lib.ListN.{getD}
+use Rattle.chain.specs.After.{After, after}
+use Rattle.chain.specs.Lists.{foundIn}
+use Rattle.chain.specs.declared.Found.{Found}
+use Rattle.chain.specs.declared.Found.the-variants as found
+use Rattle.models.specs.Said.{Tabled}
+use Rattle.models.specs.declared.RequestId.{RequestId}
+use Rattle.models.proofs.Said.{areIn, tabled-own, tabled-in, said-of}
+use Rattle.rows.specs.Store.{Store}
+use Rattle.rows.specs.Table.{emptyRow}
+use Rattle.rules.specs.Rules.{changeRow}
+use Rattle.rules.specs.Said.{stepSaid, changeNumbers}
+use Rattle.rules.specs.declared.Change.{Change}
+use Rattle.rules.specs.declared.Change.the-variants as change
+use Rattle.rules.specs.declared.Step.{Step}
+use Rattle.rules.specs.declared.Step.the-variants as step
+use Rattle.rules.proofs.Said.{change-tabled}
+use Rattle.ledger.specs.Apply.{applyBy, applyAt, applyOf}
+use Rattle.ledger.specs.Said.{appliedSaid, applyNumbers}
+use Rattle.ledger.specs.Search.{isAt}
+use Rattle.ledger.specs.declared.Applied.{Applied}
+
+module _ (c : Change) (store : Store) where
+  abbrev Answers : After Applied Store → Type 0
+  Answers o = Tabled (applyNumbers c) (appliedSaid (o .result))
+
+  by-step : (x : Step) → Tabled (applyNumbers c) (stepSaid x) → (i : ℕ) → Answers (applyBy x i store)
+  unfolding applyBy
+  by-step (step.Refused r) h i = h
+  by-step (step.To next x) h i = h
+
+  longer : (d : Change) → areIn (applyNumbers d) (changeNumbers d) ≡ true
+  longer (change.Accept token) = refl
+  longer change.Discard = refl
+  longer change.LogicalCancel = refl
+  longer change.Timeout = refl
+  longer (change.Complete actual code) = refl
+  longer (change.Fail error code quiescent) = refl
+  longer change.ConfirmAbort = refl
+  longer change.Reclaim = refl
+
+  by-found : (f : Found) → Answers (applyAt f c store)
+  unfolding applyAt
+  by-found found.Nothing = tabled-own _ 40 refl
+  by-found (found.At i) = by-step (changeRow (getD (store .rows) i emptyRow) c) (tabled-in _ _ (longer c) _ (change-tabled _ c)) i
+
+  pub apply-tabled : (id : RequestId) → Tabled (applyNumbers c) (appliedSaid (applyOf id c store .result))
+  unfolding applyOf
+  apply-tabled id = by-found (foundIn (isAt id) (store .rows))
+
+  pub apply-said : (id : RequestId) (x : Applied) (left : Store) → after x left ≡ applyOf id c store
+      → (after x left ≡ applyOf id c store) × Tabled (applyNumbers c) (appliedSaid x)
+  apply-said id x left e = said-of Answers _ _ e (apply-tabled id)

@@ -1,0 +1,41 @@
+use Rattle.rows.specs.Store.{storeOf}
+use Rattle.ledger.proofs.Found.{found-in}
+use Rattle.ledger.proofs.Changes.{apply-none}
+use Rattle.ledger.proofs.in_place.Laws.{timeout-no, pending-in, timeout-done}
+use borrow.Author.Needs.{needs}
+use Rattle.ledger.proofs.in_place.timeout.Statement.{statement}
+use Rattle.ledger.proofs.in_place.timeout.Tie as tie
+
+returns : tie.Need-returns
+unfolding storeOf
+returns c = (search apply-none, tt)
+
+pending-at-requires : tie.Need-pending-at-requires
+pending-at-requires c κs = search found-in
+
+returns-2 : tie.Need-returns-2
+returns-2 c = (search timeout-no, tt)
+
+late-row-requires : tie.Need-late-row-requires
+late-row-requires c κs = pending-in _ _ _ _ (c .before .before .before .before .before .before .before .find .ensures) (c .before .before .before .before .before .found .given .1) _ (c .before .before .pending-at .ensures) (c .before .if1 .left)
+
+returns-3 : tie.Need-returns-3
+returns-3 c = timeout-done _ _ _ _ (c .before .before .before .before .before .before .before .before .before .before .find .ensures) (c .before .before .before .before .before .before .before .before .found .given .1) _ (c .before .before .before .before .before .pending-at .ensures) _ (c .before .before .before .before .if1 .left) (c .before .before .late-row .ensures)
+
+pub timeout-spec : {M : Type 1} → statement M
+timeout-spec =
+    tie.close
+    (tie.spec
+    (λ c κs. search needs)
+    (λ c. search needs)
+    (λ c. search needs)
+    (λ c κs. search needs)
+    (λ c. search needs)
+    returns
+    pending-at-requires
+    (λ c κs. search needs)
+    (λ c. search needs)
+    returns-2
+    late-row-requires
+    (λ c. search needs)
+    returns-3)

@@ -1,0 +1,161 @@
+-- Laws of rows in place: a record's words made anew, and a row put with its column words as they are. Assumes nothing.
+use Prim.Native.Nat.{ℕ, _+_, _-_, _/_, _%_, _<_, _^_}
+use mathlib.Core.Path.{_≡_, refl, sym, ap, _∙_}
+use mathlib.Core.Bool.{Bool, true, false}
+use mathlib.Core.List.{List, [], _∷_}
+use native.Mathlib.Omega.{arith}
+use lib.ListN.{length, getD, set, take, drop, replicate}
+use lib.Seq.{getD-take, getD-drop, set-getD}
+use lib.Dec.{eqb}
+use borrow.Author.Tests.{eqb-true}
+use Rattle.chain.proofs.Chain.{caseB}
+use Rattle.words.specs.Words.{readFlag, flagWord}
+use Rattle.words.specs.Records.{splice}
+use Rattle.words.proofs.Options.{low, flag-back}
+use Rattle.models.specs.Codes.{readTransfer, transferWord, readDirection, directionWord}
+use Rattle.models.specs.Values.{setupWords, setupTail, metadataTail}
+use Rattle.models.specs.declared.RequestState.the-variants.{Pending}
+use Rattle.models.specs.declared.SetupWords.{SetupWords}
+use Rattle.models.proofs.Enums.{transfer-back, direction-back}
+use Rattle.rows.specs.Codec.{readSetupWords, setupIn, readMetadata, stateWords, statusWords, readRow, recordOf}
+use Rattle.rows.specs.Table.{recordWords, rowWords, rowCount, recordAt, wordsAt, wordAt, readRows, rowAt, emptyRow, isPendingRow, reportOf, flagged}
+use Rattle.rows.specs.Store.{storeOf, putIn}
+use Rattle.rows.specs.Values.{stateTail, reportValues}
+use Rattle.rows.specs.InPlace.{setupAt, stateAt, cancelled, timedOut}
+use Rattle.rows.specs.declared.Row.{Row}
+use Rattle.rows.specs.declared.codec.StateWords.{StateWords}
+use Rattle.rows.proofs.Rows.{row-at, put-row}
+use Rattle.rows.proofs.columns.Laws.{pending-is}
+
+-- the metadata, by the words of the whole record
+meta-word : (w : List ℕ) (k : ℕ) → k < 13 → getD (take 13 (drop 2 w)) k 0 ≡ getD w (2 + k) 0
+meta-word w k h = getD-take 13 (drop 2 w) k 0 h ∙ getD-drop 2 w k 0
+
+metadata-is : (w : List ℕ) → readMetadata (take 13 (drop 2 w)) ≡ record {
+  device = record { session = getD w 2 0; generation = getD w 3 0; slot = getD w 4 0 % 2 ^ 8 };
+  endpoint = getD w 5 0 % 2 ^ 8;
+  «transfer_type» = readTransfer (getD w 6 0);
+  direction = readDirection (getD w 7 0);
+  «requested_length» = getD w 8 0;
+  setup = setupAt w;
+}
+unfolding readMetadata
+metadata-is w =
+    let m = meta-word w in
+    rw (
+      m 0 (omega arith),
+      m 1 (omega arith),
+      m 2 (omega arith),
+      m 3 (omega arith),
+      m 4 (omega arith),
+      m 5 (omega arith),
+      m 6 (omega arith),
+      m 7 (omega arith),
+      m 8 (omega arith),
+      m 9 (omega arith),
+      m 10 (omega arith),
+      m 11 (omega arith),
+      m 12 (omega arith),
+    )
+
+module _ (w : List ℕ) (y d : ℕ) (p : SetupWords) (ey : y ≡ transferWord (readTransfer (getD w 6 0))) (ed : d ≡ directionWord (readDirection (getD w 7 0)))
+    (ep : p ≡ setupWords (setupAt w)) where
+  -- the metadata's words made anew
+  abbrev metaTail : List ℕ → List ℕ
+  metaTail rest = getD w 2 0 ∷ getD w 3 0 ∷ getD w 4 0 % 2 ^ 8 ∷ getD w 5 0 % 2 ^ 8 ∷ y ∷ d ∷ getD w 8 0 ∷ setupTail p rest
+
+  meta-anew : (rest : List ℕ) → metaTail rest ≡ metadataTail (readMetadata (take 13 (drop 2 w))) rest
+  meta-anew rest = rw (metadata-is w, ey, ed, ep)
+
+  pub values-are : (s t a b : ℕ) (z : StateWords) → z ≡ stateWords (stateAt t w) → a ≡ flagWord (readFlag (getD w 16 0)) → b ≡ flagWord (readFlag (getD w 17 0))
+      → (getD w 0 0 ∷ getD w 1 0 ∷ s ∷ metaTail (stateTail z (a ∷ b ∷ []))) ≡ reportValues (reportOf (readRow (s ∷ t ∷ w)))
+  unfolding readRow
+  values-are s t a b z ez ea eb = rw (meta-anew (stateTail z (a ∷ b ∷ [])), ez, ea, eb)
+
+  pub record-is : (sc st c t : Bool) (scw stw cw tw : ℕ) → cw ≡ flagWord c → tw ≡ flagWord t → scw ≡ flagWord sc → stw ≡ flagWord st
+      → (getD w 0 0 ∷ getD w 1 0 ∷ metaTail (getD w 15 0 ∷ cw ∷ tw ∷ scw ∷ stw ∷ 0 ∷ 0 ∷ 0 ∷ 0 ∷ [])) ≡ recordOf (flagged (readRow (0 ∷ 1 ∷ w)) sc st c t)
+  unfolding readRow recordOf
+  record-is sc st c t scw stw cw tw ec et esc est =
+      rw (meta-anew (getD w 15 0 ∷ cw ∷ tw ∷ scw ∷ stw ∷ 0 ∷ 0 ∷ 0 ∷ 0 ∷ []), ec, et, esc, est)
+
+-- a row read back from its record
+low-twice : (k v : ℕ) → v % 2 ^ k < 2 ^ k → v % 2 ^ k % 2 ^ k ≡ v % 2 ^ k
+low-twice k v h = low k {v = v % 2 ^ k} h
+
+setup-back : (p a b c d e : ℕ) → setupIn (setupWords (readSetupWords p a b c d e)) ≡ readSetupWords p a b c d e
+setup-back p a b c d e =
+    caseB (eqb p 0) (λ y. rw y)
+    (λ y. rw y (simp (low-twice 8 a (omega arith), low-twice 8 b (omega arith), low-twice 16 c (omega arith), low-twice 16 d (omega arith), low-twice 16 e (omega arith))))
+
+metadata-back : (w : List ℕ) → readMetadata (metadataTail (readMetadata (take 13 (drop 2 w))) []) ≡ readMetadata (take 13 (drop 2 w))
+unfolding readMetadata
+metadata-back w =
+    let m = readMetadata (take 13 (drop 2 w)) in
+    let v = take 13 (drop 2 w) in
+    simp (
+      transfer-back (m .«transfer_type»),
+      direction-back (m .direction),
+      low-twice 8 (getD v 2 0) (omega arith),
+      low-twice 8 (getD v 3 0) (omega arith),
+      setup-back (getD v 7 0) (getD v 8 0) (getD v 9 0) (getD v 10 0) (getD v 11 0) (getD v 12 0),
+    )
+
+row-back : (s : ℕ) (w : List ℕ) (sc st c t : Bool)
+    → readRow (s ∷ 1 ∷ recordOf (flagged (readRow (s ∷ 1 ∷ w)) sc st c t)) ≡ flagged (readRow (s ∷ 1 ∷ w)) sc st c t
+unfolding readRow recordOf
+row-back s w sc st c t = rw (metadata-back w) (simp (flag-back c, flag-back t, flag-back sc, flag-back st))
+
+-- ---- what the functions do
+pub cancelled-is : (w r : List ℕ) (late own : Bool) → late ≡ readFlag (getD w 19 0) → own ≡ readFlag (getD w 17 0)
+    → r ≡ recordOf (flagged (readRow (0 ∷ 1 ∷ w)) true late true own) → r ≡ recordOf (cancelled (readRow (0 ∷ 1 ∷ w)))
+unfolding readRow cancelled
+cancelled-is w r late own el eo e = rw (el, eo) at e
+
+pub late-is : (w r : List ℕ) (cancel own : Bool) → cancel ≡ readFlag (getD w 18 0) → own ≡ readFlag (getD w 16 0)
+    → r ≡ recordOf (flagged (readRow (0 ∷ 1 ∷ w)) cancel true own true) → r ≡ recordOf (timedOut (readRow (0 ∷ 1 ∷ w)))
+unfolding readRow timedOut
+late-is w r cancel own ec eo e = rw (ec, eo) at e
+
+pub values-at : (l r : List ℕ) (i s t at : ℕ) → i < length (readRows l) → s ≡ wordAt l i 0 → t ≡ wordAt l i 1 → at ≡ recordAt (rowCount l) i
+    → r ≡ reportValues (reportOf (readRow (s ∷ t ∷ take (at + recordWords - at) (drop at l)))) → r ≡ reportValues (reportOf (rowAt l i))
+values-at l r i s t at h es et ea e = e ∙ ap (λ (y : Row). reportValues (reportOf y)) (row-at l i s t at h es et ea)
+
+-- the record w is put, and the column words of a Pending row stay as they are
+module _ (l x w : List ℕ) (i at : ℕ) (h : i < length (readRows l)) (pending : isPendingRow (rowAt l i) ≡ true) (ea : at ≡ recordAt (rowCount l) i)
+    (ex : x ≡ splice at (take recordWords w) l) where
+  abbrev recorded : List ℕ
+  recorded = take (at + recordWords - at) (drop at l)
+
+  one : wordAt l i 1 ≡ 1
+  one = eqb-true (wordAt l i 1) 1 (pending-is l i (wordAt l i 1) h refl ∙ pending)
+
+  same-row : readRow (wordAt l i 0 ∷ 1 ∷ recorded) ≡ rowAt l i
+  same-row = row-at l i (wordAt l i 0) 1 at h refl (sym one) ea
+
+  columns-same : l ≡ set (set l i (wordAt l i 0)) (length l / rowWords + i) 1
+  unfolding rowCount wordsAt
+  columns-same = rw (set-getD l i 0) (sym (rw one at (set-getD l (length l / rowWords + i) 0)))
+
+  put-kept : (sc st c t : Bool) → w ≡ recordOf (flagged (readRow (0 ∷ 1 ∷ recorded)) sc st c t)
+      → storeOf x ≡ putIn (storeOf l) i (flagged (readRow (wordAt l i 0 ∷ 1 ∷ recorded)) sc st c t)
+  unfolding readRow recordOf
+  put-kept sc st c t hw =
+      let r = flagged (readRow (wordAt l i 0 ∷ 1 ∷ recorded)) sc st c t in
+      let back : readRow (wordAt l i 0 ∷ 1 ∷ w) ≡ r = rw hw (row-back (wordAt l i 0) recorded sc st c t) in
+      put-row l l x i at (statusWords true (Pending sc st)) w r h ea refl back hw columns-same ex
+
+  pub cancel-put : w ≡ recordOf (cancelled (readRow (0 ∷ 1 ∷ recorded))) → storeOf x ≡ putIn (storeOf l) i (cancelled (rowAt l i))
+  unfolding readRow cancelled
+  cancel-put hw =
+      put-kept true (readFlag (getD recorded 19 0)) true (readFlag (getD recorded 17 0)) hw ∙ ap (λ (y : Row). putIn (storeOf l) i (cancelled y)) same-row
+
+  pub late-put : w ≡ recordOf (timedOut (readRow (0 ∷ 1 ∷ recorded))) → storeOf x ≡ putIn (storeOf l) i (timedOut (rowAt l i))
+  unfolding readRow timedOut
+  late-put hw =
+      put-kept (readFlag (getD recorded 18 0)) true (readFlag (getD recorded 16 0)) true hw ∙ ap (λ (y : Row). putIn (storeOf l) i (timedOut y)) same-row
+
+pub free-put : (l m x : List ℕ) (i at : ℕ) → i < length (readRows l) → at ≡ recordAt (rowCount l) i
+    → m ≡ set (set l i 0) (length l / rowWords + i) 0 → x ≡ splice at (replicate recordWords 0) m → storeOf x ≡ putIn (storeOf l) i emptyRow
+unfolding emptyRow readRow readMetadata recordOf
+free-put l m x i at h ea em ex =
+    put-row l m x i at (statusWords false (Pending false false)) (replicate recordWords 0) emptyRow h ea refl refl refl em ex

@@ -1,0 +1,18 @@
+use Rattle.rows.proofs.in_place.Laws.{cancelled-is}
+use borrow.Author.Needs.{needs}
+use Rattle.rows.proofs.in_place.cancelled_record.Statement.{statement}
+use Rattle.rows.proofs.in_place.cancelled_record.Tie as tie
+
+returns : tie.Need-returns
+returns c = cancelled-is _ _ _ _ (c .before .before .before .to-flag .ensures) (c .before .to-flag2 .ensures) (c .renewed .ensures)
+
+pub cancelled-record-spec : {M : Type 1} → statement M
+cancelled-record-spec =
+    tie.close
+    (tie.spec
+    (λ c. search needs)
+    (λ c κs. search needs)
+    (λ c. search needs)
+    (λ c κs. search needs)
+    (λ c κs. search needs)
+    returns)

@@ -1,0 +1,45 @@
+-- What the rules of a row refuse is of the table. Assumes nothing.
+use Prim.Native.Nat.{ℕ}
+use mathlib.Core.Bool.{Bool}
+use mathlib.Core.List.{[], _∷_}
+use mathlib.Core.Path.{_≡_, refl}
+use Rattle.chain.proofs.Chain.{if-all}
+use Rattle.models.specs.Said.{Tabled}
+use Rattle.models.specs.declared.RequestState.{RequestState}
+use Rattle.models.specs.declared.RequestState.the-variants.{Pending, Completed, Failed, Aborted}
+use Rattle.models.proofs.Said.{tabled-says, tabled-own, said-of}
+use Rattle.rows.specs.declared.Row.{Row}
+use Rattle.rules.specs.Rules.{spendSequence, moved, freed, accepted, whilePending, logicalCancel, timeOut, completed, failed, abortConfirmed, reclaimed, changeRow}
+use Rattle.rules.specs.Said.{stepSaid, spentSaid, spendNumbers, changeNumbers}
+use Rattle.rules.specs.declared.Change.{Change}
+use Rattle.rules.specs.declared.Change.the-variants as change
+use Rattle.rules.specs.declared.Spent.{Spent}
+use Rattle.rules.specs.declared.Step.{Step}
+
+spend-tabled : (next : ℕ) → Tabled spendNumbers (spentSaid (spendSequence next))
+unfolding spendSequence
+spend-tabled next = if-all (λ (x : Spent). Tabled spendNumbers (spentSaid x)) _ _ _ (tabled-own _ 39 refl) (tabled-says _ _)
+
+pending-tabled : (s : RequestState) (next : Bool → Bool → Row) → Tabled (41 ∷ []) (stepSaid (whilePending s next))
+unfolding whilePending moved
+pending-tabled (Pending cancel late) next = tabled-says _ _
+pending-tabled (Completed actual code cancel) next = tabled-own _ 41 refl
+pending-tabled (Failed error code quiescent) next = tabled-own _ 41 refl
+pending-tabled Aborted next = tabled-own _ 41 refl
+
+pub change-tabled : (r : Row) (c : Change) → Tabled (changeNumbers c) (stepSaid (changeRow r c))
+unfolding changeRow accepted moved freed logicalCancel timeOut completed failed abortConfirmed reclaimed
+change-tabled r (change.Accept token) = tabled-says _ _
+change-tabled r change.Discard = tabled-says _ _
+change-tabled r change.LogicalCancel = pending-tabled _ _
+change-tabled r change.Timeout = pending-tabled _ _
+change-tabled r (change.Complete actual code) = pending-tabled _ _
+change-tabled r (change.Fail error code quiescent) = pending-tabled _ _
+change-tabled r change.ConfirmAbort = if-all (λ (x : Step). Tabled (43 ∷ []) (stepSaid x)) _ _ _ (tabled-own _ 43 refl) (tabled-says _ _)
+change-tabled r change.Reclaim = if-all (λ (x : Step). Tabled (42 ∷ []) (stepSaid x)) _ _ _ (tabled-own _ 42 refl) (tabled-says _ _)
+
+pub spend-said : (next : ℕ) (x : Spent) → x ≡ spendSequence next → (x ≡ spendSequence next) × Tabled spendNumbers (spentSaid x)
+spend-said next x e = said-of (λ (y : Spent). Tabled spendNumbers (spentSaid y)) _ _ e (spend-tabled next)
+
+pub change-said : (r : Row) (c : Change) (x : Step) → x ≡ changeRow r c → (x ≡ changeRow r c) × Tabled (changeNumbers c) (stepSaid x)
+change-said r c x e = said-of (λ (y : Step). Tabled (changeNumbers c) (stepSaid y)) _ _ e (change-tabled r c)
