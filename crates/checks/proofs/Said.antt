@@ -88,7 +88,7 @@ module _ (v : PlanFacts) where
   unfolding sizeChecked
   size-tabled = tabled-stop _ 6 refl _ _ (tabled-stop _ 7 refl _ _ (if-all (Of planNumbers) _ _ _ stages-tabled payload-tabled))
 
-  plan-tabled : Of planNumbers (planChecked v)
+  pub plan-tabled : Tabled planNumbers (verdictSaid (planChecked v))
   unfolding planChecked
   plan-tabled = tabled-stop _ 18 refl _ _ (tabled-stop _ 19 refl _ _ (tabled-stop _ 20 refl _ _ size-tabled))
 

@@ -12,8 +12,10 @@ use session::Session;
 use session::start;
 ghost use mathlib.Core.Path.{_≡_};
 ghost use Rattle.models.specs.Refusals.{refusalOf};
+ghost use Rattle.models.specs.Said.{Tabled};
 ghost use Rattle.session.specs.Lent.{storeIn};
 ghost use Rattle.polls.specs.Poll.{pollRefused, pollRow, pollOf};
+ghost use Rattle.polls.specs.Said.{pollSaid, pollNumbers};
 
 fn refused(session: Session, refusal: Refusal) -> Polled
     ensures { λ r. ⌜ r ≡ pollRefused session refusal ⌝ }
@@ -53,7 +55,7 @@ fn poll_row(session: Session, row: Row, id: RequestId) -> Polled
 
 // 1, 3, 40, then by the row.
 pub fn poll_request(session: Session, rows: &[u64], id: RequestId) -> Polled
-    ensures { λ r. ⌜ r ≡ pollOf id session (storeIn rows) ⌝ }
+    ensures { λ r. ⌜ (r ≡ pollOf id session (storeIn rows)) × Tabled pollNumbers (pollSaid (r .answer)) ⌝ }
 {
     let verdict = start::rows_ready(session, rows.len());
     match verdict {

@@ -31,10 +31,13 @@ ghost use mathlib.Core.Path.{_≡_};
 ghost use Prim.Native.Nat.{_+_, _<_, _≤_};
 ghost use lib.ListN.{length};
 ghost use Rattle.chain.specs.After.{after};
+ghost use Rattle.models.specs.Said.{Tabled};
 ghost use Rattle.rows.specs.Table.{readRows, rowIn};
 ghost use Rattle.rules.specs.Rules.{changeRow};
 ghost use Rattle.session.specs.Lent.{rowsIn, memoryIn, memoryOut};
+ghost use Rattle.reports.specs.Said.{reportSaid};
 ghost use Rattle.polls.specs.PollReply.{isRecovery, codeIsStall, isScopedStall, stallOf, failedAs, invalidAs, judgedTest, judged, storedIn, settled, pollReplyAt, pollReplyFound, pollReplyOf};
+ghost use Rattle.polls.specs.Said.{pollReplyNumbers};
 
 // What a completion does: the change of the row, the session after it, and whether the data is stored.
 pub struct Judgement {
@@ -276,8 +279,9 @@ pub fn poll_reply(
     reply: PollReply,
     bytes: &[u8],
 ) -> Reported
-    ensures { λ r. ⌜ after r (memoryOut rows area)
-        ≡ pollReplyOf reply (now (bytes .entry)) session (memoryIn rows area) ⌝ }
+    ensures { λ r. ⌜ (after r (memoryOut rows area)
+        ≡ pollReplyOf reply (now (bytes .entry)) session (memoryIn rows area))
+        × Tabled pollReplyNumbers (reportSaid (r .answer)) ⌝ }
 {
     let flight = session.in_flight;
     match flight {

@@ -15,9 +15,11 @@ use session::Session;
 use session::start;
 ghost use mathlib.Core.Path.{_≡_};
 ghost use Rattle.models.specs.Refusals.{refusalOf};
+ghost use Rattle.models.specs.Said.{Tabled};
 ghost use Rattle.session.specs.declared.RecoveryKind.the-variants as RecoveryKind;
 ghost use Rattle.session.specs.Lent.{rowsIn, storeIn};
 ghost use Rattle.recovery.specs.Recover.{beginRefused, recoveryOf, begunAs, beginRow, recoverOf};
+ghost use Rattle.recovery.specs.Said.{beginSaid, recoverNumbers};
 
 fn refused(session: Session, refusal: Refusal) -> Begun
     ensures { λ r. ⌜ r ≡ beginRefused session refusal ⌝ }
@@ -82,7 +84,7 @@ fn begin_row(session: Session, rows: &[u64], row: Row, id: RequestId, kind: Reco
 
 // 1, 3, 40, then by the row.
 fn begin_recovery(session: Session, rows: &[u64], id: RequestId, kind: RecoveryKind) -> Begun
-    ensures { λ r. ⌜ r ≡ recoverOf id kind session (storeIn rows) ⌝ }
+    ensures { λ r. ⌜ (r ≡ recoverOf id kind session (storeIn rows)) × Tabled recoverNumbers (beginSaid (r .answer)) ⌝ }
 {
     let verdict = start::rows_ready(session, rows.len());
     match verdict {
@@ -99,7 +101,8 @@ fn begin_recovery(session: Session, rows: &[u64], id: RequestId, kind: RecoveryK
 }
 
 pub fn abort_request(session: Session, rows: &[u64], target: RequestId) -> Begun
-    ensures { λ r. ⌜ r ≡ recoverOf target RecoveryKind.Abort session (storeIn rows) ⌝ }
+    ensures { λ r. ⌜ (r ≡ recoverOf target RecoveryKind.Abort session (storeIn rows))
+        × Tabled recoverNumbers (beginSaid (r .answer)) ⌝ }
 {
     begin_recovery(session, rows, target, RecoveryKind::Abort)
 }
@@ -110,7 +113,8 @@ pub fn reset_endpoint_request(
     target: RequestId,
     preserve: bool,
 ) -> Begun
-    ensures { λ r. ⌜ r ≡ recoverOf target (RecoveryKind.Reset preserve) session (storeIn rows) ⌝ }
+    ensures { λ r. ⌜ (r ≡ recoverOf target (RecoveryKind.Reset preserve) session (storeIn rows))
+        × Tabled recoverNumbers (beginSaid (r .answer)) ⌝ }
 {
     begin_recovery(session, rows, target, RecoveryKind::Reset(preserve))
 }

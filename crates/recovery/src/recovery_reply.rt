@@ -32,6 +32,7 @@ ghost use lib.ListN.{length};
 ghost use Rattle.chain.specs.After.{after};
 ghost use Rattle.chain.specs.Lists.{listed};
 ghost use Rattle.models.specs.Refusals.{refusalOf};
+ghost use Rattle.models.specs.Said.{Tabled};
 ghost use Rattle.scope.specs.Scope.{meant};
 ghost use Rattle.session.specs.Lent.{rowsIn, memoryIn, memoryOut};
 ghost use Rattle.recovery.specs.Entries.{rowListsIn, applyAll};
@@ -39,6 +40,7 @@ ghost use Rattle.recovery.specs.Places.{Below, Fit, Places, Agree};
 ghost use Rattle.recovery.specs.declared.RecoveryReply.the-variants as RecoveryReply;
 ghost use Rattle.recovery.specs.Reports.{noId, idsOf, idLists};
 ghost use Rattle.recovery.specs.RecoveryReply.{listsIn, rowsMeant, recoveryRefused, isWhole, isRevision, matching, restoredBy, resetBy, sessionAfter, refusedAfter, abortReport, concludedBy, settledOf, doneOf, replyBy, replySized, recoveryReplyOf};
+ghost use Rattle.recovery.specs.Said.{recoverySaid, recoveryReplyNumbers};
 
 // A recovery whose reply is in: the session without it, the recovery, and what the backend says.
 pub struct Ended {
@@ -453,8 +455,9 @@ pub fn recovery_reply(
     aborted: &[u64],
     bytes: &[u8],
 ) -> Recovered
-    ensures { λ r. ⌜ after r (memoryOut rows area)
-        ≡ recoveryReplyOf reply (listsIn tokens completions aborted bytes) session (memoryIn rows area) ⌝ }
+    ensures { λ r. ⌜ (after r (memoryOut rows area)
+        ≡ recoveryReplyOf reply (listsIn tokens completions aborted bytes) session (memoryIn rows area))
+        × Tabled recoveryReplyNumbers (recoverySaid (r .answer)) ⌝ }
 {
     let flight = session.in_flight;
     match flight {

@@ -111,14 +111,10 @@ completedPart id size s store =
     bytes.Refused (refusalOf 3) if not (memorySizes (s .size) (length (store .words)) size) else
     partBy (shownAt (s .«in_flight») id (store .rows)) (s .size .«row_bytes») (store .rows)
 
--- the lent form: no bytes where it is refused, and the refusal's number, or 0
+-- the lent form: no bytes where it is refused
 abbrev pub partOf : PartAnswer → Part
 partOf (bytes.Refused r) = bytesPart 0 0
 partOf (bytes.Part p) = p
-
-abbrev pub partNumber : PartAnswer → ℕ
-partNumber (bytes.Refused r) = r .number
-partNumber (bytes.Part p) = 0
 
 unfoldable pub bytesOf : PartAnswer → List ℕ → List ℕ
 bytesOf a area = take (partOf a .length) (drop (partOf a .start) area)

@@ -10,9 +10,11 @@ use session::Session;
 use session::start;
 ghost use mathlib.Core.Path.{_≡_};
 ghost use Rattle.chain.specs.After.{after};
+ghost use Rattle.models.specs.Said.{Tabled};
 ghost use Rattle.rules.specs.declared.Change.the-variants as Change;
 ghost use Rattle.session.specs.Lent.{storeIn, storeOut};
 ghost use Rattle.reports.specs.Change.{reportedBy, changeOf};
+ghost use Rattle.reports.specs.Said.{reportSaid, cancelNumbers, reclaimNumbers};
 
 fn reported(applied: Applied, session: Session) -> Reported
     ensures { λ r. ⌜ r ≡ reportedBy applied session ⌝ }
@@ -40,20 +42,23 @@ fn change_request(session: Session, rows: &mut [u64], id: RequestId, change: Cha
 }
 
 pub fn logical_cancel_request(session: Session, rows: &mut [u64], id: RequestId) -> Reported
-    ensures { λ r. ⌜ after r (storeOut rows) ≡ changeOf id Change.LogicalCancel session (storeIn rows) ⌝ }
+    ensures { λ r. ⌜ (after r (storeOut rows) ≡ changeOf id Change.LogicalCancel session (storeIn rows))
+        × Tabled cancelNumbers (reportSaid (r .answer)) ⌝ }
 {
     change_request(session, rows, id, Change::LogicalCancel)
 }
 
 pub fn timeout_request(session: Session, rows: &mut [u64], id: RequestId) -> Reported
-    ensures { λ r. ⌜ after r (storeOut rows) ≡ changeOf id Change.Timeout session (storeIn rows) ⌝ }
+    ensures { λ r. ⌜ (after r (storeOut rows) ≡ changeOf id Change.Timeout session (storeIn rows))
+        × Tabled cancelNumbers (reportSaid (r .answer)) ⌝ }
 {
     change_request(session, rows, id, Change::Timeout)
 }
 
 // The report is of the request as it was; its row is free.
 pub fn reclaim_request(session: Session, rows: &mut [u64], id: RequestId) -> Reported
-    ensures { λ r. ⌜ after r (storeOut rows) ≡ changeOf id Change.Reclaim session (storeIn rows) ⌝ }
+    ensures { λ r. ⌜ (after r (storeOut rows) ≡ changeOf id Change.Reclaim session (storeIn rows))
+        × Tabled reclaimNumbers (reportSaid (r .answer)) ⌝ }
 {
     change_request(session, rows, id, Change::Reclaim)
 }

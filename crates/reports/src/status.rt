@@ -18,10 +18,12 @@ ghost use mathlib.Core.Path.{_≡_};
 ghost use lib.ListN.{length};
 ghost use mathlib.Core.Bool.{_&&_, cond};
 ghost use Rattle.chain.specs.Lists.{count};
+ghost use Rattle.models.specs.Said.{Tabled};
 ghost use Rattle.session.specs.Lent.{rowsIn, storeIn};
 ghost use Rattle.reports.specs.declared.NextReport.the-variants as NextReport;
 ghost use Prim.Native.Nat.{_+_, _<_, min};
-ghost use Rattle.reports.specs.Status.{isSubmitting, shownAt, statusOf, isShown, comesAfter, beats, better, bestFrom, nextOf, shownCount, completedLength, completedPart, partOf, partNumber, bytesOf, heldCountOf, heldBytesOf};
+ghost use Rattle.reports.specs.Status.{isSubmitting, shownAt, statusOf, isShown, comesAfter, beats, better, bestFrom, nextOf, shownCount, completedLength, completedPart, partOf, bytesOf, heldCountOf, heldBytesOf};
+ghost use Rattle.reports.specs.Said.{reportSaid, nextSaid, tallySaid, partSaid, statusNumbers, tallyNumbers};
 
 // The id's submission is in flight.
 fn is_submitting(flight: InFlight, id: RequestId) -> bool
@@ -47,7 +49,7 @@ fn find_shown(rows: &[u64], flight: InFlight, id: RequestId) -> Found
 
 // 3; 40: no row has the id, or its submission is in flight.
 pub fn request_status(session: Session, rows: &[u64], id: RequestId) -> ReportAnswer
-    ensures { λ r. ⌜ r ≡ statusOf id session (storeIn rows) ⌝ }
+    ensures { λ r. ⌜ (r ≡ statusOf id session (storeIn rows)) × Tabled statusNumbers (reportSaid r) ⌝ }
 {
     let flight = session.in_flight;
     let size = session.size;
@@ -118,7 +120,7 @@ fn better_of(best: NextReport, row: Row, flight: InFlight, after: OptionId) -> N
 
 // 3; the report with the least id, or the least after an id. The row of a submission in flight is left out.
 pub fn request_reports(session: Session, rows: &[u64], after: OptionId) -> NextReport
-    ensures { λ r. ⌜ r ≡ nextOf after session (storeIn rows) ⌝ }
+    ensures { λ r. ⌜ (r ≡ nextOf after session (storeIn rows)) × Tabled tallyNumbers (nextSaid r) ⌝ }
 {
     let flight = session.in_flight;
     let size = session.size;
@@ -169,7 +171,7 @@ fn count_shown(rows: &[u64], flight: InFlight) -> u64
 
 // 3; how many requests have a report.
 pub fn count_reports(session: Session, rows: &[u64]) -> Tally
-    ensures { λ r. ⌜ r ≡ shownCount session (storeIn rows) ⌝ }
+    ensures { λ r. ⌜ (r ≡ shownCount session (storeIn rows)) × Tabled tallyNumbers (tallySaid r) ⌝ }
 {
     let flight = session.in_flight;
     let size = session.size;
@@ -201,7 +203,7 @@ fn cut(length: u64, room: u64) -> u64
 
 // 3; 40 as `request_status`; else where the bytes of a request that is Completed now stand, and an empty part of any other.
 pub fn completed_part(session: Session, rows: &[u64], bytes: usize, id: RequestId) -> PartAnswer
-    ensures { λ r. ⌜ r ≡ completedPart id bytes session (storeIn rows) ⌝ }
+    ensures { λ r. ⌜ (r ≡ completedPart id bytes session (storeIn rows)) × Tabled statusNumbers (partSaid r) ⌝ }
 {
     let flight = session.in_flight;
     let size = session.size;
@@ -235,7 +237,7 @@ fn part_of(answer: PartAnswer) -> Part
 
 // The refusal's number, or 0.
 fn number_of(answer: PartAnswer) -> u16
-    ensures { λ r. ⌜ r ≡ partNumber answer ⌝ }
+    ensures { λ r. ⌜ r ≡ partSaid answer .number ⌝ }
 {
     match answer {
         PartAnswer::Refused(refusal) => refusal.number,
@@ -253,7 +255,7 @@ pub fn completed_bytes<'a>(
 ) -> &'a [u8]
     ensures { λ r. ⌜ (now r
         ≡ bytesOf (completedPart id (length (now (area .entry))) session (storeIn rows)) (now (area .entry)))
-        × (now (number .exit) ≡ partNumber (completedPart id (length (now (area .entry))) session (storeIn rows))) ⌝ }
+        × (now (number .exit) ≡ partSaid (completedPart id (length (now (area .entry))) session (storeIn rows)) .number) ⌝ }
 {
     let answer = completed_part(session, rows, area.len(), id);
     *number = number_of(answer);
@@ -265,7 +267,7 @@ pub fn completed_bytes<'a>(
 
 // 3; how many rows the device holds.
 pub fn held_count(session: Session, rows: &[u64]) -> Tally
-    ensures { λ r. ⌜ r ≡ heldCountOf session (storeIn rows) ⌝ }
+    ensures { λ r. ⌜ (r ≡ heldCountOf session (storeIn rows)) × Tabled tallyNumbers (tallySaid r) ⌝ }
 {
     let size = session.size;
     if !sizes::rows_fit(size, rows.len()) {
@@ -276,7 +278,7 @@ pub fn held_count(session: Session, rows: &[u64]) -> Tally
 
 // 3; the sum of their requested lengths.
 pub fn held_bytes(session: Session, rows: &[u64]) -> Tally
-    ensures { λ r. ⌜ r ≡ heldBytesOf session (storeIn rows) ⌝ }
+    ensures { λ r. ⌜ (r ≡ heldBytesOf session (storeIn rows)) × Tabled tallyNumbers (tallySaid r) ⌝ }
 {
     let size = session.size;
     if !sizes::rows_fit(size, rows.len()) {

@@ -23,8 +23,10 @@ use words::OptionU64;
 ghost use mathlib.Core.Path.{_≡_};
 ghost use Rattle.chain.specs.After.{after};
 ghost use Rattle.models.specs.Refusals.{refusalOf};
+ghost use Rattle.models.specs.Said.{Tabled, verdictSaid};
 ghost use Rattle.session.specs.Lent.{memory, lent, storeIn, storeOut, busOut, lentIn};
 ghost use Rattle.session.specs.Lifecycle.{callRefused, passed, portsOf, newSession, openOf, acquiredBy, acquireOf, initializedBy, initializeOf, closedSession, closedBy, closeOf};
+ghost use Rattle.session.specs.Said.{openedSaid, openNumbers, acquireNumbers, initializeNumbers, closeNumbers};
 
 // What an opening sets.
 pub struct Opening {
@@ -103,8 +105,8 @@ fn new_session(o: Opening) -> Session
 
 // Opens a session on a store and a bus, whatever they held. 3: a size is wrong.
 pub fn open(o: Opening, rows: &mut [u64], area: &[u8], bus: &mut [u64]) -> Opened
-    ensures { λ r. ⌜ after r (lent (busOut bus) (memory (storeOut rows) (now (area .entry))))
-        ≡ openOf o (lentIn bus rows area) ⌝ }
+    ensures { λ r. ⌜ (after r (lent (busOut bus) (memory (storeOut rows) (now (area .entry))))
+        ≡ openOf o (lentIn bus rows area)) × Tabled openNumbers (openedSaid r) ⌝ }
 {
     let size = o.size;
     if !sizes::lent_fits(size, rows.len(), area.len(), bus.len()) {
@@ -139,7 +141,7 @@ fn acquired(session: Session, reply: AcquireReply) -> Called
 
 // 1; 50 not Closed; 45: a failed acquire stays Closed unless resources are retained.
 pub fn acquire(session: Session, reply: AcquireReply) -> Called
-    ensures { λ r. ⌜ r ≡ acquireOf reply session ⌝ }
+    ensures { λ r. ⌜ (r ≡ acquireOf reply session) × Tabled acquireNumbers (verdictSaid (r .answer)) ⌝ }
 {
     let flight = session.in_flight;
     let state = session.state;
@@ -165,7 +167,7 @@ fn initialized(session: Session, reply: OptionError) -> Called
 
 // 1; 51 not AcquiredUnknown; 45: a failed initialise marks.
 pub fn initialize(session: Session, reply: OptionError) -> Called
-    ensures { λ r. ⌜ r ≡ initializeOf reply session ⌝ }
+    ensures { λ r. ⌜ (r ≡ initializeOf reply session) × Tabled initializeNumbers (verdictSaid (r .answer)) ⌝ }
 {
     let flight = session.in_flight;
     let state = session.state;
@@ -206,7 +208,8 @@ fn closed(session: Session, rows: &mut [u64], fresh: u64, reply: OptionError) ->
 
 // 1; 3; Closed succeeds unchanged; 52 no fresh number; then by the reply.
 pub fn close(session: Session, rows: &mut [u64], fresh: OptionU64, reply: OptionError) -> Called
-    ensures { λ r. ⌜ after r (storeOut rows) ≡ closeOf fresh reply session (storeIn rows) ⌝ }
+    ensures { λ r. ⌜ (after r (storeOut rows) ≡ closeOf fresh reply session (storeIn rows))
+        × Tabled closeNumbers (verdictSaid (r .answer)) ⌝ }
 {
     let state = session.state;
     let verdict = start::rows_ready(session, rows.len());

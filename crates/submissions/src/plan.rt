@@ -22,10 +22,12 @@ ghost use mathlib.Core.Bool.{true};
 ghost use Prim.Native.Nat.{_+_, _<_, _≤_};
 ghost use lib.ListN.{length};
 ghost use Rattle.chain.specs.After.{after};
+ghost use Rattle.models.specs.Said.{Tabled};
 ghost use Rattle.rows.specs.Table.{readRows};
 ghost use Rattle.bus.specs.Layout.{busWords};
 ghost use Rattle.session.specs.Lent.{lentIn, lentOut};
 ghost use Rattle.session.specs.Sizes.{lentSizes};
+ghost use Rattle.submissions.specs.Said.{planSaid, submitPlanNumbers};
 ghost use Rattle.submissions.specs.Plan.{planRefused, planStarted, plannedOf, planRoomOf, submitPlanOf};
 
 fn plan_refused(session: Session, refusal: Refusal) -> PlanSubmitted
@@ -126,8 +128,9 @@ pub fn submit_control_plan(
     bytes: &[u8],
     first: PortReading,
 ) -> PlanSubmitted
-    ensures { λ r. ⌜ after r (lentOut bus rows area)
-        ≡ submitPlanOf q (now (bytes .entry)) first session (lentIn bus rows area) ⌝ }
+    ensures { λ r. ⌜ (after r (lentOut bus rows area)
+        ≡ submitPlanOf q (now (bytes .entry)) first session (lentIn bus rows area))
+        × Tabled submitPlanNumbers (planSaid (r .answer)) ⌝ }
 {
     let verdict = start::lent_ready(session, rows.len(), area.len(), bus.len());
     match verdict {

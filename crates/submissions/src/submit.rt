@@ -22,10 +22,12 @@ ghost use mathlib.Core.Bool.{true};
 ghost use Prim.Native.Nat.{_+_, _<_, _≤_};
 ghost use lib.ListN.{length};
 ghost use Rattle.chain.specs.After.{after};
+ghost use Rattle.models.specs.Said.{Tabled};
 ghost use Rattle.rows.specs.Table.{readRows};
 ghost use Rattle.bus.specs.Layout.{busWords};
 ghost use Rattle.session.specs.Lent.{lentIn, lentOut};
 ghost use Rattle.session.specs.Sizes.{lentSizes};
+ghost use Rattle.submissions.specs.Said.{submitSaid, submitNumbers};
 ghost use Rattle.submissions.specs.Submit.{request, submitRefused, submittedBy, preparedOf, roomOf, packetsOf, submitOf};
 
 fn submit_refused(session: Session, refusal: Refusal) -> Submitted
@@ -155,9 +157,9 @@ pub fn submit_request_packets(
     packets: &[u64],
     readings: Readings,
 ) -> Submitted
-    ensures { λ r. ⌜ after r (lentOut bus rows area)
+    ensures { λ r. ⌜ (after r (lentOut bus rows area)
         ≡ submitOf (now (packets .entry)) (request q (now (bytes .entry)) given readings) session
-        (lentIn bus rows area) ⌝ }
+        (lentIn bus rows area)) × Tabled submitNumbers (submitSaid (r .answer)) ⌝ }
 {
     let verdict = start::lent_ready(session, rows.len(), area.len(), bus.len());
     match verdict {

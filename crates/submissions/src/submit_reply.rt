@@ -14,7 +14,10 @@ use session::Session;
 use session::sizes;
 ghost use mathlib.Core.Path.{_≡_};
 ghost use Rattle.chain.specs.After.{after};
+ghost use Rattle.models.specs.Said.{Tabled};
 ghost use Rattle.session.specs.Lent.{storeIn, storeOut};
+ghost use Rattle.reports.specs.Said.{reportSaid};
+ghost use Rattle.submissions.specs.Said.{submitReplyNumbers};
 ghost use Rattle.submissions.specs.SubmitReply.{acceptedBy, discardedBy, submitReplyBy, submitReplyOf};
 
 // The backend took the request: the operation ends with the row's report.
@@ -59,7 +62,8 @@ fn reply_to(session: Session, rows: &mut [u64], id: RequestId, reply: SubmitRepl
 
 // 2: no submission is in flight; 3; 2: no row has its id. Else the operation ends.
 pub fn submit_reply(session: Session, rows: &mut [u64], reply: SubmitReply) -> Reported
-    ensures { λ r. ⌜ after r (storeOut rows) ≡ submitReplyOf reply session (storeIn rows) ⌝ }
+    ensures { λ r. ⌜ (after r (storeOut rows) ≡ submitReplyOf reply session (storeIn rows))
+        × Tabled submitReplyNumbers (reportSaid (r .answer)) ⌝ }
 {
     let flight = session.in_flight;
     let size = session.size;

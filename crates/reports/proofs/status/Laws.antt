@@ -34,7 +34,8 @@ use Rattle.session.specs.declared.InFlight.{InFlight}
 use Rattle.session.specs.declared.InFlight.the-variants as flight
 use Rattle.session.specs.declared.Session.{Session}
 use Rattle.session.proofs.sizes.Laws.{place-in}
-use Rattle.reports.specs.Status.{isSubmitting, shownAt, statusBy, statusOf, isShown, comesAfter, beats, better, bestFrom, nextOf, shownCount, completedLength, bytesPart, partBy, completedPart, partOf, partNumber, bytesOf, heldCountOf, heldBytesOf}
+use Rattle.reports.specs.Status.{isSubmitting, shownAt, statusBy, statusOf, isShown, comesAfter, beats, better, bestFrom, nextOf, shownCount, completedLength, bytesPart, partBy, completedPart, partOf, bytesOf, heldCountOf, heldBytesOf}
+use Rattle.reports.specs.Said.{partSaid}
 use Rattle.reports.specs.declared.OptionId.{OptionId}
 use Rattle.reports.specs.declared.OptionId.the-variants as option
 use Rattle.reports.specs.declared.Part.{Part}
@@ -256,5 +257,5 @@ module _ (id : RequestId) (s : Session) (w area : List ℕ) where
     unfolding bytesOf
     part-bytes = let z : o .start + o .length - o .start ≡ o .length = omega arith in rw (z, eo, ea)
 
-  pub part-number : (a : PartAnswer) (n : ℕ) → a ≡ Answer → n ≡ partNumber a → n ≡ partNumber Answer
+  pub part-number : (a : PartAnswer) (n : ℕ) → a ≡ Answer → n ≡ partSaid a .number → n ≡ partSaid Answer .number
   part-number a n ea en = en ∙ rw ea

@@ -1,19 +1,20 @@
 use Rattle.polls.proofs.poll_reply.Laws.{reply-idle, reply-submission, reply-recovery, reply-on}
+use Rattle.polls.proofs.Said.{poll-reply-said}
 use borrow.Author.Needs.{needs}
 use Rattle.polls.proofs.poll_reply.poll_reply.Statement.{statement}
 use Rattle.polls.proofs.poll_reply.poll_reply.Tie as tie
 
 returns : tie.Need-returns
-returns c = search reply-idle
+returns c = poll-reply-said _ _ _ _ _ _ (search reply-idle)
 
 returns-2 : tie.Need-returns-2
-returns-2 c = search reply-submission
+returns-2 c = poll-reply-said _ _ _ _ _ _ (search reply-submission)
 
 returns-3 : tie.Need-returns-3
-returns-3 c = search reply-on
+returns-3 c = poll-reply-said _ _ _ _ _ _ (search reply-on)
 
 returns-4 : tie.Need-returns-4
-returns-4 c = search reply-recovery
+returns-4 c = poll-reply-said _ _ _ _ _ _ (search reply-recovery)
 
 pub poll-reply-spec : {M : Type 1} → statement M
 poll-reply-spec =

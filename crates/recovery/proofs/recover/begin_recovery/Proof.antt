@@ -1,4 +1,5 @@
 use borrow.Author.Needs.{needs}
+use Rattle.recovery.proofs.Said.{recover-said}
 use Rattle.recovery.proofs.recover.Laws.{begin-stop, begin-40, begin-on}
 use Rattle.rows.specs.Store.{storeOf}
 use Rattle.ledger.proofs.Found.{found-in}
@@ -18,8 +19,8 @@ begin-recovery-spec =
     (λ c. search needs)
     (λ c. search needs)
     (λ c κs. search needs)
-    (λ c. search begin-40)
+    (λ c. recover-said _ _ _ _ _ (search begin-40))
     (λ c κs. search found-in)
     (λ c κs. search needs)
-    (λ c. search begin-stop)
-    (λ c. search begin-on))
+    (λ c. recover-said _ _ _ _ _ (search begin-stop))
+    (λ c. recover-said _ _ _ _ _ (search begin-on)))

@@ -1,17 +1,18 @@
 use Rattle.reports.proofs.status.Laws.{shown-in, part-unfit, part-none, part-at}
 use Rattle.reports.proofs.Bytes.{place-fits}
 use Rattle.rows.specs.Store.{storeOf}
+use Rattle.reports.proofs.Said.{part-said}
 use borrow.Author.Needs.{needs}
 use Rattle.reports.proofs.status.completed_part.Statement.{statement}
 use Rattle.reports.proofs.status.completed_part.Tie as tie
 
 returns : tie.Need-returns
 unfolding storeOf
-returns c = search part-unfit
+returns c = part-said _ _ _ _ _ (search part-unfit)
 
 returns-2 : tie.Need-returns-2
 unfolding storeOf
-returns-2 c = search part-none
+returns-2 c = part-said _ _ _ _ _ (search part-none)
 
 read-row-requires : tie.Need-read-row-requires
 read-row-requires c κs = search shown-in
@@ -21,7 +22,7 @@ mul-start c = search (place-fits, shown-in)
 
 returns-3 : tie.Need-returns-3
 unfolding storeOf
-returns-3 c = search part-at
+returns-3 c = part-said _ _ _ _ _ (search part-at)
 
 pub completed-part-spec : {M : Type 1} → statement M
 completed-part-spec =

@@ -1,25 +1,26 @@
 use Rattle.rows.specs.Store.{storeOf}
 use Rattle.submissions.proofs.submit_reply.Laws.{reply-unfit, reply-idle, reply-on, reply-poll, reply-recovery}
+use Rattle.submissions.proofs.Said.{submit-reply-said}
 use borrow.Author.Needs.{needs}
 use Rattle.submissions.proofs.submit_reply.submit_reply.Statement.{statement}
 use Rattle.submissions.proofs.submit_reply.submit_reply.Tie as tie
 
 returns : tie.Need-returns
 unfolding storeOf
-returns c = search reply-unfit
+returns c = submit-reply-said _ _ _ _ _ (search reply-unfit)
 
 returns-2 : tie.Need-returns-2
-returns-2 c = search reply-idle
+returns-2 c = submit-reply-said _ _ _ _ _ (search reply-idle)
 
 returns-3 : tie.Need-returns-3
 unfolding storeOf
-returns-3 c = search reply-on
+returns-3 c = submit-reply-said _ _ _ _ _ (search reply-on)
 
 returns-4 : tie.Need-returns-4
-returns-4 c = search reply-poll
+returns-4 c = submit-reply-said _ _ _ _ _ (search reply-poll)
 
 returns-5 : tie.Need-returns-5
-returns-5 c = search reply-recovery
+returns-5 c = submit-reply-said _ _ _ _ _ (search reply-recovery)
 
 pub submit-reply-spec : {M : Type 1} → statement M
 submit-reply-spec =
