@@ -241,8 +241,7 @@ pub fn put_report(out: &mut [u64], values: &[u64])
     if n >= WORDS {
         return;
     }
-    slices::clear_words(out, 0, 32);
-    slices::copy_words(out, 0, &[4], 1);
+    put(out, &[4]);
     slices::copy_words(out, 1, values, n);
 }
 

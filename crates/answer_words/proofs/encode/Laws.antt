@@ -117,24 +117,20 @@ tag-first x y v l =
     let o : 0 + suc (length v) ≡ suc (length v) = omega arith in
     rw (z, o)
 
-cleared-first : (out : List ℕ) → splice 0 (replicate 32 0) out ≡ 0 ∷ replicate 31 0 ++ drop 32 out
-unfolding splice
-cleared-first out = refl
+-- the words and zeros
+words-put : (w out : List ℕ) → 32 ≤ length out → length w ≤ 32 → written w out ≡ splice 0 w (0 ∷ (replicate 31 0 ++ drop 32 out))
+unfolding written splice
+words-put w out h k = sym (passes (List ℕ) _ _ _ _ (le-ltb _ _ h) (passes (List ℕ) _ _ _ _ (le-ltb _ _ k) refl))
 
-tag-put : (l : List ℕ) → splice 0 (4 ∷ []) (0 ∷ l) ≡ 4 ∷ l
+-- the tag and zeros
+tag-put : (out : List ℕ) → 32 ≤ length out → written (4 ∷ []) out ≡ 4 ∷ (replicate 31 0 ++ drop 32 out)
 unfolding splice
-tag-put l = refl
+tag-put out h = words-put (4 ∷ []) out h (omega arith)
 
-pub report-put : (v out cleared tagged after : List ℕ) → 32 ≤ length out → length v < 32 → cleared ≡ splice 0 (replicate 32 0) out
-    → tagged ≡ splice 0 (take 1 (4 ∷ [])) cleared → after ≡ splice 1 (take (length v) v) tagged → after ≡ written (4 ∷ v) out
-unfolding written
-report-put v out cleared tagged after h k ec et ea =
-    let next = replicate 31 0 ++ drop 32 out in
-    let c : cleared ≡ 0 ∷ next = ec ∙ cleared-first out in
-    let t : tagged ≡ 4 ∷ next = et ∙ ap (splice 0 (4 ∷ [])) c ∙ tag-put next in
-    let z : splice 0 (4 ∷ v) (0 ∷ next) ≡ splice 0 (4 ∷ v) cleared = ap (splice 0 (4 ∷ v)) (sym c) in
-    passes (List ℕ) _ _ _ _ (le-ltb _ _ h) (passes (List ℕ) _ _ _ _ (le-ltb _ _ k)
-    (ea ∙ rw (take-length v, t) (tag-first 4 0 v next ∙ z ∙ ap (splice 0 (4 ∷ v)) ec)))
+pub report-put : (v out tagged after : List ℕ) → 32 ≤ length out → length v < 32 → tagged ≡ written (4 ∷ []) out
+    → after ≡ splice 1 (take (length v) v) tagged → after ≡ written (4 ∷ v) out
+report-put v out tagged after h k et ea =
+    ea ∙ rw (take-length v, et, tag-put out h) (tag-first 4 0 v (replicate 31 0 ++ drop 32 out) ∙ sym (words-put (4 ∷ v) out h k))
 
 pub report-long : (v out : List ℕ) → 32 ≤ length out → 32 ≤ length v → out ≡ written (4 ∷ v) out
 unfolding written

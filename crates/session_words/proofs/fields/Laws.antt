@@ -10,6 +10,7 @@ use borrow.Author.Tests.{eqb-true}
 use Rattle.chain.proofs.Chain.{caseB, both, passes, eq-not}
 use Rattle.words.specs.Records.{splice}
 use Rattle.models.specs.Codes.{readController}
+use Rattle.models.specs.Values.{requestIdWords}
 use Rattle.models.specs.declared.ControllerState.{ControllerState}
 use Rattle.models.specs.declared.RequestId.{RequestId}
 use Rattle.session.specs.Session.{isBusy, isInitialized, withFlight}
@@ -17,7 +18,7 @@ use Rattle.session.specs.declared.InFlight.{InFlight}
 use Rattle.session.specs.declared.InFlight.the-variants as flight
 use Rattle.session.specs.declared.Session.{Session}
 use Rattle.session.specs.declared.Size.{Size}
-use Rattle.session_words.specs.State.{requestIdWords, readSession, sessionWords, sessionSize, standsAt, isSession, Kept, keptOf, keptAs}
+use Rattle.session_words.specs.State.{readSession, sessionWords, sessionSize, standsAt, isSession, Kept, keptOf, keptAs}
 use Rattle.session_words.proofs.Own.{own-words}
 
 module _ (l : List ℕ) where

@@ -21,7 +21,6 @@ put-report-spec =
     (tie.spec
     returns
     returns-2
-    (λ c κs. search needs)
     (λ c. search needs)
     (λ c κs. search needs)
     (λ c κs. search needs)
