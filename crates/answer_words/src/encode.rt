@@ -16,7 +16,7 @@ use submissions::PlanSubmission;
 use submissions::Submission;
 use words::slices;
 ghost use mathlib.Core.Path.{_≡_};
-ghost use mathlib.Core.List.{[]};
+ghost use mathlib.Core.List.{[], _∷_};
 ghost use Rattle.models.specs.Values.{optionErrorWords, metadataTail};
 ghost use Rattle.standards.specs.Setup.{setupBytes};
 ghost use Rattle.checks.specs.Said.{stageTail};
@@ -228,6 +228,21 @@ pub fn put(out: &mut [u64], w: &[u64])
     }
     slices::clear_words(out, 0, 32);
     slices::copy_words(out, 0, w, n);
+}
+
+// A report by its values, put behind its tag.
+pub fn put_report(out: &mut [u64], values: &[u64])
+    ensures { λ _. ⌜ now (out .exit) ≡ written (4 ∷ now (values .entry)) (now (out .entry)) ⌝ }
+{
+    if out.len() < WORDS {
+        return;
+    }
+    let n = values.len();
+    if n >= WORDS {
+        return;
+    }
+    put(out, &[4]);
+    slices::copy_words(out, 1, values, n);
 }
 
 // Writes the answer; a slice of fewer than 32 words stays as it is.

@@ -1,2 +1,3 @@
 // The session as words.
+pub mod fields;
 pub mod state;

@@ -1,11 +1,12 @@
 -- Laws of answers as words. Assumes nothing.
-use Prim.Native.Nat.{ℕ, _≤_}
+use Prim.Native.Nat.{ℕ, suc, _+_, _≤_, _<_}
 use mathlib.Core.List.{List, [], _∷_, _++_}
-use mathlib.Core.Path.{_≡_, refl, _∙_}
-use lib.ListN.{length, take, replicate, getD}
+use mathlib.Core.Path.{_≡_, refl, sym, ap, _∙_}
+use lib.ListN.{length, take, drop, replicate, getD}
 use lib.Seq.{take-length}
-use borrow.Author.Tests.{le-ltb}
-use Rattle.chain.proofs.Chain.{passes}
+use native.Mathlib.Omega.{arith}
+use borrow.Author.Tests.{lt-ltb, le-ltb}
+use Rattle.chain.proofs.Chain.{takes, passes}
 use Rattle.words.specs.Records.{splice}
 use Rattle.words.specs.Words.{flagWord, optionU32Word, optionI32Word}
 use Rattle.models.specs.Codes.{categoryWord, transferWord, directionWord}
@@ -107,3 +108,30 @@ pub put-on : (w out cleared after : List ℕ) → 32 ≤ length out → length w
 unfolding written
 put-on w out cleared after h k ec ea =
     passes (List ℕ) _ _ _ _ (le-ltb _ _ h) (passes (List ℕ) _ _ _ _ (le-ltb _ _ k) (ea ∙ rw (ec, take-length w)))
+
+-- a report's tag, and behind it its values
+tag-first : (x y : ℕ) (v l : List ℕ) → splice 1 v (x ∷ l) ≡ splice 0 (x ∷ v) (y ∷ l)
+unfolding splice
+tag-first x y v l =
+    let z : 1 + length v ≡ suc (length v) = omega arith in
+    let o : 0 + suc (length v) ≡ suc (length v) = omega arith in
+    rw (z, o)
+
+-- the words and zeros
+words-put : (w out : List ℕ) → 32 ≤ length out → length w ≤ 32 → written w out ≡ splice 0 w (0 ∷ (replicate 31 0 ++ drop 32 out))
+unfolding written splice
+words-put w out h k = sym (passes (List ℕ) _ _ _ _ (le-ltb _ _ h) (passes (List ℕ) _ _ _ _ (le-ltb _ _ k) refl))
+
+-- the tag and zeros
+tag-put : (out : List ℕ) → 32 ≤ length out → written (4 ∷ []) out ≡ 4 ∷ (replicate 31 0 ++ drop 32 out)
+unfolding splice
+tag-put out h = words-put (4 ∷ []) out h (omega arith)
+
+pub report-put : (v out tagged after : List ℕ) → 32 ≤ length out → length v < 32 → tagged ≡ written (4 ∷ []) out
+    → after ≡ splice 1 (take (length v) v) tagged → after ≡ written (4 ∷ v) out
+report-put v out tagged after h k et ea =
+    ea ∙ rw (take-length v, et, tag-put out h) (tag-first 4 0 v (replicate 31 0 ++ drop 32 out) ∙ sym (words-put (4 ∷ v) out h k))
+
+pub report-long : (v out : List ℕ) → 32 ≤ length out → 32 ≤ length v → out ≡ written (4 ∷ v) out
+unfolding written
+report-long v out h k = passes (List ℕ) _ _ _ _ (le-ltb _ _ h) (takes (List ℕ) _ _ _ _ (lt-ltb 32 (suc (length v)) (omega arith)) refl)

@@ -1,0 +1,45 @@
+// Single fields of a session, read from its words and written there.
+use models::RequestId;
+use models::codes;
+use session::Size;
+use words::slices;
+use words::slices::word_at;
+ghost use mathlib.Core.Bool.{true, false};
+ghost use mathlib.Core.Path.{_≡_};
+ghost use Rattle.session.specs.Session.{isBusy, isInitialized, withFlight};
+ghost use Rattle.session.specs.declared.InFlight.the-variants as InFlight;
+ghost use Rattle.session_words.specs.State.{readSession, isSession, keptOf, keptAs};
+
+pub fn size(w: &[u64]) -> Size
+    ensures { λ r. ⌜ r ≡ readSession (now (w .entry)) .size ⌝ }
+{
+    Size {
+        row_count: word_at(w, 24),
+        row_bytes: word_at(w, 25),
+    }
+}
+
+// Something is in flight.
+pub fn is_busy(w: &[u64]) -> bool
+    ensures { λ r. ⌜ r ≡ isBusy (readSession (now (w .entry)) .«in_flight») ⌝ }
+{
+    let tag = word_at(w, 15);
+    tag != 0
+}
+
+pub fn is_initialized(w: &[u64]) -> bool
+    ensures { λ r. ⌜ r ≡ isInitialized (readSession (now (w .entry)) .state) ⌝ }
+{
+    let controller = codes::to_controller(word_at(w, 6));
+    session::is_initialized(controller)
+}
+
+// A poll of the id is in flight. In a session's own words, where nothing is in flight, the other words of what is are 0.
+pub fn begin_poll(w: &mut [u64], id: RequestId)
+    requires { ⌜ (isSession (now w) ≡ true) × (isBusy (readSession (now w) .«in_flight») ≡ false) ⌝ }
+    ensures { λ _. ⌜ keptOf (now (w .exit))
+        ≡ keptAs (now (w .entry)) (withFlight (readSession (now (w .entry))) (InFlight.Poll id)) ⌝ }
+{
+    let flight = [2, id.session, id.generation, id.sequence];
+    slices::copy_words(w, 15, &flight, 4);
+}
