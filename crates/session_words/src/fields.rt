@@ -43,3 +43,12 @@ pub fn begin_poll(w: &mut [u64], id: RequestId)
     let flight = [2, id.session, id.generation, id.sequence];
     slices::copy_words(w, 15, &flight, 4);
 }
+
+// Nothing is in flight any more.
+pub fn end_flight(w: &mut [u64])
+    requires { ⌜ isSession (now w) ≡ true ⌝ }
+    ensures { λ _. ⌜ keptOf (now (w .exit))
+        ≡ keptAs (now (w .entry)) (withFlight (readSession (now (w .entry))) InFlight.Nothing) ⌝ }
+{
+    slices::clear_words(w, 15, 9);
+}

@@ -4,7 +4,7 @@ use mathlib.Core.Bool.{Bool, true, false, not}
 use mathlib.Core.List.{List, _∷_}
 use mathlib.Core.Path.{_≡_, refl, sym, ap, _∙_}
 use lib.Dec.{eqb}
-use lib.ListN.{length, getD, take}
+use lib.ListN.{length, getD, take, replicate}
 use native.Mathlib.Omega.{arith}
 use borrow.Author.Tests.{eqb-true}
 use Rattle.chain.proofs.Chain.{caseB, both, passes, eq-not}
@@ -71,3 +71,24 @@ poll-begun l after id h b e =
     let own = own-words l h in
     let z : after ≡ sessionWords (withFlight s (flight.Poll id)) = e ∙ ap (splice 15 (2 ∷ requestIdWords id)) (sym own) ∙ poll-put s id (idle (s .«in_flight») b) in
     passes Kept _ _ _ _ (eq-not _ _ (own-size l h)) (rw (z, poll-back s id (ap readSession own)))
+
+-- and those with nothing in flight any more
+flight-put : (s : Session) → splice 15 (replicate 9 0) (sessionWords s) ≡ sessionWords (withFlight s flight.Nothing)
+unfolding sessionWords splice
+flight-put s = refl
+
+flight-back : (s : Session) → readSession (sessionWords s) ≡ s → readSession (sessionWords (withFlight s flight.Nothing)) ≡ withFlight s flight.Nothing
+unfolding readSession sessionWords
+flight-back s e = ap (λ (x : Session). withFlight x flight.Nothing) e
+
+pub flight-room : (l : List ℕ) → isSession l ≡ true → 15 + 9 ≤ length l
+flight-room l h = let n = own-size l h in omega arith
+
+pub flight-ended : (l after : List ℕ) → isSession l ≡ true → after ≡ splice 15 (replicate 9 0) l
+    → keptOf after ≡ keptAs l (withFlight (readSession l) flight.Nothing)
+unfolding keptAs keptOf
+flight-ended l after h e =
+    let s = readSession l in
+    let own = own-words l h in
+    let z : after ≡ sessionWords (withFlight s flight.Nothing) = e ∙ ap (splice 15 (replicate 9 0)) (sym own) ∙ flight-put s in
+    passes Kept _ _ _ _ (eq-not _ _ (own-size l h)) (rw (z, flight-back s (ap readSession own)))
