@@ -35,6 +35,8 @@ ghost use Rattle.calls.specs.Answers.{ofReport};
 ghost use Rattle.calls.specs.declared.Answer.the-variants as Answer;
 ghost use Rattle.direct.specs.Direct.{sessionIn, told, ofApplied, appliedTold, reportedTold, polledTold};
 
+pub mod replies;
+
 fn refuse(out: &mut [u64], refusal: Refusal)
     ensures { λ _. ⌜ now (out .exit) ≡ told (Answer.Refused refusal) (now (out .entry)) ⌝ }
 {
