@@ -1,27 +1,34 @@
 -- One law for each group of calls, and for a call that was answered: its premises are the facts in hand there. Assumes nothing.
 use Prim.Native.Nat.{ℕ, _<_, _≤_}
-use mathlib.Core.Bool.{Bool, true, false, not}
+use mathlib.Core.Bool.{Bool, true, false, not, _||_}
 use mathlib.Core.List.{List, []}
 use mathlib.Core.Path.{_≡_, refl, sym, ap, _∙_}
 use lib.ListN.{length, getD}
+use lib.Dec.{eqb, ltb}
+use native.Mathlib.Omega.{arith}
+use borrow.Author.Tests.{ne-eqb, eqb-false, le-ltb, ltb-true, ltb-false}
 use Rattle.chain.specs.After.{After, after}
-use Rattle.chain.proofs.Chain.{chain, if-all}
+use Rattle.chain.proofs.Chain.{chain, caseB, if-all}
+use Rattle.models.specs.declared.RequestId.{RequestId}
 use Rattle.rows.specs.Store.{Store}
 use Rattle.bus.specs.Tables.{Bus}
 use Rattle.session.specs.Lent.{Memory, Lent, memory, lent}
 use Rattle.session.specs.declared.Session.{Session}
-use Rattle.calls.specs.Calls.{Call}
+use Rattle.polls.specs.Poll.{pollOf}
+use Rattle.calls.specs.Answers.{outcome, ofPoll}
+use Rattle.calls.specs.Calls.{Poll, Begin, Call}
 use Rattle.answer_words.specs.Encode.{answerWords, written}
 use Rattle.call_words.specs.Form.{isCall}
 use Rattle.answer_words.specs.Lists.{listsOf}
-use Rattle.session_words.specs.State.{Kept, keptOf, keptAs, readSession, isSession}
-use Rattle.calls.specs.Step.{World, world, stepOf}
+use Rattle.session_words.specs.State.{readRequestId, Kept, keptOf, keptAs, readSession, isSession}
+use Rattle.calls.specs.Step.{World, world, begunOf, stepOf}
 use Rattle.calls.specs.declared.Outcome.{Outcome}
 use Rattle.answer_words.proofs.Room.{lists-put}
 use Rattle.session_words.proofs.Own.{written-same}
-use Rattle.dispatch.specs.Apply.{Ran, ran, runOf, Buffers, buffers, worldOf, wrote, ranOn, answered, dispatchOf}
+use Rattle.direct.specs.Direct.{polledTold}
+use Rattle.dispatch.specs.Apply.{isByValue, Ran, ran, runOf, Buffers, buffers, worldOf, wrote, ranOn, answered, dispatchOf}
 use Rattle.call_words.specs.Decode.{readPlacing, readMoving, readSubmission, readReplying, readChanging, readReporting, readRecovering, readCall}
-use Rattle.dispatch.proofs.Steps.{unlisted, ran-said}
+use Rattle.dispatch.proofs.Steps.{unlisted, ran-said, ran-kept}
 
 -- ---- calls without lists
 abbrev Unlisted : World → Call → Type 0
@@ -44,15 +51,44 @@ module _ (n : ℕ) (w bytes : List ℕ) (v : World) where
   unfolding readReplying listsOf
   replying-none = if-all (Unlisted v) _ _ _ refl (if-all (Unlisted v) _ _ _ refl refl)
 
-  changing-none : Unlisted v (readChanging n w)
-  unfolding readChanging listsOf
-  changing-none = if-all (Unlisted v) _ _ _ refl (if-all (Unlisted v) _ _ _ refl refl)
-
-  reporting-none : Unlisted v (readReporting n w)
+  pub reporting-none : Unlisted v (readReporting n w)
   unfolding readReporting listsOf
   reporting-none =
       if-all (Unlisted v) _ _ _ refl
       (if-all (Unlisted v) _ _ _ refl (if-all (Unlisted v) _ _ _ refl (if-all (Unlisted v) _ _ _ refl (if-all (Unlisted v) _ _ _ refl refl))))
+
+-- ---- by value, or in place
+or-false : (a b : Bool) → (a || b) ≡ false → (a ≡ false) × (b ≡ false)
+or-false true b e = let z : _≡_ {A = ℕ} 0 1 = cc in absurd (omega arith)
+or-false false b e = (refl, e)
+
+pub by-value-is : (n : ℕ) (w : List ℕ) → n ≡ getD w 0 0 → isByValue n ≡ true → isByValue (getD w 0 0) ≡ true
+by-value-is n w en v = rw (← en) v
+
+pub not-poll : (n : ℕ) (w : List ℕ) → n ≡ getD w 0 0 → isByValue (getD w 0 0) ≡ true → n ≡ 11 → ⊥
+not-poll n w en v e =
+    let z : isByValue 11 ≡ true = rw (← en, e) at v in
+    let y : _≡_ {A = ℕ} 0 1 = cc in
+    omega arith
+
+by-value-late : (n : ℕ) → isByValue n ≡ true → 12 < n → 21 < n
+by-value-late n v h =
+    caseB (ltb 21 n) (λ e. ltb-true 21 n e)
+    (λ e.
+    let z : (false || false || false) ≡ true = rw (le-ltb n 11 (omega arith), ne-eqb n 12 (λ q. omega arith), e) at v in
+    let y : _≡_ {A = ℕ} 0 1 = cc in
+    omega arith)
+
+record InPlace (n : ℕ) : Type 0 where
+  least : 11 ≤ n
+  reply : n ≡ 12 → ⊥
+  most : n ≤ 21
+
+in-place : (n : ℕ) → isByValue n ≡ false → InPlace n
+in-place n v =
+    let p = or-false (ltb n 11 || eqb n 12) (ltb 21 n) v in
+    let q = or-false (ltb n 11) (eqb n 12) (p .0) in
+    record { least = ltb-false n 11 (q .0); reply = eqb-false n 12 (q .1); most = ltb-false 21 n (p .1) }
 
 -- ---- the call that the words say; l is lent for lists
 -- its step, whatever the bus and the area, and whatever the bus
@@ -90,26 +126,15 @@ module _ (n : ℕ) (w bytes l : List ℕ) (en : n ≡ getD w 0 0) where
         reply-said next m t h =
             unlisted (readReplying n w bytes) (readCall w bytes) _ _ l (rw (← en) (search chain depth 20)) (replying-none n w bytes _) (h b)
 
-        module _ (n12 : 12 < n) where
-          -- 13 to 15
-          pub change-said : (next store : Store) (area : List ℕ) → n ≤ 15 → StepsRows (readChanging n w) r next s store
-              → ran (after r (lent b (memory next area))) l ≡ runOf (readCall w bytes) (world s (lent b (memory store area))) l
-          unfolding readCall
-          change-said next store area t h =
-              unlisted (readChanging n w) (readCall w bytes) _ _ l (rw (← en) (search chain depth 20)) (changing-none n w bytes _) (h b area)
-
-          module _ (n15 : 15 < n) (next m : Memory) where
-            -- 16 to 21
-            pub report-said : n ≤ 21 → StepsMemory (readReporting n w) r next s m → ran (after r (lent b next)) l ≡ runOf (readCall w bytes) (world s (lent b m)) l
-            unfolding readCall
-            report-said t h =
-                unlisted (readReporting n w) (readCall w bytes) _ _ l (rw (← en) (search chain depth 20)) (reporting-none n w bytes _) (h b)
-
-            -- 22 to 24
-            pub recover-said : (k : List ℕ) → 21 < n → ((o : Bus) → ran (after r (lent o next)) k ≡ runOf (readRecovering n w bytes) (world s (lent o m)) l)
-                → ran (after r (lent b next)) k ≡ runOf (readCall w bytes) (world s (lent b m)) l
-            unfolding readCall
-            recover-said k n21 h = ran-said (readRecovering n w bytes) (readCall w bytes) _ _ l (rw (← en) (search chain depth 20)) (h b)
+        -- 22 to 24
+        pub recover-said : (next m : Memory) (k : List ℕ) → isByValue (getD w 0 0) ≡ true → 12 < n
+            → ((o : Bus) → ran (after r (lent o next)) k ≡ runOf (readRecovering n w bytes) (world s (lent o m)) l)
+            → ran (after r (lent b next)) k ≡ runOf (readCall w bytes) (world s (lent b m)) l
+        unfolding readCall
+        recover-said next m k v n12 h =
+            let n21 : 21 < n = by-value-late n (rw (← en) at v) n12 in
+            let n15 : 15 < n = omega arith in
+            ran-said (readRecovering n w bytes) (readCall w bytes) _ _ l (rw (← en) (search chain depth 20)) (h b)
 
 -- what was lent before is s, a, out and l, and after it s', a', out' and l'
 module _ (s call bytes out l s' out' l' : List ℕ) (a a' : Lent) where
@@ -137,6 +162,53 @@ module _ (s call bytes out l s' out' l' : List ℕ) (a a' : Lent) where
       let e : left ≡ answered c before = h ∙ ap (λ (o : List ℕ). wrote (ran (stepOf c v) o) before) (sym (lists-put c v l k')) in
       let z : after {A = ℕ} 0 left ≡ after {A = ℕ} 0 (answered c before) = ap (λ (o : Buffers). after {A = ℕ} 0 o) e in
       search (chain, z) depth 20
+
+-- calls in place: the call that the words say
+module _ (n : ℕ) (w bytes : List ℕ) (en : n ≡ getD w 0 0) where
+  polling : n ≡ 11 → Begin (Poll (readRequestId w 1)) ≡ readCall w bytes
+  unfolding readCall readReplying
+  polling e =
+      let a : 4 < n = omega arith in let b : 7 < n = omega arith in let c : 9 < n = omega arith in let d : n ≤ 12 = omega arith in
+      let n10 : n ≡ 10 → ⊥ = λ z. omega arith in
+      rw (← en) (search chain depth 20)
+
+  changing : isByValue n ≡ false → (n ≡ 11 → ⊥) → n ≤ 15 → readChanging n w ≡ readCall w bytes
+  unfolding readCall
+  changing v n11 h =
+      let p = in-place n v in
+      let o = p .reply in let q = p .least in
+      let d : 12 < n = omega arith in let a : 4 < n = omega arith in let b : 7 < n = omega arith in let c : 9 < n = omega arith in
+      rw (← en) (search chain depth 20)
+
+  reporting : isByValue n ≡ false → 15 < n → readReporting n w ≡ readCall w bytes
+  unfolding readCall
+  reporting v h =
+      let k = in-place n v .most in
+      let d : 12 < n = omega arith in let a : 4 < n = omega arith in let b : 7 < n = omega arith in let c : 9 < n = omega arith in
+      rw (← en) (search chain depth 20)
+
+  module _ (v : isByValue n ≡ false) (s out after-out l : List ℕ) (b : Bus) where
+    pub change-ran : (next store : Store) (area : List ℕ) → (n ≡ 11 → ⊥) → n ≤ 15
+        → ((o : Bus) (u k : List ℕ) → buffers (keptOf s) (lent o (memory next u)) after-out k
+        ≡ ranOn (readChanging n w) (buffers (keptOf s) (lent o (memory store u)) out k))
+        → buffers (keptOf s) (lent b (memory next area)) after-out l ≡ ranOn (readCall w bytes) (buffers (keptOf s) (lent b (memory store area)) out l)
+    change-ran next store area n11 h e = e b area l ∙ ap (λ (c : Call). ranOn c (buffers (keptOf s) (lent b (memory store area)) out l)) (changing v n11 h)
+
+    pub report-ran : (m : Memory) → 15 < n
+        → ((o : Bus) (k : List ℕ) → buffers (keptOf s) (lent o m) after-out k ≡ ranOn (readReporting n w) (buffers (keptOf s) (lent o m) out k))
+        → buffers (keptOf s) (lent b m) after-out l ≡ ranOn (readCall w bytes) (buffers (keptOf s) (lent b m) out l)
+    report-ran m h e = e b l ∙ ap (λ (c : Call). ranOn c (buffers (keptOf s) (lent b m) out l)) (reporting v h)
+
+  pub poll-ran : (s next out after-out l area : List ℕ) (b : Bus) (store : Store) (id : RequestId) → n ≡ 11 → id ≡ readRequestId w 1
+      → after after-out (keptOf next) ≡ polledTold (pollOf id (readSession s) store) s out
+      → buffers (keptOf next) (lent b (memory store area)) after-out l ≡ ranOn (readCall w bytes) (buffers (keptOf s) (lent b (memory store area)) out l)
+  unfolding stepOf begunOf listsOf
+  poll-ran s next out after-out l area b store id e ei h =
+      let x = pollOf id (readSession s) store in
+      let a = lent b (memory store area) in
+      ran-kept (Begin (Poll id)) (readCall w bytes) s out after-out l a a (keptOf next) (outcome (ofPoll (x .answer)) (x .session))
+      (ap (λ (z : RequestId). Begin (Poll z)) ei ∙ polling e) refl refl (ap (λ (z : After (List ℕ) Kept). z .lent) h)
+      (ap (λ (z : After (List ℕ) Kept). z .result) h)
 
 -- a call that leaves the session as it is leaves its words
 pub session-left : (c : Call) (x : Buffers) → isSession (x .kept .words) ≡ true → stepOf c (worldOf x) .result .session ≡ readSession (x .kept .words)

@@ -1,9 +1,9 @@
 -- One call on lent words: the step that history runs, its answer and its lists in words. Assumes nothing.
 use Prim.Native.Nat.{ℕ}
-use mathlib.Core.Bool.{not}
+use mathlib.Core.Bool.{Bool, not, _||_}
 use mathlib.Core.List.{List}
 use lib.ListN.{length}
-use lib.Dec.{ltb}
+use lib.Dec.{eqb, ltb}
 use Rattle.chain.specs.After.{After, after}
 use Rattle.chain.specs.Chain.{_if_else_}
 use Rattle.words.specs.Records.{splice}
@@ -53,6 +53,10 @@ ranOn c x = wrote (runOf c (worldOf x) (x .lists)) x
 -- the same where there is room for every list
 abbrev pub answered : Call → Buffers → Buffers
 answered c x = wrote (ran (stepOf c (worldOf x)) (splice 0 (listsOf c (worldOf x)) (x .lists))) x
+
+-- the calls that carry the session by value; of the others 11, 13 to 16 are made in place, and all but 11 leave the session
+abbrev pub isByValue : ℕ → Bool
+isByValue n = ltb n 11 || eqb n 12 || ltb 21 n
 
 -- a status. 1: no call; 2: not a session's own words; 3: too few words for the answer; 4: too few words for lists. Then nothing changes
 unfoldable pub dispatchOf : List ℕ → List ℕ → Buffers → After ℕ Buffers

@@ -10,14 +10,17 @@ use Rattle.session.specs.declared.Session.{Session}
 use Rattle.calls.specs.Calls.{Call}
 use Rattle.calls.specs.Step.{World, world, stepOf}
 use Rattle.calls.specs.declared.Outcome.{Outcome}
-use Rattle.session_words.specs.State.{keptOf}
-use Rattle.dispatch.specs.Apply.{ran, runOf, Buffers, buffers}
+use Rattle.session_words.specs.State.{Kept, keptOf}
+use Rattle.dispatch.specs.Apply.{ran, runOf, Buffers, buffers, ranOn}
 
 abbrev pub worldIn : Session → Slice → Slice → Slice → World
 worldIn s bus rows area = world s (lentIn bus rows area)
 
+abbrev pub keptIn : Slice → Kept
+keptIn session = keptOf (now (session .entry))
+
 abbrev pub buffersIn : Slice → Slice → Slice → Slice → Slice → Slice → Buffers
-buffersIn session bus rows area out lists = buffers (keptOf (now (session .entry))) (lentIn bus rows area) (now (out .entry)) (now (lists .entry))
+buffersIn session bus rows area out lists = buffers (keptIn session) (lentIn bus rows area) (now (out .entry)) (now (lists .entry))
 
 abbrev pub buffersOut : Slice → Slice → Slice → Slice → Slice → Slice → Buffers
 buffersOut session bus rows area out lists = buffers (keptOf (now (session .exit))) (lentOut bus rows area) (now (out .exit)) (now (lists .exit))
@@ -40,3 +43,15 @@ abbrev pub RunsMemory : Outcome → Call → Session → Slice → Slice → Sli
 RunsMemory r c s rows area lists =
     (b : Bus) → ran (after r (lent b (memoryOut rows area))) (now (lists .exit))
     ≡ runOf c (world s (lent b (memoryIn rows area))) (now (lists .entry))
+
+-- a run of a call that leaves the session and takes neither the bus nor the area nor lists
+abbrev pub WritesRows : Call → Slice → Slice → Slice → Type 0
+WritesRows c session rows out =
+    (b : Bus) (area lists : List ℕ) → buffers (keptIn session) (lent b (memory (storeOut rows) area)) (now (out .exit)) lists
+    ≡ ranOn c (buffers (keptIn session) (lent b (memory (storeIn rows) area)) (now (out .entry)) lists)
+
+-- of one that leaves all but its answer
+abbrev pub WritesAnswer : Call → Slice → Slice → Slice → Slice → Type 0
+WritesAnswer c session rows area out =
+    (b : Bus) (lists : List ℕ) → buffers (keptIn session) (lent b (memoryIn rows area)) (now (out .exit)) lists
+    ≡ ranOn c (buffers (keptIn session) (lent b (memoryIn rows area)) (now (out .entry)) lists)

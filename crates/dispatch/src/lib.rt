@@ -6,17 +6,21 @@ use calls::Outcome;
 use session::Session;
 use session_words::state;
 use words::slices::word_at;
+ghost use mathlib.Core.Bool.{true};
 ghost use mathlib.Core.Path.{_≡_};
+ghost use lib.ListN.{getD};
 ghost use Rattle.chain.specs.After.{after};
 ghost use Rattle.session.specs.Lent.{lentOut};
+ghost use Rattle.session_words.specs.State.{isSession};
 ghost use Rattle.call_words.specs.Decode.{readCall};
-ghost use Rattle.dispatch.specs.Apply.{ran, runOf, ranOn, dispatchOf};
+ghost use Rattle.dispatch.specs.Apply.{isByValue, ran, runOf, ranOn, dispatchOf};
 ghost use Rattle.dispatch.specs.Slices.{worldIn, buffersIn, buffersOut};
 
 mod controller;
 pub mod read;
 mod requests;
 
+// The calls that carry the session by value.
 fn step(
     session: Session,
     bus: &mut [u64],
@@ -26,6 +30,7 @@ fn step(
     bytes: &[u8],
     lists: &mut [u64],
 ) -> Outcome
+    requires { ⌜ isByValue (getD (now call) 0 0) ≡ true ⌝ }
     ensures { λ r. ⌜ ran (after r (lentOut bus rows area)) (now (lists .exit))
         ≡ runOf (readCall (now (call .entry)) (now (bytes .entry))) (worldIn session bus rows area)
         (now (lists .entry)) ⌝ }
@@ -43,16 +48,33 @@ fn step(
     if number <= 12 {
         return requests::reply_call(number, session, rows, area, call, bytes);
     }
-    if number <= 15 {
-        return requests::change_call(number, session, rows, call);
-    }
-    if number <= 21 {
-        return requests::report_call(number, session, rows, area, call);
-    }
     requests::recover_call(number, session, rows, area, call, bytes, lists)
 }
 
-// Runs the call and writes the session, the answer and its lists.
+// Runs such a call and writes the session, the answer and its lists.
+fn answer_by_value(
+    session: &mut [u64],
+    bus: &mut [u64],
+    rows: &mut [u64],
+    area: &mut [u8],
+    call: &[u64],
+    bytes: &[u8],
+    out: &mut [u64],
+    lists: &mut [u64],
+)
+    requires { ⌜ isByValue (getD (now call) 0 0) ≡ true ⌝ }
+    ensures { λ _. ⌜ buffersOut session bus rows area out lists
+        ≡ ranOn (readCall (now (call .entry)) (now (bytes .entry))) (buffersIn session bus rows area out lists) ⌝ }
+{
+    let before = state::to_session(session);
+    let outcome = step(before, bus, rows, area, call, bytes, lists);
+    let next = outcome.session;
+    let answer = outcome.answer;
+    state::write_session(session, next);
+    encode::write_answer(out, answer);
+}
+
+// Runs the call. Where it leaves the session, its words are not written: they are its own.
 fn answer(
     session: &mut [u64],
     bus: &mut [u64],
@@ -63,15 +85,22 @@ fn answer(
     out: &mut [u64],
     lists: &mut [u64],
 )
+    requires { ⌜ isSession (now session) ≡ true ⌝ }
     ensures { λ _. ⌜ buffersOut session bus rows area out lists
         ≡ ranOn (readCall (now (call .entry)) (now (bytes .entry))) (buffersIn session bus rows area out lists) ⌝ }
 {
-    let before = state::to_session(session);
-    let outcome = step(before, bus, rows, area, call, bytes, lists);
-    let next = outcome.session;
-    let answer = outcome.answer;
-    state::write_session(session, next);
-    encode::write_answer(out, answer);
+    let number = word_at(call, 0);
+    if (number < 11) | (number == 12) | (number > 21) {
+        return answer_by_value(session, bus, rows, area, call, bytes, out, lists);
+    }
+    if number == 11 {
+        let id = state::id_at(call, 1);
+        return direct::poll_request(session, rows, id, out);
+    }
+    if number <= 15 {
+        return requests::change_call(number, session, rows, call, out);
+    }
+    requests::report_call(number, session, rows, area, call, out)
 }
 
 // The call that the words say, on the words of a session. 0: it was answered; 1: no call; 2: not a session's own words; 3: too few

@@ -1,5 +1,5 @@
 // Reports and questions, over words that stay as they are.
-use crate::requests::report_answer;
+use crate::requests;
 use answer_words::encode;
 use call_words::arguments;
 use question_words::form;
@@ -17,7 +17,7 @@ ghost use lib.ListN.{drop};
 ghost use Rattle.chain.specs.After.{after};
 ghost use Rattle.session.specs.Lent.{lentIn};
 ghost use Rattle.submissions.specs.Wants.{submitWants};
-ghost use Rattle.session_words.specs.State.{keptOf, readSession};
+ghost use Rattle.session_words.specs.State.{keptOf, readSession, isSession};
 ghost use Rattle.call_words.specs.Arguments.{readRequest};
 ghost use Rattle.answer_words.specs.Encode.{written};
 ghost use Rattle.questions.specs.Question.{questionOf};
@@ -80,16 +80,15 @@ fn answer(
     bytes: &[u8],
     out: &mut [u64],
 )
-    requires { ⌜ isRead (now call) ≡ true ⌝ }
+    requires { ⌜ (isRead (now call) ≡ true) × (isSession (now session) ≡ true) ⌝ }
     ensures { λ _. ⌜ now (out .exit) ≡ written (readWords (now (call .entry)) (now (bytes .entry))
         (worldIn (readSession (now (session .entry))) bus rows area)) (now (out .entry)) ⌝ }
 {
-    let own = state::to_session(session);
     let number = word_at(call, 0);
     if number <= 21 {
-        encode::write_answer(out, report_answer(number, own, rows, area, call));
-        return;
+        return requests::report_call(number, session, rows, area, call, out);
     }
+    let own = state::to_session(session);
     let answer = question_answer(number, own, bus, rows, area, call, bytes);
     question_words::encode::write_answer(out, answer);
 }

@@ -1,14 +1,13 @@
 // Calls 8 to 24: requests, what is reported of them, and recoveries.
+use answer_words::encode;
 use answer_words::lists;
 use call_words::arguments;
 use calls::Answer;
 use calls::Outcome;
 use calls::answers;
-use polls::poll;
 use polls::poll_reply;
 use recovery::recover;
 use recovery::recovery_reply;
-use reports::change;
 use reports::status;
 use session::Session;
 use session_words::state;
@@ -17,13 +16,15 @@ use submissions::submit;
 use submissions::submit_reply;
 use words::slices;
 use words::slices::word_at;
+ghost use mathlib.Core.Bool.{true};
 ghost use mathlib.Core.Path.{_≡_};
 ghost use Rattle.chain.specs.After.{after};
 ghost use Rattle.session.specs.Lent.{lentOut};
+ghost use Rattle.session_words.specs.State.{isSession};
 ghost use Rattle.calls.specs.Answers.{outcome};
 ghost use Rattle.calls.specs.Step.{stepOf};
 ghost use Rattle.call_words.specs.Decode.{readSubmission, readReplying, readChanging, readReporting, readRecovering};
-ghost use Rattle.dispatch.specs.Slices.{worldIn, StepsRows, StepsMemory, ReadsMemory, RunsMemory};
+ghost use Rattle.dispatch.specs.Slices.{worldIn, StepsMemory, ReadsMemory, RunsMemory, WritesRows, WritesAnswer};
 
 // 8 and 9: submissions.
 pub(crate) fn submit_call(
@@ -60,7 +61,7 @@ pub(crate) fn submit_call(
     answers::of_planned(plan::submit_control_plan(session, bus, rows, area, q, bytes, first))
 }
 
-// 10 to 12: their replies, and polls, whatever the bus.
+// 10 and 12: their replies, and those of polls, whatever the bus.
 pub(crate) fn reply_call(
     number: u64,
     session: Session,
@@ -69,61 +70,63 @@ pub(crate) fn reply_call(
     call: &[u64],
     bytes: &[u8],
 ) -> Outcome
+    requires { ⌜ (number ≡ 11 → ⊥) ⌝ }
     ensures { λ r. ⌜ StepsMemory r (readReplying number (now (call .entry)) (now (bytes .entry))) session rows area ⌝ }
 {
     if number == 10 {
         let answer = arguments::submit_reply(call);
         return answers::of_reported(submit_reply::submit_reply(session, rows, answer));
     }
-    if number == 11 {
-        let id = state::id_at(call, 1);
-        return answers::of_polled(poll::poll_request(session, rows, id));
-    }
     let answer = arguments::poll_reply(call);
     answers::of_reported(poll_reply::poll_reply(session, rows, area, answer, bytes))
 }
 
-// 13 to 15: changes of one request, whatever the bus and the area.
-pub(crate) fn change_call(number: u64, session: Session, rows: &mut [u64], call: &[u64]) -> Outcome
-    ensures { λ r. ⌜ StepsRows r (readChanging number (now (call .entry))) session rows ⌝ }
+// 13 to 15: changes of one request, in place, whatever the bus, the area and the lists.
+pub(crate) fn change_call(
+    number: u64,
+    session: &[u64],
+    rows: &mut [u64],
+    call: &[u64],
+    out: &mut [u64],
+)
+    requires { ⌜ isSession (now session) ≡ true ⌝ }
+    ensures { λ _. ⌜ WritesRows (readChanging number (now (call .entry))) session rows out ⌝ }
 {
     let id = state::id_at(call, 1);
     if number == 13 {
-        return answers::of_reported(change::logical_cancel_request(session, rows, id));
+        return direct::logical_cancel_request(session, rows, id, out);
     }
     if number == 14 {
-        return answers::of_reported(change::timeout_request(session, rows, id));
+        return direct::timeout_request(session, rows, id, out);
     }
-    answers::of_reported(change::reclaim_request(session, rows, id))
+    direct::reclaim_request(session, rows, id, out)
 }
 
-// 16 to 21: what leaves all as it is, whatever the bus.
+// 16 to 21: what leaves all as it is, whatever the bus and the lists.
 pub(crate) fn report_call(
     number: u64,
-    session: Session,
+    session: &[u64],
     rows: &[u64],
     area: &[u8],
     call: &[u64],
-) -> Outcome
-    ensures { λ r. ⌜ ReadsMemory r (readReporting number (now (call .entry))) session rows area ⌝ }
+    out: &mut [u64],
+)
+    requires { ⌜ isSession (now session) ≡ true ⌝ }
+    ensures { λ _. ⌜ WritesAnswer (readReporting number (now (call .entry))) session rows area out ⌝ }
 {
-    let answer = report_answer(number, session, rows, area, call);
-    Outcome { answer, session }
+    if number == 16 {
+        let id = state::id_at(call, 1);
+        return direct::request_status(session, rows, id, out);
+    }
+    let before = state::to_session(session);
+    let answer = report_answer(number, before, rows, area, call);
+    encode::write_answer(out, answer)
 }
 
-pub(crate) fn report_answer(
-    number: u64,
-    session: Session,
-    rows: &[u64],
-    area: &[u8],
-    call: &[u64],
-) -> Answer
+fn report_answer(number: u64, session: Session, rows: &[u64], area: &[u8], call: &[u64]) -> Answer
+    requires { ⌜ (number ≡ 16 → ⊥) ⌝ }
     ensures { λ r. ⌜ ReadsMemory (outcome r session) (readReporting number (now (call .entry))) session rows area ⌝ }
 {
-    let id = state::id_at(call, 1);
-    if number == 16 {
-        return answers::of_report(status::request_status(session, rows, id));
-    }
     if number == 17 {
         let after = arguments::option_id(call);
         return answers::of_next(status::request_reports(session, rows, after));
@@ -132,6 +135,7 @@ pub(crate) fn report_answer(
         return answers::of_tally(status::count_reports(session, rows));
     }
     if number == 19 {
+        let id = state::id_at(call, 1);
         return answers::of_part(status::completed_part(session, rows, area.len(), id));
     }
     if number == 20 {

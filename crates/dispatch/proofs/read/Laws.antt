@@ -1,7 +1,7 @@
 -- One law for each report and question, and for one that was answered: its premises are the facts in hand there. Assumes nothing.
 use Prim.Native.Nat.{ℕ, _<_, _≤_}
 use mathlib.Core.Bool.{Bool, true, false, not, _&&_, true≢false}
-use mathlib.Core.List.{List}
+use mathlib.Core.List.{List, []}
 use mathlib.Core.Path.{_≡_, refl, sym, ap, _∙_}
 use native.Mathlib.Omega.{arith}
 use lib.Dec.{leb, ltb}
@@ -23,10 +23,8 @@ use Rattle.reports.specs.Scan.{reportFrom}
 use Rattle.reports.specs.declared.PlacedReport.{PlacedReport}
 use Rattle.submissions.specs.Submit.{request}
 use Rattle.submissions.specs.Wants.{submitWants, planWants}
-use Rattle.calls.specs.Answers.{outcome}
 use Rattle.calls.specs.Calls.{Call}
 use Rattle.calls.specs.Step.{World, world, stepOf}
-use Rattle.calls.specs.declared.Answer.{Answer}
 use Rattle.calls.specs.declared.Outcome.{Outcome}
 use Rattle.session_words.specs.State.{keptOf, readSession, isSession}
 use Rattle.call_words.specs.Arguments.{readSpec, readReadings, readRequest, readPlan}
@@ -39,6 +37,7 @@ use Rattle.questions.specs.declared.QuestionAnswer.the-variants as answer
 use Rattle.question_words.specs.Decode.{readQuestion}
 use Rattle.question_words.specs.Encode.{questionWords}
 use Rattle.question_words.specs.Form.{isQuestion, isRead}
+use Rattle.dispatch.specs.Apply.{Buffers, buffers, runOf, ranOn}
 use Rattle.dispatch.specs.Read.{readWords, readingOf}
 
 -- ---- the questions
@@ -96,11 +95,11 @@ high w h =
     passes Bool _ _ _ _ (ap (λ (t : Bool). t && leb (getD w 0 0) 21) e) (low-none (getD w 0 0) w (ltb-false 15 (getD w 0 0) e)) in
     absurd (true≢false (sym h ∙ sym z)))
 
-module _ (call bytes s out left : List ℕ) (own : Session) (n : ℕ) (es : own ≡ readSession s) (en : n ≡ getD call 0 0) where
-  pub question-read : (l : Lent) (a : QuestionAnswer) → 21 < n → a ≡ questionOf (readQuestion n call bytes) (world own l) → left ≡ written (questionWords a) out
+module _ (call bytes s out left : List ℕ) (n : ℕ) (en : n ≡ getD call 0 0) where
+  pub question-read : (own : Session) (l : Lent) (a : QuestionAnswer) → own ≡ readSession s → 21 < n → a ≡ questionOf (readQuestion n call bytes) (world own l) → left ≡ written (questionWords a) out
       → left ≡ written (readWords call bytes (world (readSession s) l)) out
   unfolding readWords
-  question-read l a h ea e =
+  question-read own l a es h ea e =
       let z = ea ∙ ap (λ (o : Session). questionOf (readQuestion n call bytes) (world o l)) es
       ∙ ap (λ (k : ℕ). questionOf (readQuestion k call bytes) (world (readSession s) l)) en in
       e ∙ ap (λ (c : List ℕ). written c out) (passes (List ℕ) _ _ _ _ (lt-leb (getD call 0 0) 21 (omega (arith, en, h))) (ap questionWords z))
@@ -114,14 +113,14 @@ module _ (call bytes s out left : List ℕ) (own : Session) (n : ℕ) (es : own 
       (passes Call _ _ _ _ (lt-leb n 9 (omega (arith, k)))
       (passes Call _ _ _ _ (lt-leb n 12 (omega (arith, k))) (passes Call _ _ _ _ (lt-leb n 15 (omega (arith, k))) (takes Call _ _ _ _ (le-leb n 21 h) refl))))))
 
-  pub report-read : (r : Answer) (b : Bus) (m : Memory) → n ≤ 21 → isRead call ≡ true
-      → ((o : Bus) → after (outcome r own) (lent o m) ≡ stepOf (readReporting n call) (world own (lent o m))) → left ≡ written (answerWords r) out
+  pub report-read : (b : Bus) (m : Memory) → n ≤ 21 → isRead call ≡ true
+      → ((o : Bus) (lists : List ℕ) → buffers (keptOf s) (lent o m) left lists ≡ ranOn (readReporting n call) (buffers (keptOf s) (lent o m) out lists))
       → left ≡ written (readWords call bytes (world (readSession s) (lent b m))) out
-  unfolding readWords
-  report-read r b m h k hr e =
-      let z = hr b ∙ ap (λ (c : Call). stepOf c (world own (lent b m))) (reported h (omega (arith, en, high call k)))
-      ∙ ap (λ (o : Session). stepOf (readCall call bytes) (world o (lent b m))) es in
-      e ∙ ap (λ (c : List ℕ). written c out)
+  unfolding readWords runOf keptOf
+  report-read b m h k hr =
+      let z = ap (λ (c : Call). stepOf c (world (readSession s) (lent b m))) (reported h (omega (arith, en, high call k))) in
+      ap (λ (x : Buffers). x .out) (hr b [])
+      ∙ ap (λ (c : List ℕ). written c out)
       (takes (List ℕ) _ _ _ _ (le-leb (getD call 0 0) 21 (omega (arith, en, h))) (ap (λ (o : After Outcome Lent). answerWords (o .result .answer)) z))
 
 -- ---- what was answered

@@ -1,49 +1,78 @@
 -- One law for each change of a request, calls 13 to 15: its premises are the facts in hand there. Assumes nothing.
 use Prim.Native.Nat.{ℕ}
+use mathlib.Core.Bool.{true}
 use mathlib.Core.List.{List}
-use mathlib.Core.Path.{_≡_, ap, _∙_}
-use Rattle.chain.specs.After.{after}
-use Rattle.chain.proofs.Chain.{chain}
+use mathlib.Core.Path.{_≡_, refl, sym, ap, _∙_}
+use Rattle.chain.specs.After.{After, after}
+use Rattle.chain.proofs.Chain.{chain, if-all}
 use Rattle.models.specs.declared.RequestId.{RequestId}
 use Rattle.rows.specs.Store.{Store}
 use Rattle.bus.specs.Tables.{Bus}
 use Rattle.rules.specs.declared.Change as rules
 use Rattle.rules.specs.declared.Change.the-variants as change
+use Rattle.ledger.specs.Apply.{applyOf}
+use Rattle.ledger.specs.declared.Applied.{Applied}
+use Rattle.ledger.specs.declared.Applied.the-variants as applied
 use Rattle.session.specs.Lent.{memory, lent}
+use Rattle.session.specs.Start.{guarded}
 use Rattle.session.specs.declared.Session.{Session}
-use Rattle.reports.specs.Change.{changeOf}
+use Rattle.reports.specs.Change.{reportedBy, changeOf}
 use Rattle.reports.specs.declared.Reported.{Reported}
 use Rattle.calls.specs.Answers.{outcome, ofReport}
 use Rattle.calls.specs.Calls.{Changing, Cancel, Timeout, Reclaim, Change}
-use Rattle.session_words.specs.State.{readRequestId}
-use Rattle.calls.specs.Step.{world, changeBy, stepOf}
-use Rattle.calls.specs.declared.Outcome.{Outcome}
+use Rattle.session_words.specs.State.{readRequestId, readSession, isSession, keptOf, keptAs}
+use Rattle.session_words.proofs.Own.{written-same}
+use Rattle.calls.specs.Step.{changeBy, stepOf}
 use Rattle.call_words.specs.Decode.{readChanging}
-use Rattle.dispatch.proofs.Steps.{said, reported}
+use Rattle.answer_words.specs.Lists.{listsOf}
+use Rattle.direct.specs.Direct.{reportedTold}
+use Rattle.dispatch.specs.Apply.{buffers, ranOn}
+use Rattle.dispatch.proofs.Steps.{ran-kept}
 
-module _ (n : ℕ) (s : Session) (store next : Store) (w : List ℕ) (id : RequestId) (x : Reported) (r : Outcome) (ei : id ≡ readRequestId w 1)
-    (er : r ≡ outcome (ofReport (x .answer)) (x .session)) where
-  abbrev Changes : rules.Change → Type 0
-  Changes c = after x next ≡ changeOf id c s store
+-- a change leaves the session
+module _ (s : Session) where
+  reported-left : (a : Applied) → reportedBy a s .session ≡ s
+  unfolding reportedBy
+  reported-left (applied.Refused r) = refl
+  reported-left (applied.Done x) = refl
 
-  abbrev Steps : Type 0
-  Steps = (b : Bus) (area : List ℕ) → after r (lent b (memory next area)) ≡ stepOf (readChanging n w) (world s (lent b (memory store area)))
+  abbrev Left : After Reported Store → Type 0
+  Left o = o .result .session ≡ s
 
-  changed : (c : Changing) → Change (readRequestId w 1) c ≡ readChanging n w → Changes (changeBy c) → Steps
-  unfolding stepOf
-  changed c e h b area =
-      let v = world s (lent b (memory store area)) in
-      said (Change id c) (readChanging n w) v _ (ap (λ (z : RequestId). Change z c) ei ∙ e) (reported r next v x _ er h)
+  change-left : (id : RequestId) (c : rules.Change) (store : Store) → Left (changeOf id c s store)
+  unfolding changeOf guarded
+  change-left id c store = if-all Left _ _ _ refl (if-all Left _ _ _ refl (reported-left (applyOf id c store .result)))
 
-  pub cancel-step : n ≡ 13 → Changes change.LogicalCancel → Steps
+-- s are the session's words and w the call's
+module _ (n : ℕ) (s w out after-out : List ℕ) (store next : Store) (id : RequestId) (own : isSession s ≡ true) (ei : id ≡ readRequestId w 1) where
+  abbrev Told : rules.Change → Type 0
+  Told c = after after-out next ≡ reportedTold (changeOf id c (readSession s) store) out
+
+  abbrev Writes : Type 0
+  Writes =
+      (b : Bus) (area l : List ℕ) → buffers (keptOf s) (lent b (memory next area)) after-out l
+      ≡ ranOn (readChanging n w) (buffers (keptOf s) (lent b (memory store area)) out l)
+
+  writes : (c : Changing) → Change (readRequestId w 1) c ≡ readChanging n w → Told (changeBy c) → Writes
+  unfolding stepOf listsOf
+  writes c e h b area l =
+      let o = changeOf id (changeBy c) (readSession s) store in
+      let x = outcome (ofReport (o .result .answer)) (o .result .session) in
+      ran-kept (Change id c) (readChanging n w) s out after-out l (lent b (memory store area)) (lent b (memory next area)) (keptOf s) x
+      (ap (λ (z : RequestId). Change z c) ei ∙ e) refl
+      (ap (λ (z : After (List ℕ) Store). after x (lent b (memory (z .lent) area))) h)
+      (sym (ap (keptAs s) (change-left (readSession s) id (changeBy c) store) ∙ written-same s own))
+      (ap (λ (z : After (List ℕ) Store). z .result) h)
+
+  pub cancel-writes : n ≡ 13 → Told change.LogicalCancel → Writes
   unfolding readChanging
-  cancel-step e = changed Cancel (search chain depth 20)
+  cancel-writes e = writes Cancel (search chain depth 20)
 
   module _ (n13 : n ≡ 13 → ⊥) where
-    pub timeout-step : n ≡ 14 → Changes change.Timeout → Steps
+    pub timeout-writes : n ≡ 14 → Told change.Timeout → Writes
     unfolding readChanging
-    timeout-step e = changed Timeout (search chain depth 20)
+    timeout-writes e = writes Timeout (search chain depth 20)
 
-    pub reclaim-step : (n ≡ 14 → ⊥) → Changes change.Reclaim → Steps
+    pub reclaim-writes : (n ≡ 14 → ⊥) → Told change.Reclaim → Writes
     unfolding readChanging
-    reclaim-step n14 = changed Reclaim (search chain depth 20)
+    reclaim-writes n14 = writes Reclaim (search chain depth 20)

@@ -1,7 +1,8 @@
 -- One law for each call that leaves all as it is, calls 16 to 21: its premises are the facts in hand there. Assumes nothing.
 use Prim.Native.Nat.{ℕ}
-use mathlib.Core.List.{List}
-use mathlib.Core.Path.{_≡_, ap, _∙_}
+use mathlib.Core.Bool.{true}
+use mathlib.Core.List.{List, []}
+use mathlib.Core.Path.{_≡_, refl, sym, ap, _∙_}
 use lib.ListN.{length}
 use Rattle.chain.specs.After.{after}
 use Rattle.chain.proofs.Chain.{chain}
@@ -14,16 +15,21 @@ use Rattle.reports.specs.Status.{statusOf, nextOf, shownCount, completedPart, h
 use Rattle.reports.specs.declared.NextReport.{NextReport}
 use Rattle.reports.specs.declared.OptionId.{OptionId}
 use Rattle.reports.specs.declared.PartAnswer.{PartAnswer}
-use Rattle.reports.specs.declared.ReportAnswer.{ReportAnswer}
 use Rattle.reports.specs.declared.Tally.{Tally}
 use Rattle.calls.specs.Answers.{outcome, ofReport, ofNext, ofTally, ofPart}
 use Rattle.call_words.specs.Arguments.{readOptionId}
 use Rattle.calls.specs.Calls.{Reading, Status, Reports, CountReports, CompletedBytes, HeldCount, HeldBytes, Read}
-use Rattle.session_words.specs.State.{readRequestId}
+use Rattle.session_words.specs.State.{readRequestId, readSession, isSession, keptOf}
+use Rattle.session_words.proofs.Own.{written-same}
 use Rattle.calls.specs.Step.{World, world, reads, readOf, stepOf}
 use Rattle.calls.specs.declared.Answer.{Answer}
 use Rattle.call_words.specs.Decode.{readReporting}
-use Rattle.dispatch.proofs.Steps.{said}
+use Rattle.answer_words.specs.Encode.{answerWords, written}
+use Rattle.answer_words.specs.Lists.{listsOf}
+use Rattle.direct.specs.Direct.{told}
+use Rattle.dispatch.specs.Apply.{buffers, ranOn}
+use Rattle.dispatch.proofs.Dispatch.{reporting-none}
+use Rattle.dispatch.proofs.Steps.{said, ran-kept}
 
 module _ (n : ℕ) (s : Session) (store : Store) (area w : List ℕ) where
   abbrev handed : Bus → World
@@ -36,10 +42,6 @@ module _ (n : ℕ) (s : Session) (store : Store) (area w : List ℕ) where
   by : (c : Reading) (r : Answer) → Read c ≡ readReporting n w → ((b : Bus) → r ≡ readOf c (handed b)) → Steps r
   unfolding stepOf
   by c r e h b = said (Read c) (readReporting n w) (handed b) _ e (ap (λ (z : Answer). reads z (handed b)) (h b))
-
-  pub status-step : (r : Answer) (x : ReportAnswer) (id : RequestId) → id ≡ readRequestId w 1 → n ≡ 16 → r ≡ ofReport x → x ≡ statusOf id s store → Steps r
-  unfolding readOf readReporting
-  status-step r x id ei e er h = by (Status id) r (search (chain, ap (λ (z : RequestId). Read (Status z)) ei) depth 20) (λ b. er ∙ ap ofReport h)
 
   module _ (n16 : n ≡ 16 → ⊥) where
     pub reports-step : (r : Answer) (x : NextReport) (from : OptionId) → from ≡ readOptionId w → n ≡ 17 → r ≡ ofNext x → x ≡ nextOf from s store → Steps r
@@ -66,3 +68,26 @@ module _ (n : ℕ) (s : Session) (store : Store) (area w : List ℕ) where
           pub held-bytes-step : (n ≡ 20 → ⊥) → x ≡ heldBytesOf s store → Steps r
           unfolding readOf readReporting
           held-bytes-step n20 h = by HeldBytes r (search chain depth 20) (λ b. er ∙ ap ofTally h)
+
+-- in place: s are the session's words
+module _ (n : ℕ) (s w out after-out area : List ℕ) (store : Store) (own : isSession s ≡ true) where
+  abbrev Writes : Type 0
+  Writes =
+      (b : Bus) (l : List ℕ) → buffers (keptOf s) (lent b (memory store area)) after-out l
+      ≡ ranOn (readReporting n w) (buffers (keptOf s) (lent b (memory store area)) out l)
+
+  pub status-writes : (id : RequestId) → id ≡ readRequestId w 1 → n ≡ 16 → after-out ≡ told (ofReport (statusOf id (readSession s) store)) out → Writes
+  unfolding stepOf readOf readReporting listsOf
+  status-writes id ei e eo b l =
+      let a = lent b (memory store area) in
+      ran-kept (Read (Status id)) (readReporting n w) s out after-out l a a (keptOf s) (outcome (ofReport (statusOf id (readSession s) store)) (readSession s))
+      (search (chain, ap (λ (z : RequestId). Read (Status z)) ei) depth 20) refl refl (sym (written-same s own)) eo
+
+  pub answer-writes : (v : Session) (r : Answer) → v ≡ readSession s
+      → ((b : Bus) → after (outcome r v) (lent b (memory store area)) ≡ stepOf (readReporting n w) (world v (lent b (memory store area))))
+      → after-out ≡ written (answerWords r) out → Writes
+  answer-writes v r ev h eo b l =
+      let a = lent b (memory store area) in
+      let c = readReporting n w in
+      ran-kept c c s out after-out l a a (keptOf s) (outcome r (readSession s)) refl (reporting-none n w [] (world (readSession s) a)) (rw ev at (h b))
+      (sym (written-same s own)) eo

@@ -1,26 +1,22 @@
--- One law for each reply, and for a poll, calls 10 to 12: its premises are the facts in hand there. Assumes nothing.
+-- One law for each reply, calls 10 and 12: its premises are the facts in hand there. Assumes nothing.
 use Prim.Native.Nat.{ℕ}
 use mathlib.Core.List.{List}
 use mathlib.Core.Path.{_≡_, ap, _∙_}
 use Rattle.chain.specs.After.{After, after}
 use Rattle.chain.proofs.Chain.{chain}
-use Rattle.models.specs.declared.RequestId.{RequestId}
 use Rattle.rows.specs.Store.{Store}
 use Rattle.bus.specs.Tables.{Bus}
 use Rattle.session.specs.Lent.{Memory, memory, lent}
 use Rattle.session.specs.declared.Session.{Session}
-use Rattle.polls.specs.Poll.{pollOf}
 use Rattle.polls.specs.PollReply.{pollReplyOf}
 use Rattle.submissions.specs.SubmitReply.{submitReplyOf}
-use Rattle.polls.specs.declared.Polled.{Polled}
 use Rattle.polls.specs.declared.PollReply.{PollReply}
 use Rattle.reports.specs.declared.Reported.{Reported}
 use Rattle.submissions.specs.declared.SubmitReply.{SubmitReply}
-use Rattle.calls.specs.Answers.{outcome, ofReport, ofPoll}
+use Rattle.calls.specs.Answers.{outcome, ofReport}
 use Rattle.call_words.specs.Arguments.{readSubmitReply, readPollReply}
-use Rattle.calls.specs.Calls.{Poll, ToSubmit, ToPoll, Begin, Reply}
-use Rattle.session_words.specs.State.{readRequestId}
-use Rattle.calls.specs.Step.{World, world, polls, finishes, begunOf, repliedOf, stepOf}
+use Rattle.calls.specs.Calls.{ToSubmit, ToPoll, Reply}
+use Rattle.calls.specs.Step.{World, world, finishes, repliedOf, stepOf}
 use Rattle.calls.specs.declared.Outcome.{Outcome}
 use Rattle.call_words.specs.Decode.{readReplying}
 use Rattle.dispatch.proofs.Steps.{said, reported}
@@ -41,13 +37,6 @@ module _ (n : ℕ) (s : Session) (store : Store) (area w bytes : List ℕ) (r : 
       (reported r next (handed b) x _ er h)
 
   module _ (n10 : n ≡ 10 → ⊥) where
-    pub poll-step : (x : Polled) (id : RequestId) → id ≡ readRequestId w 1 → n ≡ 11 → r ≡ outcome (ofPoll (x .answer)) (x .session)
-        → x ≡ pollOf id s store → Steps (memory store area)
-    unfolding stepOf begunOf readReplying
-    poll-step x id ei e er h b =
-        said (Begin (Poll id)) (readReplying n w bytes) (handed b) _ (search (chain, ap (λ (z : RequestId). Begin (Poll z)) ei) depth 20)
-        (ap (λ (z : Outcome). after z (lent b (memory store area))) er ∙ ap (λ (z : Polled). polls z (handed b)) h)
-
     pub poll-reply-step : (next : Memory) (x : Reported) (reply : PollReply) → reply ≡ readPollReply w → (n ≡ 11 → ⊥)
         → r ≡ outcome (ofReport (x .answer)) (x .session) → after x next ≡ pollReplyOf reply bytes s (memory store area) → Steps next
     unfolding stepOf repliedOf readReplying

@@ -1,4 +1,4 @@
-use Rattle.dispatch.proofs.requests.Reply.{submit-reply-step, poll-step, poll-reply-step}
+use Rattle.dispatch.proofs.requests.Reply.{submit-reply-step, poll-reply-step}
 use borrow.Author.Needs.{needs}
 use Rattle.dispatch.proofs.requests.reply_call.Statement.{statement}
 use Rattle.dispatch.proofs.requests.reply_call.Tie as tie
@@ -7,10 +7,7 @@ returns : tie.Need-returns
 returns c = search submit-reply-step
 
 returns-2 : tie.Need-returns-2
-returns-2 c = search poll-step
-
-returns-3 : tie.Need-returns-3
-returns-3 c = search poll-reply-step
+returns-2 c = search poll-reply-step
 
 pub reply-call-spec : {M : Type 1} → statement M
 reply-call-spec =
@@ -25,10 +22,5 @@ reply-call-spec =
     (λ c κs. search needs)
     (λ c κs. search needs)
     (λ c. search needs)
-    returns-2
-    (λ c κs. search needs)
-    (λ c κs. search needs)
-    (λ c κs. search needs)
     (λ c. search needs)
-    (λ c. search needs)
-    returns-3)
+    returns-2)
