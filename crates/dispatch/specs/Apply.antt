@@ -54,7 +54,7 @@ ranOn c x = wrote (runOf c (worldOf x) (x .lists)) x
 abbrev pub answered : Call → Buffers → Buffers
 answered c x = wrote (ran (stepOf c (worldOf x)) (splice 0 (listsOf c (worldOf x)) (x .lists))) x
 
--- the calls that carry the session by value; of the others 11, 13 to 16 are made in place, and all but 11 leave the session
+-- the calls that carry the session by value, but 10 and 12 where the reply is plain; of the others 11, 13 to 16 are made in place, and all but 11 leave the session
 abbrev pub isByValue : ℕ → Bool
 isByValue n = ltb n 11 || eqb n 12 || ltb 21 n
 

@@ -90,6 +90,10 @@ fn answer(
         ≡ ranOn (readCall (now (call .entry)) (now (bytes .entry))) (buffersIn session bus rows area out lists) ⌝ }
 {
     let number = word_at(call, 0);
+    let kind = word_at(call, 1);
+    if ((number == 10) | (number == 12)) & (kind == 0) {
+        return requests::plain_reply(number, session, rows, area, call, out);
+    }
     if (number < 11) | (number == 12) | (number > 21) {
         return answer_by_value(session, bus, rows, area, call, bytes, out, lists);
     }

@@ -5,6 +5,7 @@ use call_words::arguments;
 use calls::Answer;
 use calls::Outcome;
 use calls::answers;
+use direct::replies;
 use polls::poll_reply;
 use recovery::recover;
 use recovery::recovery_reply;
@@ -18,13 +19,14 @@ use words::slices;
 use words::slices::word_at;
 ghost use mathlib.Core.Bool.{true};
 ghost use mathlib.Core.Path.{_≡_};
+ghost use lib.ListN.{getD};
 ghost use Rattle.chain.specs.After.{after};
 ghost use Rattle.session.specs.Lent.{lentOut};
 ghost use Rattle.session_words.specs.State.{isSession};
 ghost use Rattle.calls.specs.Answers.{outcome};
 ghost use Rattle.calls.specs.Step.{stepOf};
 ghost use Rattle.call_words.specs.Decode.{readSubmission, readReplying, readChanging, readReporting, readRecovering};
-ghost use Rattle.dispatch.specs.Slices.{worldIn, StepsMemory, ReadsMemory, RunsMemory, WritesRows, WritesAnswer};
+ghost use Rattle.dispatch.specs.Slices.{worldIn, StepsMemory, ReadsMemory, RunsMemory, WritesRows, WritesReply, WritesAnswer};
 
 // 8 and 9: submissions.
 pub(crate) fn submit_call(
@@ -79,6 +81,25 @@ pub(crate) fn reply_call(
     }
     let answer = arguments::poll_reply(call);
     answers::of_reported(poll_reply::poll_reply(session, rows, area, answer, bytes))
+}
+
+// 10 with a token and 12 with nothing, in place, whatever the bus, the bytes and the lists.
+pub(crate) fn plain_reply(
+    number: u64,
+    session: &mut [u64],
+    rows: &mut [u64],
+    area: &[u8],
+    call: &[u64],
+    out: &mut [u64],
+)
+    requires { ⌜ (isSession (now session) ≡ true) × (number ≡ 11 → ⊥) × (getD (now call) 1 0 ≡ 0) ⌝ }
+    ensures { λ _. ⌜ WritesReply number (now (call .entry)) session rows area out ⌝ }
+{
+    if number == 10 {
+        let token = word_at(call, 2);
+        return replies::submit_accepted(session, rows, token, out);
+    }
+    replies::poll_nothing(session, rows, area, out)
 }
 
 // 13 to 15: changes of one request, in place, whatever the bus, the area and the lists.
