@@ -74,6 +74,29 @@ fn answer_by_value(
     encode::write_answer(out, answer);
 }
 
+// Runs such a call, a plain reply in place.
+fn answer_other(
+    session: &mut [u64],
+    bus: &mut [u64],
+    rows: &mut [u64],
+    area: &mut [u8],
+    call: &[u64],
+    bytes: &[u8],
+    out: &mut [u64],
+    lists: &mut [u64],
+)
+    requires { ⌜ (isSession (now session) ≡ true) × (isByValue (getD (now call) 0 0) ≡ true) ⌝ }
+    ensures { λ _. ⌜ buffersOut session bus rows area out lists
+        ≡ ranOn (readCall (now (call .entry)) (now (bytes .entry))) (buffersIn session bus rows area out lists) ⌝ }
+{
+    let number = word_at(call, 0);
+    let kind = word_at(call, 1);
+    if ((number == 10) | (number == 12)) & (kind == 0) {
+        return requests::plain_reply(number, session, rows, area, call, out);
+    }
+    answer_by_value(session, bus, rows, area, call, bytes, out, lists)
+}
+
 // Runs the call. Where it leaves the session, its words are not written: they are its own.
 fn answer(
     session: &mut [u64],
@@ -90,12 +113,8 @@ fn answer(
         ≡ ranOn (readCall (now (call .entry)) (now (bytes .entry))) (buffersIn session bus rows area out lists) ⌝ }
 {
     let number = word_at(call, 0);
-    let kind = word_at(call, 1);
-    if ((number == 10) | (number == 12)) & (kind == 0) {
-        return requests::plain_reply(number, session, rows, area, call, out);
-    }
     if (number < 11) | (number == 12) | (number > 21) {
-        return answer_by_value(session, bus, rows, area, call, bytes, out, lists);
+        return answer_other(session, bus, rows, area, call, bytes, out, lists);
     }
     if number == 11 {
         let id = state::id_at(call, 1);
