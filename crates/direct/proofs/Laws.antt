@@ -1,10 +1,10 @@
 -- One law for each way out of a call in place: its premises are the facts in hand there. Assumes nothing.
-use Prim.Native.Nat.{ℕ, _<_}
+use Prim.Native.Nat.{ℕ}
 use mathlib.Core.Bool.{Bool, true, false, not, _&&_}
 use mathlib.Core.List.{List, _∷_}
 use mathlib.Core.Path.{_≡_, refl, sym, ap, _∙_}
 use lib.Dec.{eqb}
-use lib.ListN.{length, getD}
+use lib.ListN.{getD}
 use native.Mathlib.Omega.{arith}
 use borrow.Author.Tests.{ne-eqb, eq-eqb}
 use Rattle.chain.specs.After.{After, after}
@@ -29,7 +29,7 @@ use Rattle.ledger.specs.Apply.{applyOf}
 use Rattle.ledger.specs.Search.{isAt}
 use Rattle.ledger.specs.declared.Applied.{Applied}
 use Rattle.ledger.specs.declared.Applied.the-variants as applied
-use Rattle.ledger.specs.InPlace.{reportedAt, freedAt, PlacedIn}
+use Rattle.ledger.specs.InPlace.{reportedAt, freedAt}
 use Rattle.ledger.specs.declared.in_place.Placed.{Placed}
 use Rattle.ledger.specs.declared.in_place.Placed.the-variants as placed
 use Rattle.ledger.proofs.Found.{found-row}
@@ -215,6 +215,3 @@ idle s fits v ev e = idle-by (isBusy (s .«in_flight»)) fits (sym ev ∙ e)
 pub found-used : (id : RequestId) (rows : List Row) (f : Found) (i : ℕ) → f ≡ foundIn (isAt id) rows → f ≡ found.At i → rowIn rows i .used ≡ true
 unfolding isAt
 found-used id rows f i ef e = both _ _ (found-row id rows f i ef e .1) .0
-
-pub placed-in : (p : Placed) (rows : List Row) (i : ℕ) → PlacedIn p rows → p ≡ placed.At i → i < length rows
-placed-in p rows i h e = rw e at h

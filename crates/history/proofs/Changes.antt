@@ -22,7 +22,7 @@ use Rattle.ledger.specs.Search.{isAt}
 use Rattle.rules.specs.Rules.{pendingRow, withState, flagged}
 use Rattle.runs.proofs.Held.{empty-free, free-held, unheld-row}
 use Rattle.runs.proofs.Ids.{free-at, same-request, same-self}
-use Rattle.history.specs.Journal.{Entry, isNone, isOpen, isEntry, entryOf, release, markFailed, withToken, newEntry, View, entryView}
+use Rattle.history.specs.Journal.{Entry, isNone, isOpen, isEntry, entryOf, release, markFailed, entryWithToken, newEntry, View, entryView}
 use Rattle.history.specs.Claim.{rowView}
 use Rattle.history.proofs.Led.{rowW, entryW, each, twice, Led, Changed, Alike, row-none}
 
@@ -109,9 +109,9 @@ module _ (r : Row) (e : Entry) (held : isHeld r ≡ true) (is : (w : View → �
   unfolding isAt
   same-at t x = refl
 
-  pub token-change : (t : ℕ) → Changed r (tokenRow t) e (withToken t e)
+  pub token-change : (t : ℕ) → Changed r (tokenRow t) e (entryWithToken t e)
   token-change t = record {
-    same = kept r e held is (tokened t) (tokenRow t) (withToken t e) (same-held t ∙ held) (entry-open r e held is) refl refl;
+    same = kept r e held is (tokened t) (tokenRow t) (entryWithToken t e) (same-held t ∙ held) (entry-open r e held is) refl refl;
     row-id = λ x. rw (same-at t x) (le-refl _);
     entry-id = λ x. refl;
     single = stays r e held is;

@@ -106,8 +106,8 @@ markFailed e = record {
   releases = e .releases;
 }
 
-abbrev pub withToken : ℕ → Entry → Entry
-withToken t e = record {
+abbrev pub entryWithToken : ℕ → Entry → Entry
+entryWithToken t e = record {
   id = e .id;
   device = e .device;
   endpoint = e .endpoint;
@@ -216,7 +216,7 @@ begunBy (option.Some id) device endpoint requested j =
 
 -- the reply adds the token or, by 45, a release
 abbrev pub acceptedAs : SubmitReply → Entry → Entry
-acceptedAs (submit.Token token) e = withToken token e
+acceptedAs (submit.Token token) e = entryWithToken token e
 acceptedAs (submit.Error x) e = release e
 
 -- ---- polls

@@ -1,4 +1,5 @@
-use Rattle.direct.proofs.Laws.{placed-at, placed-in, placed-none}
+use Rattle.ledger.proofs.in_place.Laws.{placed-in}
+use Rattle.direct.proofs.Laws.{placed-at, placed-none}
 use borrow.Author.Needs.{needs}
 use Rattle.direct.proofs.answer_placed.Statement.{statement}
 use Rattle.direct.proofs.answer_placed.Tie as tie

@@ -1,4 +1,5 @@
-use Rattle.direct.proofs.Laws.{freed-at, freed-none, placed-in}
+use Rattle.ledger.proofs.in_place.Laws.{placed-in}
+use Rattle.direct.proofs.Laws.{freed-at, freed-none}
 use Rattle.rows.specs.Store.{storeOf}
 use borrow.Author.Needs.{needs}
 use Rattle.direct.proofs.free_placed.Statement.{statement}

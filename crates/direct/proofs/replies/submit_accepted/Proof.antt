@@ -1,4 +1,4 @@
-use Rattle.direct.proofs.Laws.{placed-in}
+use Rattle.ledger.proofs.in_place.Laws.{placed-in}
 use Rattle.direct.proofs.replies.Laws.{submit-other, submit-unfit, submit-none, submit-at}
 use Rattle.rows.specs.Store.{storeOf}
 use borrow.Author.Needs.{needs}
