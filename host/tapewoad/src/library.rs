@@ -80,6 +80,7 @@ pub fn version() -> u64 {
 /// (`lists` too short) nothing has changed.
 ///
 /// Slices of any length and content are taken.
+#[inline]
 pub fn apply(
     memory: Memory<'_>,
     call: &[u64],
@@ -123,6 +124,7 @@ pub fn apply(
 /// status: as [`apply`], but any other call is 1, and nothing but `out` changes.
 ///
 /// Slices of any length and content are taken.
+#[inline]
 pub fn read(view: View<'_>, call: &[u64], bytes: &[u8], out: &mut [u64]) -> u64 {
     let View {
         session,

@@ -1,18 +1,29 @@
 //! The original's session over a backend, with the library beneath.
 mod in_flight;
+mod places;
 mod recovery;
+mod reports;
 
 use std::fmt::{self, Debug, Formatter};
 
 use crate::backend::Backend;
-use crate::calls::{self, Answer, Begun, Call, Plan, Question, Reading, Store, Submit, unexpected};
+use crate::calls::encode::{
+    LOGICAL_CANCEL_REQUEST, NOTHING_CAME, POLL_REQUEST, RECLAIM_REQUEST, REPORT_FROM,
+    REQUEST_STATUS, SUBMIT_CONTROL_PLAN, SUBMIT_REQUEST_PACKETS, TIMEOUT_REQUEST, completed, of,
+    poll_failed, submit_reply,
+};
+use crate::calls::{
+    self, Answer, Answered, Call, Plan, Question, Store, Submit, Words, unexpected,
+};
 use crate::models::{
-    BackendCompletion, ControlPlan, ControllerState, DeviceSnapshot, Endpoint, Opening,
-    OwnedRequest, RequestId, RequestMetadata, RequestReport, RequestSpec, RequestState,
-    TransferType, ValidatedControlPlan,
+    BackendCompletion, ControlPlan, ControllerState, DeviceSnapshot, Direction, Endpoint, Opening,
+    OwnedRequest, RequestId, RequestMetadata, RequestReport, RequestSpec, TransferType,
+    ValidatedControlPlan,
 };
 use crate::refusal::{Messages, Refusal, UNREAD};
 use in_flight::{InFlight, Operation};
+use places::Places;
+use reports::metadata;
 
 pub use in_flight::PANICKED_TOKEN;
 
@@ -33,6 +44,7 @@ pub use in_flight::PANICKED_TOKEN;
 pub struct UsbSession<B: Backend> {
     backend: Option<B>,
     store: Store,
+    places: Places,
     messages: Messages,
 }
 
@@ -69,6 +81,7 @@ impl<B: Backend> UsbSession<B> {
         Ok(Self {
             backend: Some(backend),
             store,
+            places: Places::new(),
             messages,
         })
     }
@@ -102,6 +115,8 @@ impl<B: Backend> UsbSession<B> {
     /// must be ended by these: until then the session's own calls but reports are
     /// refused (1).
     pub fn store_mut(&mut self) -> &mut Store {
+        // It may be opened anew, with the same ids in other rows.
+        self.places.forget();
         &mut self.store
     }
 
@@ -211,30 +226,18 @@ impl<B: Backend> UsbSession<B> {
         let lengths: Option<Vec<u64>> = packets
             .as_ref()
             .map(|list| list.iter().map(|length| *length as u64).collect());
-        let submit = |readings| Submit {
-            device: spec.device,
-            endpoint: spec.endpoint,
-            transfer_type: spec.transfer_type,
-            direction: spec.direction,
-            length: spec.length as u64,
-            setup: spec.setup,
-            data: &spec.data,
-            packets: lengths.as_deref(),
-            readings,
-        };
         let control = spec.transfer_type == TransferType::Control;
-        let most = if control { 1 } else { 2 };
-        let readings = self.readings(most, |it| Question::SubmitWants(submit(it)));
-        let call = Call::SubmitRequestPackets(submit(readings));
-        let begun = match self.store.apply(&call) {
-            Answer::Begun { begun, .. } => begun,
-            Answer::Refused(refusal) => return Err(self.messages.refusal(refusal)),
-            answer => unexpected(answer),
+        let wants = Question::SubmitWants(submit(&spec, lengths.as_deref()));
+        let mut words = wants.encode();
+        self.give_readings(if control { 1 } else { 2 }, &mut words, &spec.data);
+        words.become_call(SUBMIT_REQUEST_PACKETS);
+        let Some(begun) = self.store.run(&words, &spec.data).begun() else {
+            return Err(self.refused(self.store.answered()));
         };
-        let request = OwnedRequest {
-            metadata: metadata(&begun.metadata),
-            buffer: self.buffer(&begun),
-        };
+        self.places.note(begun.id, begun.row);
+        let metadata = metadata(&begun.metadata);
+        let buffer = buffer(&metadata, spec.data);
+        let request = OwnedRequest { metadata, buffer };
         let reply = self.ask(Operation::Submission(begun.id), |backend| match packets {
             Some(packets) => backend.submit_iso_packets(request, packets),
             None => backend.submit_request(request),
@@ -249,25 +252,17 @@ impl<B: Backend> UsbSession<B> {
     /// (26 to 35) and the sequence numbers (39); the backend's error is 45, and 33
     /// where it is of a port's reading.
     pub fn submit_control_plan(&mut self, plan: ControlPlan) -> Result<RequestReport, Refusal> {
-        let submit = |reading| Plan {
-            device: plan.device,
-            profile: plan.profile,
-            setup: plan.setup,
-            data_stage: plan.data_stage.map(|it| (it.direction, it.length as u64)),
-            status_direction: plan.status_direction,
-            data: &plan.data,
-            reading,
+        let mut words = Question::PlanWants(submit_plan(&plan)).encode();
+        self.give_readings(1, &mut words, &plan.data);
+        words.become_call(SUBMIT_CONTROL_PLAN);
+        let Some((begun, stages)) = self.store.run(&words, &plan.data).plan_begun() else {
+            return Err(self.refused(self.store.answered()));
         };
-        let [reading, _] = self.readings(1, |[it, _]| Question::PlanWants(submit(it)));
-        let call = Call::SubmitControlPlan(submit(reading));
-        let (begun, stages) = match self.store.apply(&call) {
-            Answer::PlanBegun { begun, stages } => (begun, stages),
-            Answer::Refused(refusal) => return Err(self.messages.refusal(refusal)),
-            answer => unexpected(answer),
-        };
+        self.places.note(begun.id, begun.row);
+        let metadata = metadata(&begun.metadata);
         let plan = ValidatedControlPlan {
-            metadata: metadata(&begun.metadata),
-            buffer: self.buffer(&begun),
+            metadata,
+            buffer: buffer(&metadata, plan.data),
             wire_setup: stages.wire_setup,
             has_data: stages.has_data,
             data_direction: stages.data_direction,
@@ -286,23 +281,27 @@ impl<B: Backend> UsbSession<B> {
     /// 40 for an unknown request; 28 for a Pending one where the controller is not
     /// Initialized; the backend's error (45).
     pub fn poll_request(&mut self, id: RequestId) -> Result<RequestReport, Refusal> {
-        let answer = self.store.apply(&Call::PollRequest(id));
-        let Answer::Ask { token } = answer else {
-            return self.reported(answer);
+        let answer = self.store.run(&of(POLL_REQUEST, id), &[]);
+        let Some(token) = answer.token() else {
+            return self.reported(self.store.answered());
         };
-        let reply = self.ask(Operation::Poll, |backend| backend.poll_request(token));
-        let answer = match reply {
-            Ok(None) => self.store.apply(&Call::PollReply(Ok(None))),
-            Ok(Some(done)) => {
-                let reply = Ok(Some(completion(&mut self.messages, &done)));
-                self.store.apply(&Call::PollReply(reply))
-            }
+        match self.ask(Operation::Poll, |backend| backend.poll_request(token)) {
+            Ok(None) => self.report_of(&NOTHING_CAME),
+            Ok(Some(done)) => self.completed(done),
             Err(error) => {
-                let reply = Err(self.messages.numbered(&error));
-                self.store.apply(&Call::PollReply(reply))
+                let error = self.messages.numbered(&error);
+                self.report_of(&poll_failed(&error))
             }
-        };
-        self.reported(answer)
+        }
+    }
+
+    /// Ends a poll by a completion. One that is taken has its data with it.
+    fn completed(&mut self, done: BackendCompletion) -> Result<RequestReport, Refusal> {
+        let completion = completion(&mut self.messages, &done);
+        let data = completion.data.unwrap_or_default();
+        self.store.run(&completed(&completion), data);
+        let answer = self.store.answered();
+        self.reported_with(answer, |_, _| done.data.unwrap_or_default())
     }
 
     /// Flags a Pending request as cancelled; the device goes on.
@@ -310,8 +309,7 @@ impl<B: Backend> UsbSession<B> {
     /// # Errors
     /// 40 for an unknown request, 41 for one that is not Pending.
     pub fn logical_cancel_request(&mut self, id: RequestId) -> Result<RequestReport, Refusal> {
-        let answer = self.store.apply(&Call::LogicalCancelRequest(id));
-        self.reported(answer)
+        self.report_of(&of(LOGICAL_CANCEL_REQUEST, id))
     }
 
     /// Flags a Pending request as timed out; the device goes on.
@@ -319,8 +317,7 @@ impl<B: Backend> UsbSession<B> {
     /// # Errors
     /// 40 for an unknown request, 41 for one that is not Pending.
     pub fn timeout_request(&mut self, id: RequestId) -> Result<RequestReport, Refusal> {
-        let answer = self.store.apply(&Call::TimeoutRequest(id));
-        self.reported(answer)
+        self.report_of(&of(TIMEOUT_REQUEST, id))
     }
 
     /// Frees the row of a request that is no longer held, and reports it.
@@ -328,13 +325,18 @@ impl<B: Backend> UsbSession<B> {
     /// # Errors
     /// 40 for an unknown request, 42 for one that is held.
     pub fn reclaim_request(&mut self, id: RequestId) -> Result<RequestReport, Refusal> {
-        // Its bytes are taken while it is there.
-        let bytes = self.completed_bytes(id);
-        match self.store.apply(&Call::ReclaimRequest(id)) {
-            Answer::Report(report) => Ok(self.report(&report, || bytes)),
-            Answer::Refused(refusal) => Err(self.messages.refusal(refusal)),
-            answer => unexpected(answer),
-        }
+        let row = self.places.row(id);
+        // Where its row is not known, its bytes are taken while it is there.
+        let taken = match row {
+            Some(_) => Vec::new(),
+            None => self.found_bytes(id).unwrap_or_default(),
+        };
+        self.store.run(&of(RECLAIM_REQUEST, id), &[]);
+        let store = &self.store;
+        self.reported_with(store.answered(), |_, length| match row {
+            Some(row) => store.row_part(row, length).to_vec(),
+            None => taken,
+        })
     }
 
     /// Reports a request.
@@ -342,8 +344,9 @@ impl<B: Backend> UsbSession<B> {
     /// # Errors
     /// 40 for an unknown one.
     pub fn request_status(&self, id: RequestId) -> Result<RequestReport, Refusal> {
-        let answer = self.store.read(&Call::RequestStatus(id));
-        self.reported(answer)
+        let mut answer = Answered::EMPTY;
+        self.store.look(&of(REQUEST_STATUS, id), &[], &mut answer);
+        self.reported(&answer)
     }
 
     /// Reports every request, by ascending id.
@@ -351,18 +354,19 @@ impl<B: Backend> UsbSession<B> {
     /// # Errors
     /// None of its own.
     pub fn request_reports(&self) -> Result<Vec<RequestReport>, Refusal> {
-        let (mut reports, mut next) = (Vec::new(), 0);
+        let (mut reports, mut next) = (Vec::with_capacity(FEW), 0);
+        let mut answer = Answered::EMPTY;
         loop {
-            match self.store.ask(&Question::ReportFrom { place: next }) {
-                Answer::ReportAt { place, report } => {
-                    next = place + 1;
-                    let bytes = || Ok(self.store.completed_at(place, &report).to_vec());
-                    reports.push(self.report(&report, bytes));
-                }
-                Answer::NoReport => break,
-                Answer::Refused(refusal) => return Err(self.messages.refusal(refusal)),
-                answer => unexpected(answer),
-            }
+            self.store.look(&[REPORT_FROM, next], &[], &mut answer);
+            let Some((place, report)) = answer.report_at() else {
+                break;
+            };
+            next = place + 1;
+            let bytes = |_, length| self.store.row_part(place, length).to_vec();
+            reports.push(self.report(report, bytes));
+        }
+        if !answer.is_no_report() {
+            return Err(self.refused(&answer));
         }
         reports.sort_unstable_by_key(|report| report.id);
         Ok(reports)
@@ -394,27 +398,23 @@ impl<B: Backend> UsbSession<B> {
     }
 
     /// Reads a submission's port, so often at most, where the library wants it, as
-    /// the original does: each time only where every check before passes.
-    fn readings<'a>(
-        &mut self,
-        most: usize,
-        wants: impl Fn([Reading; 2]) -> Question<'a>,
-    ) -> [Reading; 2] {
-        let mut readings = [Err(UNREAD); 2];
+    /// the original does: each time only where every check before passes. The
+    /// words are the question's, and get the readings.
+    fn give_readings(&mut self, most: usize, words: &mut Words, data: &[u8]) {
+        let mut answer = Answered::EMPTY;
         for _ in 0..most {
-            let wanted = match self.store.ask(&wants(readings)) {
-                Answer::Wants(Some(wanted)) => wanted,
-                Answer::Wants(None) => break,
-                answer => unexpected(answer),
+            self.store.look(words, data, &mut answer);
+            let wanted = answer.wanted().unwrap_or_else(|| unexpected(&answer));
+            let Some(wanted) = wanted else {
+                return;
             };
             let status = self.backend().port_status(wanted.port);
             let reading = status.map_err(|error| self.messages.numbered(&error));
-            readings[wanted.reading] = reading;
+            words.give(wanted.reading, &reading);
             if reading.is_err() {
-                break;
+                return;
             }
         }
-        readings
     }
 
     /// Asks the backend about what is in flight, which ends even if it panics.
@@ -429,83 +429,46 @@ impl<B: Backend> UsbSession<B> {
         reply
     }
 
-    fn buffer(&mut self, begun: &Begun) -> Vec<u8> {
-        self.store.buffer(begun).to_vec()
-    }
-
     fn submit_reply(
         &mut self,
         reply: Result<u64, crate::OperationError>,
     ) -> Result<RequestReport, Refusal> {
         let reply = reply.map_err(|error| self.messages.numbered(&error));
-        let answer = self.store.apply(&Call::SubmitReply(reply));
-        self.reported(answer)
-    }
-
-    fn reported(&self, answer: Answer) -> Result<RequestReport, Refusal> {
-        match answer {
-            Answer::Report(report) => Ok(self.report(&report, || self.completed_bytes(report.id))),
-            Answer::Refused(refusal) => Err(self.messages.refusal(refusal)),
-            answer => unexpected(answer),
-        }
-    }
-
-    fn completed_bytes(&self, id: RequestId) -> Result<Vec<u8>, calls::Refusal> {
-        self.store.completed_bytes(id).map(<[u8]>::to_vec)
-    }
-
-    /// A report; `bytes` are its request's, where it is Completed.
-    fn report(
-        &self,
-        report: &calls::Report,
-        bytes: impl FnOnce() -> Result<Vec<u8>, calls::Refusal>,
-    ) -> RequestReport {
-        let state = self.request_state(report.state);
-        let completed = matches!(state, RequestState::Completed { .. });
-        let data = completed.then(|| bytes().unwrap_or_else(|refusal| unexpected(refusal)));
-        RequestReport {
-            id: report.id,
-            metadata: metadata(&report.metadata),
-            state,
-            logical_cancel: report.logical_cancel,
-            timed_out: report.timed_out,
-            data,
-        }
-    }
-
-    fn request_state(&self, state: calls::State) -> RequestState {
-        match state {
-            calls::State::Pending {
-                logical_cancel,
-                timed_out,
-            } => RequestState::Pending {
-                logical_cancel,
-                timed_out,
-            },
-            calls::State::Completed {
-                actual_length,
-                completion_code,
-                logical_cancel,
-            } => RequestState::Completed {
-                actual_length: actual_length as usize,
-                completion_code,
-                logical_cancel,
-            },
-            calls::State::Failed {
-                error,
-                completion_code,
-                quiescent,
-            } => RequestState::Failed {
-                error: self.messages.error(error),
-                completion_code,
-                quiescent,
-            },
-            calls::State::Aborted => RequestState::Aborted,
-        }
+        self.report_of(&submit_reply(&reply))
     }
 }
 
+/// Reports for which there is room at once.
+const FEW: usize = 16;
 const TAKEN_BY_DROP: &str = "only drop takes the backend";
+
+/// A request as the library takes it, before its port is read.
+fn submit<'a>(spec: &'a RequestSpec, packets: Option<&'a [u64]>) -> Submit<'a> {
+    Submit {
+        device: spec.device,
+        endpoint: spec.endpoint,
+        transfer_type: spec.transfer_type,
+        direction: spec.direction,
+        length: spec.length as u64,
+        setup: spec.setup,
+        data: &spec.data,
+        packets,
+        readings: [Err(UNREAD); 2],
+    }
+}
+
+/// A plan as the library takes it, before its port is read.
+fn submit_plan(plan: &ControlPlan) -> Plan<'_> {
+    Plan {
+        device: plan.device,
+        profile: plan.profile,
+        setup: plan.setup,
+        data_stage: plan.data_stage.map(|it| (it.direction, it.length as u64)),
+        status_direction: plan.status_direction,
+        data: &plan.data,
+        reading: Err(UNREAD),
+    }
+}
 
 /// A completion as the library takes it.
 fn completion<'a>(messages: &mut Messages, done: &'a BackendCompletion) -> calls::Completion<'a> {
@@ -519,15 +482,11 @@ fn completion<'a>(messages: &mut Messages, done: &'a BackendCompletion) -> calls
     }
 }
 
-/// Lengths in the library are those of a buffer in memory.
-fn metadata(metadata: &calls::Metadata) -> RequestMetadata {
-    RequestMetadata {
-        device: metadata.device,
-        endpoint: metadata.endpoint,
-        transfer_type: metadata.transfer_type,
-        direction: metadata.direction,
-        requested_length: metadata.requested_length as usize,
-        setup: metadata.setup,
+/// A submission's buffer, as the library has it in its row.
+fn buffer(metadata: &RequestMetadata, data: Vec<u8>) -> Vec<u8> {
+    match metadata.direction {
+        Direction::In => vec![0; metadata.requested_length],
+        Direction::Out => data,
     }
 }
 

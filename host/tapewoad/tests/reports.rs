@@ -1,8 +1,9 @@
 //! Reports of a session, which need no more than a shared borrow of it.
 mod common;
 
-use common::id;
 use common::scripted::{Scripted, bulk, completion, ready};
+use common::{id, store};
+use tapewoad::calls::Call;
 use tapewoad::*;
 
 /// Four reads, of which the first is Completed.
@@ -55,6 +56,27 @@ fn reports_come_by_ascending_id() {
     let early = usb.submit_request(bulk(Direction::In, &[], 8)).unwrap().id;
     assert_eq!((early.session, early.sequence), (0, 5));
     assert_eq!(ids(&usb), [early, id(1), id(2), id(3), id(4)]);
+}
+
+/// Calls of the lower layer may give an id another row than the session saw.
+#[test]
+fn bytes_are_those_of_the_row_that_the_request_has() {
+    let mut usb = reading();
+    let lower = usb.store_mut();
+    *lower = store::ready();
+    // The next sequence number.
+    lower.session_words_mut()[2] = 1;
+    for call in [
+        store::submit(),
+        Call::SubmitReply(Ok(7)),
+        Call::PollRequest(id(1)),
+        store::completion(&[7, 8]),
+    ] {
+        lower.apply(&call);
+    }
+    let report = usb.request_status(id(1)).unwrap();
+    assert_eq!(report.data, Some(vec![7, 8]));
+    assert_eq!(usb.reclaim_request(id(1)).unwrap(), report);
 }
 
 /// What it had before it goes, and nothing where it was not Completed.

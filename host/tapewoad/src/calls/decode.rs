@@ -21,7 +21,7 @@ macro_rules! numbered {
 
 /// Reads words one by one. What a report has is read in line: its fields are
 /// written where it will stand, and not copied from call to call.
-struct Reader<'a>(&'a [u64]);
+pub struct Reader<'a>(pub &'a [u64]);
 
 impl Answer {
     /// What the words of an answer and its lists say; none where they are no
@@ -30,10 +30,7 @@ impl Answer {
     pub fn from_words(words: &[u64; ANSWER_WORDS], lists: &[u64]) -> Option<Self> {
         let mut r = Reader(words);
         Some(match r.word()? {
-            0 => Self::Refused(Refusal {
-                number: r.narrow()?,
-                error: r.error()?,
-            }),
+            0 => Self::Refused(r.refusal()?),
             1 => Self::Passed,
             2 => Self::Begun {
                 begun: r.begun()?,
@@ -71,7 +68,7 @@ pub fn option_u32(word: u64) -> Option<Option<u32>> {
 
 impl Reader<'_> {
     #[inline(always)]
-    fn word(&mut self) -> Option<u64> {
+    pub fn word(&mut self) -> Option<u64> {
         let (first, rest) = self.0.split_first()?;
         self.0 = rest;
         Some(*first)
@@ -147,6 +144,14 @@ impl Reader<'_> {
         })
     }
 
+    #[inline(always)]
+    pub fn refusal(&mut self) -> Option<Refusal> {
+        Some(Refusal {
+            number: self.narrow()?,
+            error: self.error()?,
+        })
+    }
+
     fn option_error(&mut self) -> Option<Option<Error>> {
         let given = self.flag()?;
         let error = self.error()?;
@@ -203,7 +208,7 @@ impl Reader<'_> {
     }
 
     #[inline(always)]
-    fn begun(&mut self) -> Option<Begun> {
+    pub fn begun(&mut self) -> Option<Begun> {
         Some(Begun {
             id: self.id()?,
             row: self.word()?,
@@ -211,7 +216,8 @@ impl Reader<'_> {
         })
     }
 
-    fn stages(&mut self) -> Option<Stages> {
+    #[inline(always)]
+    pub fn stages(&mut self) -> Option<Stages> {
         let has_data = self.flag()?;
         let (data_direction, status_direction) = (self.direction()?, self.direction()?);
         let profile = self.profile()?;
@@ -229,7 +235,7 @@ impl Reader<'_> {
     }
 
     #[inline(always)]
-    fn report(&mut self) -> Option<Report> {
+    pub fn report(&mut self) -> Option<Report> {
         Some(Report {
             id: self.id()?,
             metadata: self.metadata()?,
@@ -315,7 +321,8 @@ impl Reader<'_> {
         })
     }
 
-    fn wanted(&mut self) -> Option<Option<Wanted>> {
+    #[inline(always)]
+    pub fn wanted(&mut self) -> Option<Option<Wanted>> {
         let (reading, port) = (self.word()?, self.narrow()?);
         Some(match reading {
             0 => None,

@@ -5,6 +5,95 @@ use super::words::Words;
 use super::{Abort, Call, Completion, Error, Plan, Question, Reading, Submit};
 use crate::models::{DeviceId, PortId, RequestId, SetupPacket};
 
+/// The numbers of calls about one request.
+pub const POLL_REQUEST: u64 = 11;
+pub const LOGICAL_CANCEL_REQUEST: u64 = 13;
+pub const TIMEOUT_REQUEST: u64 = 14;
+pub const RECLAIM_REQUEST: u64 = 15;
+pub const REQUEST_STATUS: u64 = 16;
+pub const COMPLETED_BYTES: u64 = 19;
+pub const ABORT_REQUEST: u64 = 22;
+
+/// The numbers of submissions, as calls.
+pub const SUBMIT_REQUEST_PACKETS: u64 = 8;
+pub const SUBMIT_CONTROL_PLAN: u64 = 9;
+/// The number of the question for the first report at or after a place.
+pub const REPORT_FROM: u64 = 26;
+/// The words of a poll's reply that nothing came.
+pub const NOTHING_CAME: [u64; 12] = [12, 0, 0, 0, 0, 0, 0, 0, 0, 0, 0, 0];
+
+/// Where a submission's first reading stands, and how many words it has.
+const FIRST_READING: usize = 14;
+const READING_WORDS: usize = 6;
+
+/// The words of a call about one request.
+#[inline(always)]
+pub fn of(number: u64, id: RequestId) -> [u64; 4] {
+    [number, id.session, id.generation, id.sequence]
+}
+
+/// The words of a submission's reply.
+#[inline(always)]
+pub fn submit_reply(reply: &Result<u64, Error>) -> [u64; 7] {
+    let [category, message, os_code, code] = error(reply.as_ref().err());
+    let failed = u64::from(reply.is_err());
+    let token = reply.unwrap_or(0);
+    [10, failed, token, category, message, os_code, code]
+}
+
+/// The words of a poll's reply that is an error.
+pub fn poll_failed(it: &Error) -> [u64; 12] {
+    let mut words = [12, 1, 0, 0, 0, 0, 0, 0, 0, 0, 0, 0];
+    words[3..7].copy_from_slice(&error(Some(it)));
+    words
+}
+
+/// The words of a poll's reply that is a completion.
+#[inline(always)]
+pub fn completed(done: &Completion<'_>) -> [u64; 12] {
+    let mut words = [12, 2, 0, 0, 0, 0, 0, 0, 0, 0, 0, 0];
+    words[2..].copy_from_slice(&completion(done));
+    words
+}
+
+#[inline(always)]
+fn completion(done: &Completion<'_>) -> [u64; 10] {
+    let [category, message, os_code, code] = error(done.error.as_ref());
+    [
+        u64::from(done.error.is_some()),
+        category,
+        message,
+        os_code,
+        code,
+        u64::from(done.actual_length.is_some()),
+        done.actual_length.unwrap_or(0),
+        option_u32(done.completion_code),
+        u64::from(done.data.is_some()),
+        u64::from(done.quiescent),
+    ]
+}
+
+#[inline(always)]
+fn reading(reading: &Reading) -> [u64; READING_WORDS] {
+    let [category, message, os_code, code] = error(reading.as_ref().err());
+    let failed = u64::from(reading.is_err());
+    let word = reading.map_or(0, u64::from);
+    [failed, word, category, message, os_code, code]
+}
+
+/// Four zeros where there is none.
+#[inline(always)]
+fn error(error: Option<&Error>) -> [u64; 4] {
+    error.map_or([0; 4], |error| {
+        [
+            error.category as u64,
+            u64::from(error.message),
+            option_u32(error.os_code.map(i32::cast_unsigned)),
+            option_u32(error.completion_code),
+        ]
+    })
+}
+
 impl Call<'_> {
     /// The call's words.
     pub fn words(&self) -> Vec<u64> {
@@ -27,7 +116,7 @@ impl Call<'_> {
         Cow::Borrowed(bytes)
     }
 
-    pub(super) fn encode(&self) -> Words {
+    pub(crate) fn encode(&self) -> Words {
         let mut w = Words::new();
         match self {
             Self::Open {
@@ -72,18 +161,15 @@ impl Call<'_> {
                 w.option_u64(*fresh);
                 w.option_error(reply.as_ref().err());
             }
-            Self::SubmitRequestPackets(submit) => w.submit(8, submit),
-            Self::SubmitControlPlan(plan) => w.plan(9, plan),
-            Self::SubmitReply(reply) => {
-                w.put(&[10, u64::from(reply.is_err()), reply.unwrap_or(0)]);
-                w.error(reply.as_ref().err());
-            }
-            Self::PollRequest(id) => w.of(11, *id),
+            Self::SubmitRequestPackets(submit) => w.submit(SUBMIT_REQUEST_PACKETS, submit),
+            Self::SubmitControlPlan(plan) => w.plan(SUBMIT_CONTROL_PLAN, plan),
+            Self::SubmitReply(reply) => w.put(&submit_reply(reply)),
+            Self::PollRequest(id) => w.of(POLL_REQUEST, *id),
             Self::PollReply(reply) => w.poll_reply(reply),
-            Self::LogicalCancelRequest(id) => w.of(13, *id),
-            Self::TimeoutRequest(id) => w.of(14, *id),
-            Self::ReclaimRequest(id) => w.of(15, *id),
-            Self::RequestStatus(id) => w.of(16, *id),
+            Self::LogicalCancelRequest(id) => w.of(LOGICAL_CANCEL_REQUEST, *id),
+            Self::TimeoutRequest(id) => w.of(TIMEOUT_REQUEST, *id),
+            Self::ReclaimRequest(id) => w.of(RECLAIM_REQUEST, *id),
+            Self::RequestStatus(id) => w.of(REQUEST_STATUS, *id),
             Self::RequestReports { after } => {
                 w.put(&[17, u64::from(after.is_some())]);
                 w.id(after.unwrap_or(RequestId {
@@ -93,10 +179,10 @@ impl Call<'_> {
                 }));
             }
             Self::CountReports => w.put(&[18]),
-            Self::CompletedBytes(id) => w.of(19, *id),
+            Self::CompletedBytes(id) => w.of(COMPLETED_BYTES, *id),
             Self::HeldCount => w.put(&[20]),
             Self::HeldBytes => w.put(&[21]),
-            Self::AbortRequest(target) => w.of(22, *target),
+            Self::AbortRequest(target) => w.of(ABORT_REQUEST, *target),
             Self::ResetEndpointRequest { target, preserve } => {
                 w.of(23, *target);
                 w.put(&[u64::from(*preserve)]);
@@ -122,11 +208,11 @@ impl Question<'_> {
         }
     }
 
-    pub(super) fn encode(&self) -> Words {
+    pub(crate) fn encode(&self) -> Words {
         let mut w = Words::new();
         match self {
             Self::SessionStatus => w.put(&[25]),
-            Self::ReportFrom { place } => w.put(&[26, *place]),
+            Self::ReportFrom { place } => w.put(&[REPORT_FROM, *place]),
             Self::SubmitWants(submit) => w.submit(27, submit),
             Self::PlanWants(plan) => w.plan(28, plan),
         }
@@ -150,8 +236,7 @@ impl Words {
     }
 
     fn of(&mut self, number: u64, id: RequestId) {
-        self.put(&[number]);
-        self.id(id);
+        self.put(&of(number, id));
     }
 
     #[inline(always)]
@@ -163,17 +248,8 @@ impl Words {
         self.put(&[id.session, id.generation, u64::from(id.number)]);
     }
 
-    #[inline(always)]
-    fn error(&mut self, error: Option<&Error>) {
-        let Some(error) = error else {
-            return self.put(&[0; 4]);
-        };
-        self.put(&[
-            error.category as u64,
-            u64::from(error.message),
-            option_u32(error.os_code.map(i32::cast_unsigned)),
-            option_u32(error.completion_code),
-        ]);
+    fn error(&mut self, it: Option<&Error>) {
+        self.put(&error(it));
     }
 
     fn option_error(&mut self, error: Option<&Error>) {
@@ -192,10 +268,15 @@ impl Words {
         ]);
     }
 
-    #[inline(always)]
-    fn reading(&mut self, reading: &Reading) {
-        self.put(&[u64::from(reading.is_err()), reading.map_or(0, u64::from)]);
-        self.error(reading.as_ref().err());
+    /// Makes of a submission's question its call.
+    pub fn become_call(&mut self, number: u64) {
+        self[0] = number;
+    }
+
+    /// Gives a submission that was written a reading in place of its own.
+    pub fn give(&mut self, place: usize, it: &Reading) {
+        let start = FIRST_READING + place * READING_WORDS;
+        self[start..start + READING_WORDS].copy_from_slice(&reading(it));
     }
 
     #[inline(always)]
@@ -213,8 +294,8 @@ impl Words {
             Some(setup) => self.setup(setup),
             None => self.put(&[0; 5]),
         }
-        self.reading(&submit.readings[0]);
-        self.reading(&submit.readings[1]);
+        self.put(&reading(&submit.readings[0]));
+        self.put(&reading(&submit.readings[1]));
         self.put(&[u64::from(submit.packets.is_some())]);
         self.put(submit.packets.unwrap_or_default());
     }
@@ -235,35 +316,15 @@ impl Words {
             length,
             status,
         ]);
-        self.reading(&plan.reading);
+        self.put(&reading(&plan.reading));
     }
 
     fn poll_reply(&mut self, reply: &Result<Option<Completion<'_>>, Error>) {
         match reply {
-            Ok(None) => {
-                self.put(&[12, 0]);
-                self.put(&[0; 10]);
-            }
-            Err(error) => {
-                self.put(&[12, 1, 0]);
-                self.error(Some(error));
-                self.put(&[0; 5]);
-            }
-            Ok(Some(completion)) => {
-                self.put(&[12, 2]);
-                self.completion(completion);
-            }
+            Ok(None) => self.put(&NOTHING_CAME),
+            Err(error) => self.put(&poll_failed(error)),
+            Ok(Some(completion)) => self.put(&completed(completion)),
         }
-    }
-
-    fn completion(&mut self, completion: &Completion<'_>) {
-        self.option_error(completion.error.as_ref());
-        self.option_u64(completion.actual_length);
-        self.put(&[
-            option_u32(completion.completion_code),
-            u64::from(completion.data.is_some()),
-            u64::from(completion.quiescent),
-        ]);
     }
 
     fn recovery_reply(&mut self, reply: &Result<Abort<'_>, Error>) {
@@ -283,7 +344,7 @@ impl Words {
             self.put(&[*token]);
         }
         for (_, done) in abort.completed {
-            self.completion(done);
+            self.put(&completion(done));
             self.put(&[done.data.map_or(0, <[u8]>::len) as u64]);
         }
         self.put(abort.aborted);

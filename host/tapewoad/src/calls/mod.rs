@@ -17,8 +17,9 @@
 //! assert_eq!(store.open(Opening::new(1, None)), Answer::Passed);
 //! assert_eq!(store.read(&Call::HeldCount), Answer::Number(0));
 //! ```
+mod answered;
 mod decode;
-mod encode;
+pub(crate) mod encode;
 mod questions;
 mod store;
 mod words;
@@ -30,8 +31,10 @@ use crate::models::{
     RequestId, SetupPacket, TransferType,
 };
 
+pub(crate) use answered::Answered;
 pub use questions::{Operation, Question, SessionStatus, Stall, Wanted};
 pub use store::{Status, Store};
+pub(crate) use words::Words;
 
 /// The version of the words that this crate writes and reads: the major number
 /// times 2^32, and the minor number.

@@ -3,8 +3,9 @@ use std::fmt::{self, Debug, Display, Formatter};
 use std::ops::Range;
 
 use super::decode::option_u32;
+use super::encode::{COMPLETED_BYTES, of};
 use super::{
-    ANSWER_WORDS, Answer, BUS_WORDS, Begun, Call, LIST_WORDS, Question, ROW_WORDS, Refusal, Report,
+    Answer, Answered, BUS_WORDS, Begun, Call, LIST_WORDS, Question, ROW_WORDS, Refusal, Report,
     SESSION_WORDS, SessionStatus, State, VERSION, unexpected,
 };
 use crate::library::{self, Memory, View};
@@ -59,6 +60,8 @@ pub struct Store {
     area: Box<[u8]>,
     row_count: u64,
     row_bytes: u64,
+    /// The latest answer of a call.
+    answered: Answered,
     /// The latest lists of an answer.
     lists: [u64; LIST_WORDS],
 }
@@ -86,6 +89,7 @@ impl Store {
             area: vec![0; bytes].into(),
             row_count: rows as u64,
             row_bytes: row_bytes as u64,
+            answered: Answered::EMPTY,
             lists: [0; LIST_WORDS],
         }
     }
@@ -129,15 +133,34 @@ impl Store {
     /// As [`try_apply`](Self::try_apply).
     #[inline(always)]
     pub fn apply_words(&mut self, call: &[u64], bytes: &[u8]) -> Result<Answer, Status> {
-        let mut out = [0; ANSWER_WORDS];
+        checked(self.lend(call, bytes))?;
+        let answer = self.answered.answer(&self.lists);
+        answer.ok_or(Status::Unknown(self.answered.tag()))
+    }
+
+    /// Runs a call given as words, for the words of its answer.
+    #[inline(always)]
+    pub(crate) fn run(&mut self, call: &[u64], bytes: &[u8]) -> &Answered {
+        expect_answer(call, self.lend(call, bytes));
+        &self.answered
+    }
+
+    /// The words of the latest call's answer.
+    #[inline(always)]
+    pub(crate) fn answered(&self) -> &Answered {
+        &self.answered
+    }
+
+    #[inline(always)]
+    fn lend(&mut self, call: &[u64], bytes: &[u8]) -> u64 {
         let memory = Memory {
             session: &mut self.session,
             bus: &mut self.bus,
             rows: &mut self.rows,
             area: &mut self.area,
         };
-        let status = library::apply(memory, call, bytes, &mut out, &mut self.lists);
-        answered(status, &out, &self.lists)
+        let out = &mut self.answered.words;
+        library::apply(memory, call, bytes, out, &mut self.lists)
     }
 
     /// Makes a call that leaves all as it is: request_status, request_reports,
@@ -183,15 +206,27 @@ impl Store {
     /// As [`try_apply`](Self::try_apply).
     #[inline(always)]
     pub fn read_words(&self, call: &[u64], bytes: &[u8]) -> Result<Answer, Status> {
-        let mut out = [0; ANSWER_WORDS];
+        let mut out = Answered::EMPTY;
+        checked(self.show(call, bytes, &mut out))?;
+        out.answer(&[]).ok_or(Status::Unknown(out.tag()))
+    }
+
+    /// Asks a question, or makes a call that leaves all as it is, given as words,
+    /// for the words of its answer.
+    #[inline(always)]
+    pub(crate) fn look(&self, call: &[u64], bytes: &[u8], out: &mut Answered) {
+        expect_answer(call, self.show(call, bytes, out));
+    }
+
+    #[inline(always)]
+    fn show(&self, call: &[u64], bytes: &[u8], out: &mut Answered) -> u64 {
         let view = View {
             session: &self.session,
             bus: &self.bus,
             rows: &self.rows,
             area: &self.area,
         };
-        let status = library::read(view, call, bytes, &mut out);
-        answered(status, &out, &[])
+        library::read(view, call, bytes, &mut out.words)
     }
 
     /// What the session says of itself.
@@ -228,10 +263,15 @@ impl Store {
     /// [`completed_bytes`](Self::completed_bytes) gives them: the first of its row.
     pub fn completed_at(&self, place: u64, report: &Report) -> &[u8] {
         let length = match report.state {
-            State::Completed { actual_length, .. } => actual_length.min(self.row_bytes),
+            State::Completed { actual_length, .. } => actual_length,
             _ => 0,
         };
-        self.bytes(place * self.row_bytes, length)
+        self.row_part(place, length)
+    }
+
+    /// The first bytes of a row, so many at most.
+    pub(crate) fn row_part(&self, row: u64, length: u64) -> &[u8] {
+        self.bytes(row * self.row_bytes, length.min(self.row_bytes))
     }
 
     /// The bytes of a Completed request, and none of another that has a report.
@@ -239,10 +279,11 @@ impl Store {
     /// # Errors
     /// 40 where there is no report of it.
     pub fn completed_bytes(&self, id: RequestId) -> Result<&[u8], Refusal> {
-        match self.read(&Call::CompletedBytes(id)) {
-            Answer::Bytes { start, length } => Ok(self.bytes(start, length)),
-            Answer::Refused(refusal) => Err(refusal),
-            answer => unexpected(answer),
+        let mut answer = Answered::EMPTY;
+        self.look(&of(COMPLETED_BYTES, id), &[], &mut answer);
+        match answer.bytes() {
+            Some((start, length)) => Ok(self.bytes(start, length)),
+            None => Err(answer.refusal()),
         }
     }
 
@@ -275,17 +316,28 @@ impl Debug for Store {
     }
 }
 
-/// The answer where there is one.
-#[inline(always)]
-fn answered(status: u64, out: &[u64; ANSWER_WORDS], lists: &[u64]) -> Result<Answer, Status> {
+/// Whether the library answered.
+fn checked(status: u64) -> Result<(), Status> {
     match status {
-        0 => Answer::from_words(out, lists).ok_or(Status::Unknown(out[0])),
+        0 => Ok(()),
         1 => Err(Status::NoCall),
         2 => Err(Status::NoSession),
         3 => Err(Status::NoRoom),
         4 => Err(Status::NoLists),
         status => Err(Status::Unknown(status)),
     }
+}
+
+#[inline(always)]
+fn expect_answer(call: &[u64], status: u64) {
+    if status != 0 {
+        no_answer(call, status);
+    }
+}
+
+#[cold]
+fn no_answer(call: &[u64], status: u64) {
+    checked(status).unwrap_or_else(|status| panic!("call {call:?}: {status}"));
 }
 
 /// Whether this crate's words go with a library of that version: the same major

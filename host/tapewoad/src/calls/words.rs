@@ -1,5 +1,5 @@
 //! The words of a call on their way to the library.
-use std::ops::Deref;
+use std::ops::{Deref, DerefMut};
 
 /// As many as a call without a list has at most.
 const FEW: usize = 27;
@@ -45,6 +45,13 @@ impl Deref for Words {
 
     fn deref(&self) -> &[u64] {
         self.few.get(..self.length).unwrap_or(&self.many)
+    }
+}
+
+impl DerefMut for Words {
+    fn deref_mut(&mut self) -> &mut [u64] {
+        let few = self.few.get_mut(..self.length);
+        few.unwrap_or(&mut self.many)
     }
 }
 
