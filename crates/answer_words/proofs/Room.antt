@@ -29,7 +29,8 @@ use Rattle.session.specs.declared.InFlight.the-variants as flight
 use Rattle.session.specs.declared.Recovery.{Recovery}
 use Rattle.session.specs.declared.RecoveryKind.{RecoveryKind}
 use Rattle.session.specs.declared.Session.{Session}
-use Rattle.scope.specs.Affected.{isAffected, comesBefore, insertRow, joined, affectedUpTo, affectedOf, tokensOf}
+use Rattle.scope.specs.Affected.{affectedOf, tokensOf}
+use Rattle.scope.proofs.affected.Laws.{affected-most}
 use Rattle.recovery.specs.Recover.{beginRefused, begunAs, beginRow, recoverBy, recoverOf}
 use Rattle.recovery.specs.RecoveryReply.{ReplyLists, recoveryRefused, isWhole, concludedBy, abortReport, settledOf, doneOf, replyBy, replySized, replyIn, recoveryReplyOf}
 use Rattle.scope.specs.Scope.{meant, inScope}
@@ -44,25 +45,6 @@ use Rattle.calls.specs.Calls.{Beginning, Submit, SubmitPlan, Poll, Recover, Rep
 use Rattle.answer_words.specs.Lists.{listSize, idList, begunLists, recoveredLists, begunIn, repliedIn, listsOf, putLists}
 use Rattle.calls.specs.Step.{World, worldStore}
 use Rattle.answer_words.proofs.lists.Laws.{id-words-length, put-all}
-
--- ---- at most 128 requests are affected
-insert-length : (rows : List Row) (i : ℕ) (l : List ℕ) → length (insertRow rows i l) ≡ suc (length l)
-insert-length rows i [] = refl
-insert-length rows i (j ∷ js) =
-    caseB (comesBefore rows (idIn rows i) j) (λ e. rw e) (λ e. rw e (ap suc (insert-length rows i js)))
-
-up-to-most : (d : DeviceId) (endpoint : ℕ) (rows : List Row) (n : ℕ) → length (affectedUpTo d endpoint rows n) ≤ 128
-unfolding joined
-up-to-most d endpoint rows zero = omega arith
-up-to-most d endpoint rows (suc n) =
-    let l = affectedUpTo d endpoint rows n in
-    caseB (isAffected d endpoint (rowIn rows n) && ltb (length l) 128)
-    (λ e. rw e (omega (arith, insert-length rows n l, ltb-true (length l) 128 (both (isAffected d endpoint (rowIn rows n)) (ltb (length l) 128) e .1))))
-    (λ e. rw e (up-to-most d endpoint rows n))
-
-affected-most : (d : DeviceId) (endpoint : ℕ) (rows : List Row) → length (affectedOf d endpoint rows) ≤ 128
-unfolding affectedOf
-affected-most d endpoint rows = up-to-most d endpoint rows (length rows)
 
 -- ---- the lists of a recovery's start
 abbrev ShortBegun : Begun → Type 0

@@ -1,14 +1,16 @@
 -- The words beside an answer: lists that it can't hold, each its length and then its items. Assumes nothing.
 use Prim.Native.Nat.{ℕ}
 use mathlib.Core.List.{List, [], _∷_, _++_}
-use lib.ListN.{length, take}
+use lib.ListN.{length, take, drop}
 use lib.Dec.{ltb}
 use Rattle.chain.specs.Chain.{_if_else_}
 use Rattle.words.specs.Records.{splice}
 use Rattle.models.specs.Values.{requestIdWords}
 use Rattle.models.specs.declared.RequestId.{RequestId}
+use Rattle.rows.specs.declared.Row.{Row}
 use Rattle.recovery.specs.Recover.{recoverOf}
 use Rattle.recovery.specs.RecoveryReply.{recoveryReplyOf}
+use Rattle.recovery.specs.Reports.{idLists}
 use Rattle.recovery.specs.declared.BeginAnswer.{BeginAnswer}
 use Rattle.recovery.specs.declared.BeginAnswer.the-variants as begin
 use Rattle.recovery.specs.declared.Begun.{Begun}
@@ -48,6 +50,12 @@ recoveredBy (recovery.Report x) ids = idList (take (x .completed) (ids .complete
 
 unfoldable pub recoveredLists : Recovered → List ℕ
 recoveredLists o = recoveredBy (o .answer) (o .ids)
+
+-- the same of the rows at the first n places, and at the next m
+abbrev pub partLists : List Row → List ℕ → ℕ → ℕ → List ℕ
+partLists rows places n m =
+    let ids = idLists rows (take n places) (take m (drop n places)) in
+    idList (take n (ids .completed)) ++ idList (take m (ids .aborted))
 
 -- the lists of a call: those of a recovery's start and of its reply, and no others
 abbrev pub begunIn : Beginning → World → List ℕ

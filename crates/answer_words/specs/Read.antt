@@ -1,5 +1,6 @@
 -- What an answer's words say, and the answers that they tell whole: those with every number in the range of its type. Assumes nothing.
 use Prim.Native.Nat.{ℕ, _+_, _<_, _^_}
+use mathlib.Core.Bool.{true}
 use mathlib.Core.List.{List}
 use lib.Dec.{eqb}
 use lib.ListN.{getD, drop}
@@ -64,7 +65,7 @@ readAnswer w =
 
 -- the number and the values
 abbrev pub saidIn : List ℕ → Said
-saidIn w = record { number = getD w 1 0; values = drop 2 w } if eqb (getD w 0 0) 0 else says (drop 1 w)
+saidIn w = record { isRefused = true; number = getD w 1 0; values = drop 2 w } if eqb (getD w 0 0) 0 else says (drop 1 w)
 
 -- ---- in the range of its type
 abbrev pub MetadataFits : RequestMetadata → Type 0

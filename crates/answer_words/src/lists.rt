@@ -2,8 +2,9 @@
 use models::RequestId;
 use recovery::BeginAnswer;
 use recovery::Begun;
-use recovery::Recovered;
 use recovery::RecoveryAnswer;
+use recovery::Replied;
+use rows::columns;
 use words::slices;
 ghost use mathlib.Core.Path.{_≡_};
 ghost use mathlib.Core.List.{_++_};
@@ -11,7 +12,9 @@ ghost use Prim.Native.Nat.{_+_, _*_, _≤_, min};
 ghost use lib.ListN.{length, take};
 ghost use Rattle.words.specs.Records.{splice};
 ghost use Rattle.models.specs.Values.{requestIdWords};
-ghost use Rattle.answer_words.specs.Lists.{tokenList, idList, begunLists, recoveredLists, putLists};
+ghost use Rattle.rows.specs.Table.{readRows};
+ghost use Rattle.recovery.specs.Reports.{idsOf, from, manyIn, filled};
+ghost use Rattle.answer_words.specs.Lists.{tokenList, idList, begunLists, partLists, recoveredLists, putLists};
 
 // How many words the lists of an answer have at most.
 pub const WORDS: usize = 386;
@@ -41,37 +44,45 @@ fn put_id(lists: &mut [u64], at: usize, id: RequestId)
     slices::copy_words(lists, at, &[id.session, id.generation, id.sequence], 3);
 }
 
-// The first n ids, from `at` on.
-fn put_ids(lists: &mut [u64], at: usize, ids: [RequestId; 128], n: usize)
-    requires { ⌜ (at + 1 + n * 3 ≤ length (now lists)) × (n ≤ 128) ⌝ }
-    ensures { λ _. ⌜ now (lists .exit) ≡ splice at (idList (take n ids)) (now (lists .entry)) ⌝ }
+// The ids of the rows at the places, from `at` on.
+fn put_ids(lists: &mut [u64], at: usize, rows: &[u64], places: &[usize])
+    requires { ⌜ (at + 1 + length (now places) * 3 ≤ length (now lists)) × (length (now places) ≤ 128) ⌝ }
+    ensures { λ _. ⌜ now (lists .exit)
+        ≡ splice at (idList (idsOf (readRows (now (rows .entry))) (now (places .entry)))) (now (lists .entry)) ⌝ }
 {
+    let n = places.len();
     slices::copy_words(lists, at, &[n as u64], 1);
     let mut k = 0;
     while k < n {
-        put_id(lists, at + 1 + k * 3, ids[k]);
+        let id = columns::id_in(rows, places[k]);
+        put_id(lists, at + 1 + k * 3, id);
         k += 1;
     }
 }
 
-fn put_two(
-    lists: &mut [u64],
-    completed: [RequestId; 128],
-    count: u64,
-    aborted: [RequestId; 128],
-    others: u64,
-)
-    ensures { λ _. ⌜ now (lists .exit)
-        ≡ putLists (idList (take count completed) ++ idList (take others aborted)) (now (lists .entry)) ⌝ }
+// The ids at the first n places, and at the others.
+fn put_two(lists: &mut [u64], rows: &[u64], places: &[usize], n: usize)
+    requires { ⌜ (n ≤ length (now places)) × (length (now places) ≤ 128) ⌝ }
+    ensures { λ _. ⌜ now (lists .exit) ≡ putLists (idList (idsOf (readRows (now (rows .entry))) (take n (now (places .entry))))
+        ++ idList (idsOf (readRows (now (rows .entry))) (from n (now (places .entry))))) (now (lists .entry)) ⌝ }
 {
-    let n = up_to_128(count);
-    let m = up_to_128(others);
+    let m = places.len() - n;
     let second = 1 + n * 3;
     if lists.len() < second + 1 + m * 3 {
         return;
     }
-    put_ids(lists, 0, completed, n);
-    put_ids(lists, second, aborted, m);
+    put_ids(lists, 0, rows, &places[..n]);
+    put_ids(lists, second, rows, &places[n..]);
+}
+
+// The ids at the first n places, and at the next m.
+fn put_parts(lists: &mut [u64], rows: &[u64], places: [usize; 128], n: usize, m: usize)
+    requires { ⌜ n + m ≤ 128 ⌝ }
+    ensures { λ _. ⌜ now (lists .exit)
+        ≡ putLists (partLists (readRows (now (rows .entry))) places n m) (now (lists .entry)) ⌝ }
+{
+    let end = n + m;
+    put_two(lists, rows, &places[..end], n);
 }
 
 // The tokens of the requests that a recovery affects; a refusal has none.
@@ -87,21 +98,21 @@ pub fn write_begun(lists: &mut [u64], begun: Begun)
 }
 
 // The ids of the requests that a recovery completed, and of those that it aborted; a refusal has none.
-pub fn write_recovered(lists: &mut [u64], recovered: Recovered)
-    ensures { λ _. ⌜ now (lists .exit) ≡ putLists (recoveredLists recovered) (now (lists .entry)) ⌝ }
+pub fn write_replied(lists: &mut [u64], rows: &[u64], replied: Replied)
+    requires { ⌜ manyIn (replied .answer) ≤ 128 ⌝ }
+    ensures { λ _. ⌜ now (lists .exit)
+        ≡ putLists (recoveredLists (filled replied (readRows (now (rows .entry))))) (now (lists .entry)) ⌝ }
 {
-    let answer = recovered.answer;
-    let ids = recovered.ids;
-    let completed = ids.completed;
-    let aborted = ids.aborted;
+    let answer = replied.answer;
+    let places = replied.places;
     match answer {
         RecoveryAnswer::Refused(_) => {}
-        RecoveryAnswer::Report(report) => put_two(
+        RecoveryAnswer::Report(report) => put_parts(
             lists,
-            completed,
-            report.completed,
-            aborted,
-            report.aborted,
+            rows,
+            places,
+            report.completed as usize,
+            report.aborted as usize,
         ),
     }
 }

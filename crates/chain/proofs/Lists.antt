@@ -1,16 +1,17 @@
 -- Laws of sums, counts, searches and changes over a list. Assumes nothing.
 use mathlib.Core.Path.{_≡_, refl, sym, ap, _∙_}
-use mathlib.Core.Bool.{Bool, true, false, cond, true≢false}
-use mathlib.Core.List.{List, [], _∷_, map}
+use mathlib.Core.Bool.{Bool, true, false, cond, true≢false, _||_, or-assoc}
+use mathlib.Core.List.{List, [], _∷_, _++_, map}
 use Prim.Native.Nat.{ℕ, zero, suc, _+_, _≤_, _<_}
 use native.Mathlib.Omega.{arith}
 use native.Mathlib.Nat.{le-of-suc-le-suc}
 use lib.ListN.{length, getD, set, take}
-use borrow.Author.Tests.{lt-ltb, le-ltb, ltb-true}
-use Rattle.chain.specs.Lists.{sumBy, only, count, mapAt, find, anyIn, foundIn}
+use lib.Dec.{eqb}
+use borrow.Author.Tests.{eq-eqb, eqb-true, lt-ltb, le-ltb, ltb-true, ltb-false}
+use Rattle.chain.specs.Lists.{sumBy, only, count, mapAt, find, anyIn, foundIn, isAmong, allIn}
 use Rattle.chain.specs.declared.Found.{Found}
 use Rattle.chain.specs.declared.Found.the-variants.{At, Nothing}
-use Rattle.chain.proofs.Chain.{caseB}
+use Rattle.chain.proofs.Chain.{caseB, both}
 
 module _ {A : Type 0} where
   pub sum-eq : (f g : A → ℕ) (l : List A) → ((x : A) → f x ≡ g x) → sumBy f l ≡ sumBy g l
@@ -201,3 +202,28 @@ module _ {A : Type 0} where
       let h : find p l < length l = ltb-true (find p l) (length l) y in
       record { below = omega arith; passes = rw q (find-hit p l d h); index = q })
       (λ y. let z : Nothing ≡ At i = sym (rw y at ef) ∙ e in let n : _≡_ {A = ℕ} 0 1 = cc in absurd (omega arith))
+
+-- ---- numbers in a list
+pub in-cons : (u t : ℕ) (l : List ℕ) → isAmong u (t ∷ l) ≡ (eqb u t || isAmong u l)
+in-cons u t l = caseB (eqb u t)
+    (λ e. rw e (lt-ltb 0 (suc (length l)) (omega arith)))
+    (λ e. rw e (caseB (isAmong u l)
+    (λ y. rw y (lt-ltb (suc (find (eqb u) l)) (suc (length l)) (omega (arith, ltb-true (find (eqb u) l) (length l) y))))
+    (λ y. rw y (le-ltb (suc (find (eqb u) l)) (suc (length l)) (omega (arith, ltb-false (find (eqb u) l) (length l) y))))))
+
+pub in-head : (t : ℕ) (l : List ℕ) → isAmong t (t ∷ l) ≡ true
+in-head t l = let s = eq-eqb t t refl in in-cons t t l ∙ rw s
+
+pub in-append : (t : ℕ) (a b : List ℕ) → isAmong t (a ++ b) ≡ (isAmong t a || isAmong t b)
+in-append t [] b = refl
+in-append t (x ∷ a) b = in-cons t x (a ++ b) ∙ ap (λ (z : Bool). eqb t x || z) (in-append t a b) ∙ sym (or-assoc (eqb t x) (isAmong t a) (isAmong t b))
+    ∙ ap (λ (z : Bool). z || isAmong t b) (sym (in-cons t x a))
+
+pub all-in : (l ts : List ℕ) (t : ℕ) → allIn l ts ≡ true → isAmong t l ≡ true → isAmong t ts ≡ true
+all-in [] ts t a e = absurd (true≢false (sym e))
+all-in (u ∷ us) ts t a e =
+    let p = both (isAmong u ts) (allIn us ts) a in
+    let q : (eqb t u || isAmong t us) ≡ true = sym (in-cons t u us) ∙ e in
+    caseB (eqb t u)
+    (λ y. let z = eqb-true t u y in rw z (p .0))
+    (λ y. all-in us ts t (p .1) (rw y at q))

@@ -1,9 +1,9 @@
 -- Sums, counts, searches and changes over a list, for any type of element. Assumes nothing.
 use Prim.Native.Nat.{ℕ, suc, _+_}
-use mathlib.Core.Bool.{Bool, cond}
+use mathlib.Core.Bool.{Bool, true, cond, _&&_}
 use mathlib.Core.List.{List, [], _∷_, _++_}
 use lib.ListN.{length, take, drop, replicate}
-use lib.Dec.{ltb}
+use lib.Dec.{eqb, ltb}
 use Rattle.chain.specs.declared.Found.{Found}
 use Rattle.chain.specs.declared.Found.the-variants.{At, Nothing}
 
@@ -41,3 +41,11 @@ module _ {A : Type 0} where
   -- a fixed list of n: the first n of l, and z in the places that are left
   unfoldable pub listed : ℕ → A → List A → List A
   listed n z l = take n l ++ drop (length l) (replicate n z)
+
+-- whether a number is in a list, and whether all of one list are in another
+abbrev pub isAmong : ℕ → List ℕ → Bool
+isAmong n l = anyIn (eqb n) l
+
+abbrev pub allIn : List ℕ → List ℕ → Bool
+allIn [] l = true
+allIn (n ∷ ns) l = isAmong n l && allIn ns l

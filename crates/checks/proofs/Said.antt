@@ -3,10 +3,11 @@ use Prim.Native.Nat.{ℕ}
 use mathlib.Core.Bool.{Bool, true}
 use mathlib.Core.List.{List}
 use mathlib.Core.Path.{_≡_, refl}
+use Rattle.chain.specs.Lists.{isAmong}
 use Rattle.chain.proofs.Chain.{if-all}
 use Rattle.words.specs.declared.OptionU32.{OptionU32}
 use Rattle.models.specs.Refusals.{rejected}
-use Rattle.models.specs.Said.{isOneOf, Tabled, verdictSaid}
+use Rattle.models.specs.Said.{Tabled, verdictSaid}
 use Rattle.models.specs.declared.BackendCompletion.{BackendCompletion}
 use Rattle.models.specs.declared.ControlPlan.{ControlPlan}
 use Rattle.models.specs.declared.RequestSpec.{RequestSpec}
@@ -38,7 +39,7 @@ module _ (given : Bool) (packets : List ℕ) (type : TransferType) (size : ℕ) 
       (tabled-stop _ 4 refl _ _ (tabled-stop _ 4 refl _ _ (tabled-stop _ 4 refl _ _ (tabled-says _ _))))
 
 -- a verdict by its number
-pub rejected-tabled : (ns : List ℕ) (n : ℕ) (v : Verdict) → isOneOf ns n ≡ true → v ≡ rejected n → Tabled ns (verdictSaid v)
+pub rejected-tabled : (ns : List ℕ) (n : ℕ) (v : Verdict) → isAmong n ns ≡ true → v ≡ rejected n → Tabled ns (verdictSaid v)
 rejected-tabled ns n v h e = rw e (tabled-own ns n h)
 
 module _ (v : SpecFacts) where

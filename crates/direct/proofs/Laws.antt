@@ -6,13 +6,13 @@ use mathlib.Core.Path.{_≡_, refl, sym, ap, _∙_}
 use lib.Dec.{eqb}
 use lib.ListN.{getD}
 use native.Mathlib.Omega.{arith}
-use borrow.Author.Tests.{ne-eqb, eq-eqb}
+use borrow.Author.Tests.{ne-eqb, eq-eqb, not-true}
 use Rattle.chain.specs.After.{After, after}
 use Rattle.chain.specs.Chain.{_if_else_}
 use Rattle.chain.specs.Lists.{foundIn}
 use Rattle.chain.specs.declared.Found.{Found}
 use Rattle.chain.specs.declared.Found.the-variants as found
-use Rattle.chain.proofs.Chain.{caseB, both, not-through}
+use Rattle.chain.proofs.Chain.{caseB, both, not-through, fits-told}
 use Rattle.models.specs.Refusals.{refusalOf}
 use Rattle.models.specs.Requests.{sameRequest, isPending}
 use Rattle.models.specs.declared.Refusal.{Refusal}
@@ -37,6 +37,7 @@ use Rattle.session.specs.Lent.{storeFits}
 use Rattle.session.specs.Session.{isBusy, isInitialized, withFlight}
 use Rattle.session.specs.Sizes.{rowsFit}
 use Rattle.session.specs.Start.{guarded, readyOf}
+use Rattle.session.specs.declared.InFlight.{InFlight}
 use Rattle.session.specs.declared.InFlight.the-variants as flight
 use Rattle.session.specs.declared.Session.{Session}
 use Rattle.session.specs.declared.Size.{Size}
@@ -53,7 +54,8 @@ use Rattle.reports.specs.declared.Reported.{Reported}
 use Rattle.reports.specs.declared.ReportAnswer.{ReportAnswer}
 use Rattle.reports.proofs.change.Laws as change
 use Rattle.reports.proofs.status.Laws as status
-use Rattle.session_words.specs.State.{readRequestId, readSession, isSession, Kept, keptOf, keptAs}
+use Rattle.session_words.specs.Fields.{isSubmitFlight, flightId}
+use Rattle.session_words.specs.State.{readSession, isSession, Kept, keptOf, keptAs}
 use Rattle.session_words.proofs.Own.{written-same}
 use Rattle.calls.specs.Answers.{ofReport, ofPoll}
 use Rattle.calls.specs.declared.Answer.{Answer}
@@ -66,17 +68,33 @@ pub fits-is : (l : List ℕ) (z : Size) (words : ℕ) (r : Bool) → z ≡ readS
 fits-is l z words r ez er = er ∙ rw ez
 
 -- whether an id's submission is in flight
-module _ (l : List ℕ) (id : RequestId) (tag : ℕ) (et : tag ≡ getD l 15 0) where
-  pub submitting-not : (tag ≡ 1 → ⊥) → false ≡ isSubmitting (readSession l .«in_flight») id
-  unfolding readSession
-  submitting-not h =
-      rw (← et, ne-eqb tag 1 h)
-      (caseB (eqb tag 0) (λ t. rw t) (λ t. rw t (caseB (eqb tag 2) (λ u. rw u) (λ u. rw u))))
+submitting-no : (f : InFlight) (id : RequestId) → isSubmitFlight f ≡ false → false ≡ isSubmitting f id
+submitting-no flight.Nothing id e = refl
+submitting-no (flight.Submission own) id e = let z : _≡_ {A = ℕ} 0 1 = cc in absurd (omega arith)
+submitting-no (flight.Poll own) id e = refl
+submitting-no (flight.Recovery x) id e = refl
 
-  pub submitting-own : (own : RequestId) (b : Bool) → tag ≡ 1 → own ≡ readRequestId l 16 → b ≡ sameRequest own id
-      → b ≡ isSubmitting (readSession l .«in_flight») id
-  unfolding readSession
-  submitting-own own b t eo eb = eb ∙ rw (← et, t, eo)
+submitting-yes : (f : InFlight) (id : RequestId) → isSubmitFlight f ≡ true → sameRequest (flightId f) id ≡ isSubmitting f id
+submitting-yes flight.Nothing id e = let z : _≡_ {A = ℕ} 0 1 = cc in absurd (omega arith)
+submitting-yes (flight.Submission own) id e = refl
+submitting-yes (flight.Poll own) id e = let z : _≡_ {A = ℕ} 0 1 = cc in absurd (omega arith)
+submitting-yes (flight.Recovery x) id e = let z : _≡_ {A = ℕ} 0 1 = cc in absurd (omega arith)
+
+submission-flies : (f : InFlight) → isSubmitFlight f ≡ true → isBusy f ≡ true
+submission-flies flight.Nothing e = let z : _≡_ {A = ℕ} 0 1 = cc in absurd (omega arith)
+submission-flies (flight.Submission own) e = refl
+submission-flies (flight.Poll own) e = refl
+submission-flies (flight.Recovery x) e = refl
+
+module _ (f : InFlight) (b : Bool) (eb : b ≡ isSubmitFlight f) where
+  pub submitting-not : (id : RequestId) → not b ≡ true → false ≡ isSubmitting f id
+  submitting-not id t = submitting-no f id (sym eb ∙ not-true b t)
+
+  pub submission-busy : not b ≡ false → isBusy f ≡ true
+  submission-busy t = submission-flies f (fits-told b _ eb t)
+
+  pub submitting-own : (id own : RequestId) (r : Bool) → not b ≡ false → own ≡ flightId f → r ≡ sameRequest own id → r ≡ isSubmitting f id
+  submitting-own id own r t eo er = er ∙ ap (λ (x : RequestId). sameRequest x id) eo ∙ submitting-yes f id (fits-told b _ eb t)
 
 -- the start of a call
 module _ (s : Session) (fits f b : Bool) (eb : b ≡ isBusy (s .«in_flight»)) where

@@ -12,8 +12,6 @@ use models::Verdict;
 use rows::columns;
 use session::sizes;
 use session_words::fields;
-use session_words::state;
-use words::slices::word_at;
 ghost use mathlib.Core.Bool.{true, false};
 ghost use mathlib.Core.Path.{_≡_};
 ghost use Prim.Native.Nat.{_<_};
@@ -82,11 +80,10 @@ fn rows_ready(session: &[u64], words: usize) -> Verdict
 fn is_submitting(session: &[u64], id: RequestId) -> bool
     ensures { λ r. ⌜ r ≡ isSubmitting (sessionIn session .«in_flight») id ⌝ }
 {
-    let tag = word_at(session, 15);
-    if tag != 1 {
+    if !fields::is_submitting(session) {
         return false;
     }
-    let own = state::id_at(session, 16);
+    let own = fields::flight_id(session);
     models::same_request(own, id)
 }
 

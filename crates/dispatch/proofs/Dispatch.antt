@@ -26,7 +26,7 @@ use Rattle.calls.specs.declared.Outcome.{Outcome}
 use Rattle.answer_words.proofs.Room.{lists-put}
 use Rattle.session_words.proofs.Own.{written-same}
 use Rattle.direct.specs.Direct.{polledTold}
-use Rattle.dispatch.specs.Apply.{isByValue, Ran, ran, runOf, Buffers, buffers, worldOf, wrote, ranOn, answered, dispatchOf}
+use Rattle.dispatch.specs.Apply.{isByValue, isOther, Ran, ran, runOf, Buffers, buffers, worldOf, wrote, ranOn, answered, dispatchOf}
 use Rattle.call_words.specs.Decode.{readPlacing, readMoving, readSubmission, readReplying, readChanging, readReporting, readRecovering, readCall}
 use Rattle.dispatch.proofs.Steps.{unlisted, ran-said, ran-kept}
 
@@ -47,10 +47,6 @@ module _ (n : ℕ) (w bytes : List ℕ) (v : World) where
   unfolding readSubmission listsOf
   submission-none = if-all (Unlisted v) _ _ _ refl refl
 
-  replying-none : Unlisted v (readReplying n w bytes)
-  unfolding readReplying listsOf
-  replying-none = if-all (Unlisted v) _ _ _ refl (if-all (Unlisted v) _ _ _ refl refl)
-
   pub reporting-none : Unlisted v (readReporting n w)
   unfolding readReporting listsOf
   reporting-none =
@@ -62,20 +58,28 @@ or-false : (a b : Bool) → (a || b) ≡ false → (a ≡ false) × (b ≡ false
 or-false true b e = let z : _≡_ {A = ℕ} 0 1 = cc in absurd (omega arith)
 or-false false b e = (refl, e)
 
-pub by-value-is : (n : ℕ) (w : List ℕ) → n ≡ getD w 0 0 → isByValue n ≡ true → isByValue (getD w 0 0) ≡ true
-by-value-is n w en v = rw (← en) v
+pub other-is : (n : ℕ) (w : List ℕ) → n ≡ getD w 0 0 → isOther n ≡ true → isOther (getD w 0 0) ≡ true
+other-is n w en v = rw (← en) v
 
-pub not-poll : (n : ℕ) (w : List ℕ) → n ≡ getD w 0 0 → isByValue (getD w 0 0) ≡ true → n ≡ 11 → ⊥
-not-poll n w en v e =
-    let z : isByValue 11 ≡ true = rw (← en, e) at v in
+-- by value, where it is no reply
+pub by-value-is : (n : ℕ) (w : List ℕ) → n ≡ getD w 0 0 → isOther (getD w 0 0) ≡ true → (n ≡ 10 → ⊥) → (n ≡ 12 → ⊥) → isByValue (getD w 0 0) ≡ true
+by-value-is n w en v n10 n12 =
+    let u : isOther n ≡ true = rw (← en) at v in
+    let t : isByValue n ≡ true =
+    caseB (ltb n 10) (λ e. rw e)
+    (λ e.
+    let h = ltb-false n 10 e in
+    rw e (caseB (ltb 21 n) (λ f. f) (λ f.
+    let z : (false || false || false) ≡ true = rw (le-ltb n 11 (omega arith), ne-eqb n 12 n12, f) at u in
     let y : _≡_ {A = ℕ} 0 1 = cc in
-    omega arith
+    absurd (omega arith)))) in
+    rw en at t
 
-by-value-late : (n : ℕ) → isByValue n ≡ true → 12 < n → 21 < n
+by-value-late : (n : ℕ) → isByValue n ≡ true → 9 < n → 21 < n
 by-value-late n v h =
     caseB (ltb 21 n) (λ e. ltb-true 21 n e)
     (λ e.
-    let z : (false || false || false) ≡ true = rw (le-ltb n 11 (omega arith), ne-eqb n 12 (λ q. omega arith), e) at v in
+    let z : (false || false) ≡ true = rw (le-ltb n 10 (omega arith), e) at v in
     let y : _≡_ {A = ℕ} 0 1 = cc in
     omega arith)
 
@@ -84,19 +88,16 @@ record InPlace (n : ℕ) : Type 0 where
   reply : n ≡ 12 → ⊥
   most : n ≤ 21
 
-in-place : (n : ℕ) → isByValue n ≡ false → InPlace n
+in-place : (n : ℕ) → isOther n ≡ false → InPlace n
 in-place n v =
     let p = or-false (ltb n 11 || eqb n 12) (ltb 21 n) v in
     let q = or-false (ltb n 11) (eqb n 12) (p .0) in
     record { least = ltb-false n 11 (q .0); reply = eqb-false n 12 (q .1); most = ltb-false 21 n (p .1) }
 
 -- ---- the call that the words say; l is lent for lists
--- its step, whatever the bus and the area, and whatever the bus
+-- its step, whatever the bus and the area
 abbrev StepsRows : Call → Outcome → Store → Session → Store → Type 0
 StepsRows c r next s store = (b : Bus) (area : List ℕ) → after r (lent b (memory next area)) ≡ stepOf c (world s (lent b (memory store area)))
-
-abbrev StepsMemory : Call → Outcome → Memory → Session → Memory → Type 0
-StepsMemory c r next s m = (b : Bus) → after r (lent b next) ≡ stepOf c (world s (lent b m))
 
 module _ (n : ℕ) (w bytes l : List ℕ) (en : n ≡ getD w 0 0) where
   -- 0 to 4
@@ -119,21 +120,14 @@ module _ (n : ℕ) (w bytes l : List ℕ) (en : n ≡ getD w 0 0) where
       submit-said o v t h = unlisted (readSubmission n w bytes) (readCall w bytes) v o l (rw (← en) (search chain depth 20)) (submission-none n w bytes v) h
 
       module _ (n9 : 9 < n) (r : Outcome) (s : Session) (b : Bus) where
-        -- 10 to 12
-        pub reply-said : (next m : Memory) → n ≤ 12 → StepsMemory (readReplying n w bytes) r next s m
-            → ran (after r (lent b next)) l ≡ runOf (readCall w bytes) (world s (lent b m)) l
-        unfolding readCall
-        reply-said next m t h =
-            unlisted (readReplying n w bytes) (readCall w bytes) _ _ l (rw (← en) (search chain depth 20)) (replying-none n w bytes _) (h b)
-
         -- 22 to 24
-        pub recover-said : (next m : Memory) (k : List ℕ) → isByValue (getD w 0 0) ≡ true → 12 < n
+        pub recover-said : (next m : Memory) (k : List ℕ) → isByValue (getD w 0 0) ≡ true
             → ((o : Bus) → ran (after r (lent o next)) k ≡ runOf (readRecovering n w bytes) (world s (lent o m)) l)
             → ran (after r (lent b next)) k ≡ runOf (readCall w bytes) (world s (lent b m)) l
         unfolding readCall
-        recover-said next m k v n12 h =
-            let n21 : 21 < n = by-value-late n (rw (← en) at v) n12 in
-            let n15 : 15 < n = omega arith in
+        recover-said next m k v h =
+            let n21 : 21 < n = by-value-late n (rw (← en) at v) n9 in
+            let n12 : 12 < n = omega arith in let n15 : 15 < n = omega arith in
             ran-said (readRecovering n w bytes) (readCall w bytes) _ _ l (rw (← en) (search chain depth 20)) (h b)
 
 -- what was lent before is s, a, out and l, and after it s', a', out' and l'
@@ -172,7 +166,7 @@ module _ (n : ℕ) (w bytes : List ℕ) (en : n ≡ getD w 0 0) where
       let n10 : n ≡ 10 → ⊥ = λ z. omega arith in
       rw (← en) (search chain depth 20)
 
-  changing : isByValue n ≡ false → (n ≡ 11 → ⊥) → n ≤ 15 → readChanging n w ≡ readCall w bytes
+  changing : isOther n ≡ false → (n ≡ 11 → ⊥) → n ≤ 15 → readChanging n w ≡ readCall w bytes
   unfolding readCall
   changing v n11 h =
       let p = in-place n v in
@@ -180,14 +174,14 @@ module _ (n : ℕ) (w bytes : List ℕ) (en : n ≡ getD w 0 0) where
       let d : 12 < n = omega arith in let a : 4 < n = omega arith in let b : 7 < n = omega arith in let c : 9 < n = omega arith in
       rw (← en) (search chain depth 20)
 
-  reporting : isByValue n ≡ false → 15 < n → readReporting n w ≡ readCall w bytes
+  reporting : isOther n ≡ false → 15 < n → readReporting n w ≡ readCall w bytes
   unfolding readCall
   reporting v h =
       let k = in-place n v .most in
       let d : 12 < n = omega arith in let a : 4 < n = omega arith in let b : 7 < n = omega arith in let c : 9 < n = omega arith in
       rw (← en) (search chain depth 20)
 
-  module _ (v : isByValue n ≡ false) (s out after-out l : List ℕ) (b : Bus) where
+  module _ (v : isOther n ≡ false) (s out after-out l : List ℕ) (b : Bus) where
     pub change-ran : (next store : Store) (area : List ℕ) → (n ≡ 11 → ⊥) → n ≤ 15
         → ((o : Bus) (u k : List ℕ) → buffers (keptOf s) (lent o (memory next u)) after-out k
         ≡ ranOn (readChanging n w) (buffers (keptOf s) (lent o (memory store u)) out k))

@@ -3,15 +3,12 @@ use Prim.Native.Nat.{ℕ}
 use mathlib.Core.List.{List, []}
 use mathlib.Core.Path.{_≡_, ap, _∙_}
 use Rattle.chain.specs.After.{After, after}
-use Rattle.rows.specs.Store.{Store}
-use Rattle.session.specs.Lent.{Lent, memory, lent}
-use Rattle.reports.specs.declared.Reported.{Reported}
-use Rattle.calls.specs.Answers.{outcome, ofReport}
+use Rattle.session.specs.Lent.{Lent}
 use Rattle.calls.specs.Calls.{Call}
 use Rattle.answer_words.specs.Encode.{answerWords, written}
 use Rattle.answer_words.specs.Lists.{listsOf, putLists}
 use Rattle.session_words.specs.State.{Kept, readSession, keptOf, keptAs}
-use Rattle.calls.specs.Step.{World, world, reports, stepOf}
+use Rattle.calls.specs.Step.{World, world, stepOf}
 use Rattle.calls.specs.declared.Outcome.{Outcome}
 use Rattle.answer_words.proofs.lists.Laws.{put-none}
 use Rattle.dispatch.specs.Apply.{Ran, ran, runOf, buffers, wrote, ranOn}
@@ -40,8 +37,3 @@ ran-kept c d s out after-out l a left k o e n h ek eo =
     ap (λ (z : Kept). buffers z left after-out l) ek
     ∙ ap (λ (z : List ℕ). buffers (keptAs s (o .session)) left z l) eo
     ∙ ap (λ (z : Ran). wrote z (buffers (keptOf s) a out l)) (unlisted c d (world (readSession s) a) (after o left) l e n h)
-
-pub reported : (r : Outcome) (next : Store) (v : World) (x : Reported) (o : After Reported Store) → r ≡ outcome (ofReport (x .answer)) (x .session)
-    → after x next ≡ o → after r (lent (v .lent .bus) (memory next (v .lent .memory .area))) ≡ reports o v
-reported r next v x o er h =
-    ap (λ (z : Outcome). after z (lent (v .lent .bus) (memory next (v .lent .memory .area)))) er ∙ ap (λ (z : After Reported Store). reports z v) h

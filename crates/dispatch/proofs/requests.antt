@@ -1,6 +1,5 @@
 pub mod Submit
 pub mod Reply
-pub mod Plain
 pub mod Change
 pub mod Read
 pub mod Recover

@@ -54,9 +54,13 @@ ranOn c x = wrote (runOf c (worldOf x) (x .lists)) x
 abbrev pub answered : Call → Buffers → Buffers
 answered c x = wrote (ran (stepOf c (worldOf x)) (splice 0 (listsOf c (worldOf x)) (x .lists))) x
 
--- the calls that carry the session by value, but 10 and 12 where the reply is plain; of the others 11, 13 to 16 are made in place, and all but 11 leave the session
+-- the calls that carry the session by value; of the others 10 to 16 are made in place, and all but 10 to 12 leave the session
 abbrev pub isByValue : ℕ → Bool
-isByValue n = ltb n 11 || eqb n 12 || ltb 21 n
+isByValue n = ltb n 10 || ltb 21 n
+
+-- those, and the replies to a submission and to a poll
+abbrev pub isOther : ℕ → Bool
+isOther n = ltb n 11 || eqb n 12 || ltb 21 n
 
 -- a status. 1: no call; 2: not a session's own words; 3: too few words for the answer; 4: too few words for lists. Then nothing changes
 unfoldable pub dispatchOf : List ℕ → List ℕ → Buffers → After ℕ Buffers

@@ -11,7 +11,6 @@ use Rattle.calls.specs.Calls.{Call}
 use Rattle.calls.specs.Step.{World, world, stepOf}
 use Rattle.calls.specs.declared.Outcome.{Outcome}
 use Rattle.session_words.specs.State.{Kept, keptOf}
-use Rattle.call_words.specs.Decode.{readReplying}
 use Rattle.dispatch.specs.Apply.{ran, runOf, Buffers, buffers, ranOn}
 
 abbrev pub worldIn : Session → Slice → Slice → Slice → World
@@ -31,11 +30,7 @@ abbrev pub StepsRows : Outcome → Call → Session → Slice → Type 0
 StepsRows r c s rows =
     (b : Bus) (area : List ℕ) → after r (lent b (memory (storeOut rows) area)) ≡ stepOf c (world s (lent b (memory (storeIn rows) area)))
 
--- of a call that does not take the bus
-abbrev pub StepsMemory : Outcome → Call → Session → Slice → Slice → Type 0
-StepsMemory r c s rows area = (b : Bus) → after r (lent b (memoryOut rows area)) ≡ stepOf c (world s (lent b (memoryIn rows area)))
-
--- of a call that besides leaves all as it is
+-- of a call that does not take the bus, and leaves all as it is
 abbrev pub ReadsMemory : Outcome → Call → Session → Slice → Slice → Type 0
 ReadsMemory r c s rows area = (b : Bus) → after r (lent b (memoryIn rows area)) ≡ stepOf c (world s (lent b (memoryIn rows area)))
 
@@ -50,12 +45,6 @@ abbrev pub WritesRows : Call → Slice → Slice → Slice → Type 0
 WritesRows c session rows out =
     (b : Bus) (area lists : List ℕ) → buffers (keptIn session) (lent b (memory (storeOut rows) area)) (now (out .exit)) lists
     ≡ ranOn c (buffers (keptIn session) (lent b (memory (storeIn rows) area)) (now (out .entry)) lists)
-
--- of a reply, in words w, that leaves the area and takes neither the bus nor the bytes nor lists
-abbrev pub WritesReply : ℕ → List ℕ → Slice → Slice → Slice → Slice → Type 0
-WritesReply n w session rows area out =
-    (b : Bus) (bytes lists : List ℕ) → buffers (keptOf (now (session .exit))) (lent b (memory (storeOut rows) (now (area .entry)))) (now (out .exit)) lists
-    ≡ ranOn (readReplying n w bytes) (buffers (keptIn session) (lent b (memoryIn rows area)) (now (out .entry)) lists)
 
 -- of one that leaves all but its answer
 abbrev pub WritesAnswer : Call → Slice → Slice → Slice → Slice → Type 0

@@ -3,6 +3,7 @@ use answer_words::encode;
 use answer_words::lists;
 use call_words::form;
 use calls::Outcome;
+use direct::replies;
 use session::Session;
 use session_words::state;
 use words::slices::word_at;
@@ -13,7 +14,7 @@ ghost use Rattle.chain.specs.After.{after};
 ghost use Rattle.session.specs.Lent.{lentOut};
 ghost use Rattle.session_words.specs.State.{isSession};
 ghost use Rattle.call_words.specs.Decode.{readCall};
-ghost use Rattle.dispatch.specs.Apply.{isByValue, ran, runOf, ranOn, dispatchOf};
+ghost use Rattle.dispatch.specs.Apply.{isByValue, isOther, ran, runOf, ranOn, dispatchOf};
 ghost use Rattle.dispatch.specs.Slices.{worldIn, buffersIn, buffersOut};
 
 mod controller;
@@ -45,9 +46,6 @@ fn step(
     if number <= 9 {
         return requests::submit_call(number, session, bus, rows, area, call, bytes);
     }
-    if number <= 12 {
-        return requests::reply_call(number, session, rows, area, call, bytes);
-    }
     requests::recover_call(number, session, rows, area, call, bytes, lists)
 }
 
@@ -74,7 +72,7 @@ fn answer_by_value(
     encode::write_answer(out, answer);
 }
 
-// Runs such a call, a plain reply in place.
+// Runs such a call, or a reply, 10 and 12.
 fn answer_other(
     session: &mut [u64],
     bus: &mut [u64],
@@ -85,14 +83,16 @@ fn answer_other(
     out: &mut [u64],
     lists: &mut [u64],
 )
-    requires { ⌜ (isSession (now session) ≡ true) × (isByValue (getD (now call) 0 0) ≡ true) ⌝ }
+    requires { ⌜ (isSession (now session) ≡ true) × (isOther (getD (now call) 0 0) ≡ true) ⌝ }
     ensures { λ _. ⌜ buffersOut session bus rows area out lists
         ≡ ranOn (readCall (now (call .entry)) (now (bytes .entry))) (buffersIn session bus rows area out lists) ⌝ }
 {
     let number = word_at(call, 0);
-    let kind = word_at(call, 1);
-    if ((number == 10) | (number == 12)) & (kind == 0) {
-        return requests::plain_reply(number, session, rows, area, call, out);
+    if number == 10 {
+        return replies::submit_reply(session, rows, call, out);
+    }
+    if number == 12 {
+        return replies::poll_reply(session, rows, area, call, bytes, out);
     }
     answer_by_value(session, bus, rows, area, call, bytes, out, lists)
 }

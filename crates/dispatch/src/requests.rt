@@ -1,12 +1,10 @@
-// Calls 8 to 24: requests, what is reported of them, and recoveries.
+// Calls 8, 9 and 13 to 24: requests, what is reported of them, and recoveries.
 use answer_words::encode;
 use answer_words::lists;
 use call_words::arguments;
 use calls::Answer;
 use calls::Outcome;
 use calls::answers;
-use direct::replies;
-use polls::poll_reply;
 use recovery::recover;
 use recovery::recovery_reply;
 use reports::status;
@@ -14,19 +12,17 @@ use session::Session;
 use session_words::state;
 use submissions::plan;
 use submissions::submit;
-use submissions::submit_reply;
 use words::slices;
 use words::slices::word_at;
 ghost use mathlib.Core.Bool.{true};
 ghost use mathlib.Core.Path.{_≡_};
-ghost use lib.ListN.{getD};
 ghost use Rattle.chain.specs.After.{after};
 ghost use Rattle.session.specs.Lent.{lentOut};
 ghost use Rattle.session_words.specs.State.{isSession};
 ghost use Rattle.calls.specs.Answers.{outcome};
 ghost use Rattle.calls.specs.Step.{stepOf};
-ghost use Rattle.call_words.specs.Decode.{readSubmission, readReplying, readChanging, readReporting, readRecovering};
-ghost use Rattle.dispatch.specs.Slices.{worldIn, StepsMemory, ReadsMemory, RunsMemory, WritesRows, WritesReply, WritesAnswer};
+ghost use Rattle.call_words.specs.Decode.{readSubmission, readChanging, readReporting, readRecovering};
+ghost use Rattle.dispatch.specs.Slices.{worldIn, ReadsMemory, RunsMemory, WritesRows, WritesAnswer};
 
 // 8 and 9: submissions.
 pub(crate) fn submit_call(
@@ -61,45 +57,6 @@ pub(crate) fn submit_call(
     let q = arguments::plan(call);
     let first = arguments::reading_at(call, 14);
     answers::of_planned(plan::submit_control_plan(session, bus, rows, area, q, bytes, first))
-}
-
-// 10 and 12: their replies, and those of polls, whatever the bus.
-pub(crate) fn reply_call(
-    number: u64,
-    session: Session,
-    rows: &mut [u64],
-    area: &mut [u8],
-    call: &[u64],
-    bytes: &[u8],
-) -> Outcome
-    requires { ⌜ (number ≡ 11 → ⊥) ⌝ }
-    ensures { λ r. ⌜ StepsMemory r (readReplying number (now (call .entry)) (now (bytes .entry))) session rows area ⌝ }
-{
-    if number == 10 {
-        let answer = arguments::submit_reply(call);
-        return answers::of_reported(submit_reply::submit_reply(session, rows, answer));
-    }
-    let answer = arguments::poll_reply(call);
-    answers::of_reported(poll_reply::poll_reply(session, rows, area, answer, bytes))
-}
-
-// 10 with a token and 12 with nothing, in place, whatever the bus, the bytes and the lists.
-pub(crate) fn plain_reply(
-    number: u64,
-    session: &mut [u64],
-    rows: &mut [u64],
-    area: &[u8],
-    call: &[u64],
-    out: &mut [u64],
-)
-    requires { ⌜ (isSession (now session) ≡ true) × (number ≡ 11 → ⊥) × (getD (now call) 1 0 ≡ 0) ⌝ }
-    ensures { λ _. ⌜ WritesReply number (now (call .entry)) session rows area out ⌝ }
-{
-    if number == 10 {
-        let token = word_at(call, 2);
-        return replies::submit_accepted(session, rows, token, out);
-    }
-    replies::poll_nothing(session, rows, area, out)
 }
 
 // 13 to 15: changes of one request, in place, whatever the bus, the area and the lists.
@@ -208,7 +165,7 @@ fn recovered(
     let tokens = arguments::completed(call);
     let completions = arguments::completions(call);
     let aborted = arguments::aborted(call);
-    let recovered = recovery_reply::recovery_reply(
+    let replied = recovery_reply::reply_by_places(
         session,
         rows,
         area,
@@ -218,6 +175,6 @@ fn recovered(
         aborted,
         bytes,
     );
-    lists::write_recovered(lists, recovered);
-    answers::of_recovered(recovered)
+    lists::write_replied(lists, rows, replied);
+    answers::of_replied(replied)
 }

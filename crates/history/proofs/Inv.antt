@@ -4,12 +4,11 @@ use mathlib.Core.Path.{_≡_, refl, sym, _∙_, subst}
 use mathlib.Core.Bool.{true, false, true≢false}
 use mathlib.Core.List.{List, _∷_}
 use native.Mathlib.Omega.{arith}
-use borrow.Author.Tests.{eq-eqb}
 use lib.Dec.{eqb}
 use lib.ListN.{length, set, replicate}
-use Rattle.chain.specs.Lists.{count}
+use Rattle.chain.specs.Lists.{count, isAmong}
 use Rattle.chain.proofs.Chain.{caseB, if-all}
-use Rattle.chain.proofs.Lists.{sum-none}
+use Rattle.chain.proofs.Lists.{sum-none, in-cons, in-head}
 use Rattle.words.specs.declared.OptionU64.{OptionU64}
 use Rattle.words.specs.declared.OptionU64.the-variants as u64
 use Rattle.models.specs.declared.OperationError.{OperationError}
@@ -23,8 +22,6 @@ use Rattle.session.specs.declared.InFlight.{InFlight}
 use Rattle.session.specs.declared.InFlight.the-variants as flight
 use Rattle.session.specs.declared.Session.{Session}
 use Rattle.reports.specs.Answers.{effect}
-use Rattle.scope.specs.Scope.{isAmong}
-use Rattle.scope.proofs.tokens.Laws.{in-cons}
 use Rattle.runs.specs.Run.{noted}
 use Rattle.runs.proofs.Held.{or-false}
 use Rattle.history.specs.Journal.{Entry, Journal, isEntry, entryOf, atEntry, atWaiting, endedWith, releasedAll}
@@ -118,6 +115,6 @@ module _ (s : Session) (rows : List Row) (j : Journal) (seen : List ℕ) (k : In
     led = led-closed rows (j .entries) (replicate size emptyRow) (k .led) (λ w. none-held w size) (λ x. omega (arith, none-at x size));
     fresh = λ i h. closed-ids _ (j .entries) ∙ k .past (record { session = n; generation = 0; sequence = i }) new;
     past = λ x h. closed-ids x (j .entries) ∙ k .past x (or-false (eqb (x .session) n) (isAmong (x .session) seen) (sym (in-cons (x .session) n seen) ∙ h) .1);
-    here = let h = eq-eqb n n refl in in-cons n n seen ∙ rw h;
+    here = in-head n seen;
     agree = k .agree ∙ flight-none (s .«in_flight») b;
   }

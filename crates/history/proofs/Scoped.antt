@@ -7,13 +7,13 @@ use native.Mathlib.Omega.{arith}
 use borrow.Author.Tests.{eqb-true, ltb-true}
 use lib.Dec.{eqb}
 use lib.ListN.{length, getD, length-map, List·getD-map}
-use Rattle.chain.specs.Lists.{count, find}
+use Rattle.chain.specs.Lists.{count, find, isAmong}
 use Rattle.chain.proofs.Lists.{find-hit, getD-any}
 use Rattle.models.specs.declared.DeviceId.{DeviceId}
 use Rattle.rows.specs.Table.{isHeld, rowIn, tokenIn}
 use Rattle.rows.specs.declared.Row.{Row}
 use Rattle.scope.specs.Affected.{affectedOf}
-use Rattle.scope.specs.Scope.{slotOf, isAmong, inScope}
+use Rattle.scope.specs.Scope.{slotOf, inScope}
 use Rattle.session.specs.Lent.{Memory}
 use Rattle.session.specs.declared.Size.{Size}
 use Rattle.recovery.specs.RecoveryReply.{ReplyLists, rowsMeant}

@@ -1,7 +1,7 @@
 -- What a recovery that succeeded leaves of each row. Assumes nothing.
 use Prim.Native.Nat.{ℕ, _≤_, _<_}
 use mathlib.Core.Path.{_≡_, refl, sym, ap, _∙_, subst}
-use mathlib.Core.Bool.{Bool, true, false, cond, not, _&&_, _||_, false≢true}
+use mathlib.Core.Bool.{Bool, true, false, cond, not, _&&_}
 use mathlib.Core.List.{List, [], _∷_, _++_, map}
 use native.Mathlib.Omega.{arith}
 use borrow.Author.Tests.{eq-eqb, ne-eqb, eqb-true, eqb-false, ltb-true}
@@ -9,10 +9,10 @@ use lib.Dec.{eqb}
 use lib.ListN.{length, getD, set, take, drop, length-set, length-map, List·getD-map}
 use lib.Seq.{getD-set-same, getD-set-other, ext-getD}
 use Rattle.chain.specs.Chain.{_if_else_}
-use Rattle.chain.specs.Lists.{sumBy, count}
+use Rattle.chain.specs.Lists.{sumBy, count, isAmong, allIn}
 use Rattle.chain.specs.After.{After}
 use Rattle.chain.proofs.Chain.{caseB, if-by, both}
-use Rattle.chain.proofs.Lists.{sum-part, find-hit, getD-any}
+use Rattle.chain.proofs.Lists.{sum-part, find-hit, getD-any, in-cons, in-append, all-in}
 use Rattle.words.specs.declared.OptionU32.{OptionU32}
 use Rattle.words.specs.declared.OptionU32.the-variants as u32
 use Rattle.words.specs.declared.OptionU64.{OptionU64}
@@ -39,9 +39,8 @@ use Rattle.session.specs.declared.InFlight.{InFlight}
 use Rattle.session.specs.declared.InFlight.the-variants as flight
 use Rattle.session.specs.declared.Session.{Session}
 use Rattle.scope.specs.Affected.{isAffected, affectedOf, tokensOf}
-use Rattle.scope.specs.Scope.{isAmong, slotOf, eachOnce, allIn, inScope}
+use Rattle.scope.specs.Scope.{slotOf, eachOnce, inScope}
 use Rattle.scope.specs.Returned.{Returned}
-use Rattle.scope.proofs.tokens.Laws.{in-cons, in-append}
 use Rattle.session.specs.declared.Size.{Size}
 use Rattle.session.specs.declared.Recovery.{Recovery}
 use Rattle.recovery.specs.Entries.{rowCompletedBy, testedBy, completeOne, abortedBy, abortOne, applyAll}
@@ -344,14 +343,6 @@ module _ (d : DeviceId) (endpoint : ℕ) (rows : List Row) (few : count isHeld r
       let one : isToken t (rowView (rowIn rows i)) ≡ 1 = rw same in
       let w : rowW (scoped d endpoint (isToken t)) (rowIn rows i) ≡ 1 = sym (affected-cond d endpoint (rowIn rows i) (isToken t (rowView (rowIn rows i)))) ∙ rw (e, one) in
       weighed-in t (affectedOf d endpoint rows) (omega (arith, affected-weighs d endpoint rows few (isToken t), sum-part (rowW (scoped d endpoint (isToken t))) rows i emptyRow h, w))
-
-  all-in : (l ts : List ℕ) (t : ℕ) → allIn l ts ≡ true → isAmong t l ≡ true → isAmong t ts ≡ true
-  all-in [] ts t a e = absurd (false≢true e)
-  all-in (u ∷ us) ts t a e =
-      let p = both (isAmong u ts) (allIn us ts) a in
-      caseB (eqb t u)
-      (λ y. let z = eqb-true t u y in ap (λ (n : ℕ). isAmong n ts) z ∙ p .0)
-      (λ y. let q : (eqb t u || isAmong t us) ≡ true = sym (in-cons t u us) ∙ e in all-in us ts t (p .1) (or-right (eqb t u) (isAmong t us) y q))
 
   own-token : (t : ℕ) → isAmong t own ≡ true → tokenIn rows (place t) ≡ t
   own-token t e =

@@ -5,7 +5,7 @@ use mathlib.Core.Bool.{true, false, cond, true≢false}
 use mathlib.Core.List.{List}
 use borrow.Author.Tests.{not-true}
 use lib.ListN.{length}
-use Rattle.chain.specs.Lists.{count}
+use Rattle.chain.specs.Lists.{count, isAmong}
 use Rattle.chain.specs.After.{After, after}
 use Rattle.chain.proofs.Chain.{if-all, if-by}
 use Rattle.words.specs.declared.OptionU64.{OptionU64}
@@ -31,7 +31,6 @@ use Rattle.session.specs.declared.Session.{Session}
 use Rattle.session.specs.declared.lifecycle.AcquireReply.{AcquireReply}
 use Rattle.session.specs.declared.lifecycle.AcquireReply.the-variants as acquire
 use Rattle.reports.specs.Change.{reportedBy, changeOf}
-use Rattle.scope.specs.Scope.{isAmong}
 use Rattle.reports.specs.declared.Reported.{Reported}
 use Rattle.calls.specs.Answers.{ofVerdict}
 use Rattle.calls.specs.Calls.{Changing, Cancel, Timeout, Reclaim, Call, Open, Place, Move, Acquire, Initialize, Close, Begin, Submit, SubmitPlan, Poll, Recover, Reply, ToSubmit, ToPoll, ToRecovery, Change, Read}

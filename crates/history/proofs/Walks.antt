@@ -9,9 +9,10 @@ use lib.Dec.{eqb}
 use lib.ListN.{length, set, take, drop, length-set}
 use lib.Seq.{getD-set-other}
 use Rattle.chain.specs.Chain.{_if_else_}
-use Rattle.chain.specs.Lists.{count}
+use Rattle.chain.specs.Lists.{count, isAmong}
 use Rattle.chain.specs.After.{After}
 use Rattle.chain.proofs.Chain.{both}
+use Rattle.chain.proofs.Lists.{in-cons}
 use Rattle.models.specs.Requests.{deviceMayAccess, isUncertainFailure}
 use Rattle.models.specs.declared.BackendCompletion.{BackendCompletion}
 use Rattle.models.specs.declared.RequestId.{RequestId}
@@ -27,9 +28,7 @@ use Rattle.rules.specs.Rules.{changeRow, completed, whilePending, abortConfirme
 use Rattle.checks.specs.Completion.{testCompletion}
 use Rattle.checks.specs.declared.completion.CompletionTest.{CompletionTest}
 use Rattle.checks.specs.declared.completion.CompletionTest.the-variants as test
-use Rattle.scope.specs.Scope.{isAmong}
 use Rattle.scope.specs.Returned.{Returned}
-use Rattle.scope.proofs.tokens.Laws.{in-cons}
 use Rattle.session.specs.Lent.{Memory, memory}
 use Rattle.session.specs.declared.Size.{Size}
 use Rattle.recovery.specs.Entries.{rowCompletedBy, testedBy, completeOne, abortedBy, abortOne, applyAll}

@@ -5,7 +5,7 @@ use mathlib.Core.List.{List, [], _∷_, _++_, map}
 use mathlib.Core.Path.{_≡_}
 use lib.Dec.{eqb}
 use lib.ListN.{length}
-use Rattle.chain.specs.Lists.{sumBy, only, count, anyIn}
+use Rattle.chain.specs.Lists.{sumBy, only, count, anyIn, isAmong}
 use Rattle.words.specs.declared.OptionU32.{OptionU32}
 use Rattle.words.specs.declared.OptionU32.the-variants as u32
 use Rattle.words.specs.declared.OptionU64.{OptionU64}
@@ -30,7 +30,6 @@ use Rattle.reports.specs.declared.OptionId.{OptionId}
 use Rattle.reports.specs.declared.OptionId.the-variants as option
 use Rattle.scope.specs.Affected.{isAffected}
 use Rattle.scope.specs.Returned.{Returned, readReturned}
-use Rattle.scope.specs.Scope.{isAmong}
 use Rattle.recovery.specs.RecoveryReply.{ReplyLists}
 use Rattle.recovery.specs.declared.AbortReport.{AbortReport}
 use Rattle.recovery.specs.declared.RecoveryReply.{RecoveryReply}

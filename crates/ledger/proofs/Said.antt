@@ -5,12 +5,13 @@ use mathlib.Core.List.{_∷_}
 use mathlib.Core.Path.{_≡_, refl}
 use lib.ListN.{getD}
 use Rattle.chain.specs.After.{After, after}
-use Rattle.chain.specs.Lists.{foundIn}
+use Rattle.chain.specs.Lists.{foundIn, allIn}
 use Rattle.chain.specs.declared.Found.{Found}
 use Rattle.chain.specs.declared.Found.the-variants as found
+use Rattle.chain.proofs.Lists.{in-head}
 use Rattle.models.specs.Said.{Tabled}
 use Rattle.models.specs.declared.RequestId.{RequestId}
-use Rattle.models.proofs.Said.{areIn, tabled-own, tabled-in, said-of}
+use Rattle.models.proofs.Said.{tabled-own, tabled-in, said-of}
 use Rattle.rows.specs.Store.{Store}
 use Rattle.rows.specs.Table.{emptyRow}
 use Rattle.rules.specs.Rules.{changeRow}
@@ -34,7 +35,7 @@ module _ (c : Change) (store : Store) where
   by-step (step.Refused r) h i = h
   by-step (step.To next x) h i = h
 
-  longer : (d : Change) → areIn (applyNumbers d) (changeNumbers d) ≡ true
+  longer : (d : Change) → allIn (changeNumbers d) (applyNumbers d) ≡ true
   longer (change.Accept token) = refl
   longer change.Discard = refl
   longer change.LogicalCancel = refl
@@ -46,7 +47,7 @@ module _ (c : Change) (store : Store) where
 
   by-found : (f : Found) → Answers (applyAt f c store)
   unfolding applyAt
-  by-found found.Nothing = tabled-own _ 40 refl
+  by-found found.Nothing = tabled-own _ 40 (in-head 40 (changeNumbers c))
   by-found (found.At i) = by-step (changeRow (getD (store .rows) i emptyRow) c) (tabled-in _ _ (longer c) _ (change-tabled _ c)) i
 
   pub apply-tabled : (id : RequestId) → Tabled (applyNumbers c) (appliedSaid (applyOf id c store .result))

@@ -1,18 +1,19 @@
 -- Laws of `Tabled`: of an answer and of a refusal, of a chain, of a longer list, and of what equals its definition. Assumes nothing.
 use Prim.Native.Nat.{ℕ}
-use mathlib.Core.Bool.{Bool, true, false, _&&_, _||_}
+use mathlib.Core.Bool.{Bool, true, false, not, _&&_, _||_}
 use mathlib.Core.List.{List, [], _∷_}
 use mathlib.Core.Path.{_≡_, refl, sym, subst}
-use native.Mathlib.Omega.{arith}
-use borrow.Author.Tests.{eq-eqb, eqb-true}
+use borrow.Author.Tests.{eq-eqb}
 use lib.Dec.{eqb}
 use Rattle.chain.specs.Chain.{_if_else_}
-use Rattle.chain.proofs.Chain.{caseB, both, if-all}
+use Rattle.chain.specs.Lists.{isAmong, allIn}
+use Rattle.chain.proofs.Chain.{both, if-all}
+use Rattle.chain.proofs.Lists.{all-in}
 use Rattle.words.specs.Words.{optionU32Word}
 use Rattle.words.specs.declared.OptionU32.{OptionU32}
 use Rattle.models.specs.Codes.{categoryWord}
 use Rattle.models.specs.Refusals.{tableCategory, refusalOf, rejected, fromBackend, invalidCompletion}
-use Rattle.models.specs.Said.{Said, says, refused, verdictSaid, isOneOf, isTableError, isTabled, Tabled}
+use Rattle.models.specs.Said.{Said, says, refused, verdictSaid, isTableError, isTabled, Tabled}
 use Rattle.models.specs.declared.OperationError.{OperationError}
 use Rattle.models.specs.declared.Verdict.{Verdict}
 
@@ -32,41 +33,30 @@ module _ (ns : List ℕ) where
   unfolding Tabled
   tabled-says values = refl
 
-  listed : (n : ℕ) (values : List ℕ) → isOneOf ns n ≡ true → isTableError n values ≡ true → Tabled ns (record { number = n; values = values })
+  listed : (n : ℕ) (values : List ℕ) → isAmong n ns ≡ true → isTableError n values ≡ true → Tabled ns (record { isRefused = true; number = n; values = values })
   unfolding Tabled
-  listed n values e f = rw (e, f) (or-true (eqb n 0))
+  listed n values e f = rw (e, f)
 
-  pub tabled-own : (n : ℕ) → isOneOf ns n ≡ true → Tabled ns (refused (refusalOf n))
+  pub tabled-own : (n : ℕ) → isAmong n ns ≡ true → Tabled ns (refused (refusalOf n))
   tabled-own n e = listed n _ e (table-error n 0 (or-true (eqb n 48)))
 
-  pub tabled-backend : (n : ℕ) (x : OperationError) → (eqb n 33 || eqb n 45) ≡ true → isOneOf ns n ≡ true → Tabled ns (refused (fromBackend n x))
+  pub tabled-backend : (n : ℕ) (x : OperationError) → (eqb n 33 || eqb n 45) ≡ true → isAmong n ns ≡ true → Tabled ns (refused (fromBackend n x))
   unfolding _if_else_
   tabled-backend n x b e = listed n _ e (rw b refl)
 
-  pub tabled-code : (code : OptionU32) → isOneOf ns 48 ≡ true → Tabled ns (refused (invalidCompletion code))
+  pub tabled-code : (code : OptionU32) → isAmong 48 ns ≡ true → Tabled ns (refused (invalidCompletion code))
   tabled-code code e = listed 48 _ e (table-error 48 (optionU32Word code) refl)
 
-  pub tabled-stop : (n : ℕ) → isOneOf ns n ≡ true → (t : Bool) (p : Verdict) → Tabled ns (verdictSaid p) → Tabled ns (verdictSaid (rejected n if t else p))
+  pub tabled-stop : (n : ℕ) → isAmong n ns ≡ true → (t : Bool) (p : Verdict) → Tabled ns (verdictSaid p) → Tabled ns (verdictSaid (rejected n if t else p))
   tabled-stop n e t p h = if-all (λ (v : Verdict). Tabled ns (verdictSaid v)) (rejected n) t p (tabled-own n e) h
 
--- a list whose numbers are all in another one
-abbrev pub areIn : List ℕ → List ℕ → Bool
-areIn ms [] = true
-areIn ms (n ∷ ns) = isOneOf ms n && areIn ms ns
+within : (ms ns : List ℕ) → allIn ns ms ≡ true → (r : Bool) (n : ℕ) (b : Bool) → (not r || isAmong n ns && b) ≡ true → (not r || isAmong n ms && b) ≡ true
+within ms ns a true n b e = let p = both (isAmong n ns) b e in rw (all-in ns ms n a (p .0), p .1)
+within ms ns a false n b e = refl
 
-one-in : (ms ns : List ℕ) (n : ℕ) → areIn ms ns ≡ true → isOneOf ns n ≡ true → isOneOf ms n ≡ true
-one-in ms [] n a e = let z : _≡_ {A = ℕ} 0 1 = cc in absurd (omega arith)
-one-in ms (m ∷ ns) n a e =
-    let p = both (isOneOf ms m) (areIn ms ns) a in
-    caseB (eqb n m) (λ t. rw (eqb-true n m t) (p .0)) (λ t. one-in ms ns n (p .1) (rw t at e))
-
-within : (ms ns : List ℕ) → areIn ms ns ≡ true → (n : ℕ) (b : Bool) → (eqb n 0 || isOneOf ns n && b) ≡ true → (eqb n 0 || isOneOf ms n && b) ≡ true
-within ms ns a n b e =
-    caseB (eqb n 0) (λ t. rw t) (λ t. let p = both (isOneOf ns n) b (rw t at e) in rw (t, one-in ms ns n a (p .0), p .1))
-
-pub tabled-in : (ms ns : List ℕ) → areIn ms ns ≡ true → (x : Said) → Tabled ns x → Tabled ms x
+pub tabled-in : (ms ns : List ℕ) → allIn ns ms ≡ true → (x : Said) → Tabled ns x → Tabled ms x
 unfolding Tabled
-tabled-in ms ns a x h = within ms ns a (x .number) (isTableError (x .number) (x .values)) h
+tabled-in ms ns a x h = within ms ns a (x .isRefused) (x .number) (isTableError (x .number) (x .values)) h
 
 -- what a definition says is what equals it says
 pub said-of : {A : Type 0} (P : A → Type 0) (x y : A) → x ≡ y → P y → (x ≡ y) × P x

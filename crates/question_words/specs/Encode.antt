@@ -1,15 +1,15 @@
 -- Answers to questions as words: a tag, then the answer's fields. Assumes nothing.
 use Prim.Native.Nat.{ℕ}
 use mathlib.Core.List.{List, [], _∷_}
-use lib.ListN.{drop}
 use Rattle.words.specs.Words.{optionU64Words}
 use Rattle.models.specs.Codes.{controllerWord}
 use Rattle.models.specs.declared.RequestReport.{RequestReport}
+use Rattle.rows.specs.Values.{reportValues}
 use Rattle.targets.specs.declared.wants.Wanted.{Wanted}
 use Rattle.targets.specs.declared.wants.Wanted.the-variants as wanted
 use Rattle.session.specs.declared.Session.{Session}
 use Rattle.session_words.specs.State.{portsWords, stallWords, flightWords, portsTail, revisionTail, stallTail}
-use Rattle.answer_words.specs.Encode.{refusalWords, reportWords}
+use Rattle.answer_words.specs.Encode.{refusalWords}
 use Rattle.questions.specs.declared.QuestionAnswer.{QuestionAnswer}
 use Rattle.questions.specs.declared.QuestionAnswer.the-variants as answer
 
@@ -23,9 +23,8 @@ sessionStatusWords s =
     (stallTail (stallWords (s .«recoverable_stall»))
     (flightWords (s .«in_flight») .tag ∷ s .size .«row_count» ∷ s .size .«row_bytes» ∷ [])))
 
--- a report's words stand behind the place in place of its tag
 unfoldable pub placedWords : ℕ → RequestReport → List ℕ
-placedWords place x = 12 ∷ place ∷ drop 1 (reportWords x)
+placedWords place x = 12 ∷ place ∷ reportValues x
 
 abbrev pub wantedWords : Wanted → List ℕ
 wantedWords wanted.Nothing = 13 ∷ 0 ∷ 0 ∷ []

@@ -1,2 +1,4 @@
+pub mod Few
+pub mod Kept
 pub mod Tokens
 pub mod Said

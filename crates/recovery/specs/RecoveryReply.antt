@@ -1,9 +1,10 @@
 -- The backend's reply to a recovery (document 01, "Abort report", and the place replies). Assumes nothing.
 use Prim.Native.Nat.{ℕ}
 use mathlib.Core.Bool.{Bool, false, not, _&&_}
+use mathlib.Core.Path.{_≡_}
 use mathlib.Core.List.{List, _++_, map}
 use lib.Dec.{eqb}
-use lib.ListN.{length}
+use lib.ListN.{length, replicate}
 use denote.Ref.{now}
 use Rattle.chain.specs.After.{After, after}
 use Rattle.chain.specs.Chain.{_if_else_}
@@ -16,7 +17,7 @@ use Rattle.models.specs.declared.ControllerState.the-variants.{Initialized}
 use Rattle.models.specs.declared.Refusal.{Refusal}
 use Rattle.models.specs.declared.Verdict.{Verdict}
 use Rattle.models.specs.declared.Verdict.the-variants as verdict
-use Rattle.rows.specs.Table.{isUncertain}
+use Rattle.rows.specs.Table.{readRows, isUncertain}
 use Rattle.rows.specs.declared.Row.{Row}
 use Rattle.checks.specs.Completion.{hasError}
 use Rattle.session.specs.Lent.{Memory, memoryFits, Slice}
@@ -39,10 +40,13 @@ use Rattle.recovery.specs.declared.AbortReport.{AbortReport}
 use Rattle.recovery.specs.declared.Ids.{Ids}
 use Rattle.recovery.specs.declared.Outcome.{Outcome}
 use Rattle.recovery.specs.declared.Recovered.{Recovered}
+use Rattle.recovery.specs.declared.RecoveryAnswer.{RecoveryAnswer}
 use Rattle.recovery.specs.declared.RecoveryAnswer.the-variants as answer
 use Rattle.recovery.specs.declared.RecoveryReply.{RecoveryReply}
 use Rattle.recovery.specs.declared.RecoveryReply.the-variants as reply
+use Rattle.recovery.specs.declared.Replied.{Replied}
 use Rattle.recovery.specs.declared.recovery_reply.Ended.{Ended}
+use Rattle.recovery.specs.declared.recovery_reply.Settled.{Settled}
 
 -- what comes with a reply: the tokens that the backend completed, the words of their completions, those that it aborted, and the data
 pub record ReplyLists : Type 0 where
@@ -64,6 +68,27 @@ rowsMeant place l = rowLists (map place (l .tokens)) (l .completions) (map place
 
 abbrev pub recoveryRefused : Session → Refusal → Recovered
 recoveryRefused s r = record { answer = answer.Refused r; session = s; ids = noIds }
+
+-- ---- by the places of rows
+
+abbrev pub rowsOut : Slice → List Row
+rowsOut rows = readRows (now (rows .exit))
+
+abbrev pub replyRefused : Session → Refusal → Replied
+replyRefused s r = record { answer = answer.Refused r; session = s; places = replicate 128 0 }
+
+abbrev pub idsBy : RecoveryAnswer → Ids → Ids
+idsBy (answer.Refused r) ids = noIds
+idsBy (answer.Report x) ids = ids
+
+-- what is answered after the entries, with these ids; a refusal has none
+abbrev pub withIds : Settled → Ids → Recovered
+withIds x ids = record { answer = x .answer; session = x .session; ids = idsBy (x .answer) ids }
+
+-- a report names n completed requests and m aborted ones
+abbrev pub Counts : RecoveryAnswer → ℕ → ℕ → Type 0
+Counts (answer.Refused r) n m = Unit {0}
+Counts (answer.Report x) n m = (x .completed ≡ n) × (x .aborted ≡ m)
 
 -- a recovery whose reply is in: the session without it, the recovery, and what the backend says
 abbrev pub ended : Session → Recovery → Outcome → Ended
@@ -121,6 +146,11 @@ unfoldable pub concludedBy : Verdict → Ended → AbortReport → Ids → List 
 concludedBy (verdict.Refused r) e report ids rows = recoveryRefused (refusedAfter r (e .idle)) r
 concludedBy verdict.Pass e report ids rows = record { answer = answer.Report report; session = sessionAfter e rows; ids = ids }
 
+-- the same without ids
+unfoldable pub concludedTo : Verdict → Ended → AbortReport → List Row → Settled
+concludedTo (verdict.Refused r) e report rows = record { answer = answer.Refused r; session = refusedAfter r (e .idle) }
+concludedTo verdict.Pass e report rows = record { answer = answer.Report report; session = sessionAfter e rows }
+
 -- ---- the stages
 
 -- the entries, then the session and the report; the ids are those of the rows before the entries
@@ -129,6 +159,11 @@ settledOf e l m =
     let done = applyAll (e .idle .size) l m in
     let report = abortReport e (length (l .completed)) (length (l .aborted)) in
     after (concludedBy (done .result) e report (idLists (m .store .rows) (l .completed) (l .aborted)) (done .lent .store .rows)) (done .lent)
+
+-- the same without ids: those are of the rows that are left, since entries leave every row its id
+pub record Settles (x : Settled) (e : Ended) (left : List Row) (l : RowLists) (m next : Memory) : Type 0 where
+  pub is : after (withIds x (idLists left (l .completed) (l .aborted))) next ≡ settledOf e l m
+  pub counts : Counts (x .answer) (length (l .completed)) (length (l .aborted))
 
 -- 46: token scope, with a mark; `own` are the tokens of the affected rows
 unfoldable pub doneOf : Ended → List ℕ → List ℕ → ReplyLists → Memory → After Recovered Memory

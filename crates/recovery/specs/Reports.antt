@@ -1,12 +1,16 @@
 -- The lists of a report: fixed lists of 128, beside the answer. Assumes nothing.
-use Prim.Native.Nat.{ℕ}
+use Prim.Native.Nat.{ℕ, _+_, _-_}
 use mathlib.Core.List.{List, map}
-use lib.ListN.{replicate}
+use lib.ListN.{length, take, drop, replicate}
 use Rattle.chain.specs.Lists.{listed}
 use Rattle.models.specs.declared.RequestId.{RequestId}
 use Rattle.rows.specs.Table.{idIn}
 use Rattle.rows.specs.declared.Row.{Row}
 use Rattle.recovery.specs.declared.Ids.{Ids}
+use Rattle.recovery.specs.declared.Recovered.{Recovered}
+use Rattle.recovery.specs.declared.RecoveryAnswer.{RecoveryAnswer}
+use Rattle.recovery.specs.declared.RecoveryAnswer.the-variants as answer
+use Rattle.recovery.specs.declared.Replied.{Replied}
 
 abbrev pub noId : RequestId
 noId = record { session = 0; generation = 0; sequence = 0 }
@@ -20,3 +24,22 @@ idLists rows completed aborted = record { completed = listed 128 noId (idsOf row
 
 abbrev pub noIds : Ids
 noIds = record { completed = replicate 128 noId; aborted = replicate 128 noId }
+
+-- ---- by the places of rows
+
+-- those from the n-th on
+abbrev pub from : ℕ → List ℕ → List ℕ
+from n places = take (length places - n) (drop n places)
+
+-- how many requests an answer names
+abbrev pub manyIn : RecoveryAnswer → ℕ
+manyIn (answer.Refused r) = 0
+manyIn (answer.Report x) = x .completed + x .aborted
+
+-- the ids of the rows at the first places, as many as were completed, and at the next, as many as were aborted; a refusal has none
+abbrev pub idsIn : RecoveryAnswer → List Row → List ℕ → Ids
+idsIn (answer.Refused r) rows places = noIds
+idsIn (answer.Report x) rows places = idLists rows (take (x .completed) places) (take (x .aborted) (drop (x .completed) places))
+
+abbrev pub filled : Replied → List Row → Recovered
+filled r rows = record { answer = r .answer; session = r .session; ids = idsIn (r .answer) rows (r .places) }

@@ -11,13 +11,13 @@ use scope::tokens;
 use session::Size;
 use words::slices;
 ghost use mathlib.Core.Path.{_≡_};
-ghost use Prim.Native.Nat.{_<_, _≤_};
-ghost use mathlib.Core.List.{map};
+ghost use Prim.Native.Nat.{_+_, _<_, _≤_};
+ghost use mathlib.Core.List.{_++_, map};
 ghost use lib.ListN.{length, take};
 ghost use Rattle.chain.specs.After.{after};
 ghost use Rattle.chain.specs.Lists.{listed};
 ghost use Rattle.rows.specs.Table.{readRows};
-ghost use Rattle.scope.specs.Scope.{meant};
+ghost use Rattle.scope.specs.Scope.{Rises, meant};
 ghost use Rattle.session.specs.Lent.{storeIn, storeOut, memoryIn, memoryOut};
 ghost use Rattle.recovery.specs.Entries.{rowCompletedBy, completeOne, abortOne, readEntries, completeAll, abortAll};
 ghost use Rattle.recovery.specs.Places.{Below, Fit, Places, Agree};
@@ -77,26 +77,36 @@ fn complete_one(
     }
 }
 
-// The place of the row that a token means.
-fn place_of(affected: &[usize], own: &[u64], token: u64) -> usize
+// The place of the row that a token means, looked for first at `near`.
+fn place_of(affected: &[usize], own: &[u64], rising: bool, near: usize, token: u64) -> usize
+    requires { ⌜ Rises rising (now own) ⌝ }
     ensures { λ r. ⌜ r ≡ meant (now (affected .entry)) (now (own .entry)) token ⌝ }
 {
-    let j = tokens::slot_of(own, token);
+    let j = tokens::slot_near(own, rising, near, token);
     if j < affected.len() {
         return affected[j];
     }
     0
 }
 
-// The places of the rows that the first 128 tokens mean; what is left is 0.
-pub(crate) fn places_of(affected: &[usize], own: &[u64], tokens: &[u64]) -> [usize; 128]
-    ensures { λ r. ⌜ r ≡ listed 128 0 (map (meant (now (affected .entry)) (now (own .entry))) (now (tokens .entry))) ⌝ }
+// The places of the rows that the tokens mean: the completed ones, then the aborted ones; what is left is 0.
+pub(crate) fn places_of(
+    affected: &[usize],
+    own: &[u64],
+    tokens: &[u64],
+    aborted: &[u64],
+) -> [usize; 128]
+    requires { ⌜ length (now tokens) + length (now aborted) ≤ 128 ⌝ }
+    ensures { λ r. ⌜ r ≡ listed 128 0 (map (meant (now (affected .entry)) (now (own .entry)))
+        (now (tokens .entry) ++ now (aborted .entry))) ⌝ }
 {
-    let n = slices::least(tokens.len(), 128);
+    let rising = tokens::rises(own);
+    let n = tokens.len() + aborted.len();
     let mut places = [0usize; 128];
     let mut k = 0;
     while k < n {
-        places[k] = place_of(affected, own, tokens[k]);
+        let token = tokens::returned_at(tokens, aborted, k);
+        places[k] = place_of(affected, own, rising, k, token);
         k += 1;
     }
     places

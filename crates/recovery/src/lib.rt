@@ -63,3 +63,10 @@ pub struct Recovered {
     pub session: Session,
     pub ids: Ids,
 }
+
+// The same by the places of rows: in the first of them those of the completed requests, then those of the aborted ones.
+pub struct Replied {
+    pub answer: RecoveryAnswer,
+    pub session: Session,
+    pub places: [usize; 128],
+}

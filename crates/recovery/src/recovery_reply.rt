@@ -5,6 +5,7 @@ use crate::Outcome;
 use crate::Recovered;
 use crate::RecoveryAnswer;
 use crate::RecoveryReply;
+use crate::Replied;
 use crate::entries;
 use checks::completion;
 use ledger::search;
@@ -28,18 +29,18 @@ use words::OptionU64;
 use words::slices;
 ghost use mathlib.Core.Path.{_≡_};
 ghost use Prim.Native.Nat.{_+_, _≤_};
-ghost use lib.ListN.{length};
+ghost use lib.ListN.{length, take, drop};
 ghost use Rattle.chain.specs.After.{after};
 ghost use Rattle.chain.specs.Lists.{listed};
 ghost use Rattle.models.specs.Refusals.{refusalOf};
 ghost use Rattle.models.specs.Said.{Tabled};
 ghost use Rattle.scope.specs.Scope.{meant};
 ghost use Rattle.session.specs.Lent.{rowsIn, memoryIn, memoryOut};
-ghost use Rattle.recovery.specs.Entries.{rowListsIn, applyAll};
+ghost use Rattle.recovery.specs.Entries.{rowLists, rowListsIn, applyAll};
 ghost use Rattle.recovery.specs.Places.{Below, Fit, Places, Agree};
 ghost use Rattle.recovery.specs.declared.RecoveryReply.the-variants as RecoveryReply;
-ghost use Rattle.recovery.specs.Reports.{noId, idsOf, idLists};
-ghost use Rattle.recovery.specs.RecoveryReply.{listsIn, rowsMeant, recoveryRefused, isWhole, isRevision, matching, restoredBy, resetBy, sessionAfter, refusedAfter, abortReport, concludedBy, settledOf, doneOf, replyBy, replySized, recoveryReplyOf};
+ghost use Rattle.recovery.specs.Reports.{noId, idsOf, noIds, from, idLists, manyIn, filled};
+ghost use Rattle.recovery.specs.RecoveryReply.{listsIn, rowsOut, rowsMeant, replyRefused, Settles, isWhole, isRevision, matching, restoredBy, resetBy, sessionAfter, refusedAfter, abortReport, concludedTo, settledOf, doneOf, replyBy, replySized, recoveryReplyOf};
 ghost use Rattle.recovery.specs.Said.{recoverySaid, recoveryReplyNumbers};
 
 // A recovery whose reply is in: the session without it, the recovery, and what the backend says.
@@ -47,6 +48,12 @@ pub struct Ended {
     pub idle: Session,
     pub recovery: Recovery,
     pub outcome: Outcome,
+}
+
+// What is answered after the entries.
+pub struct Settled {
+    pub answer: RecoveryAnswer,
+    pub session: Session,
 }
 
 fn no_id() -> RequestId
@@ -59,23 +66,18 @@ fn no_id() -> RequestId
     }
 }
 
-fn refused(session: Session, refusal: Refusal) -> Recovered
-    ensures { λ r. ⌜ r ≡ recoveryRefused session refusal ⌝ }
+fn refused(session: Session, refusal: Refusal) -> Replied
+    ensures { λ r. ⌜ r ≡ replyRefused session refusal ⌝ }
 {
-    let none = no_id();
-    let ids = Ids {
-        completed: [none; 128],
-        aborted: [none; 128],
-    };
-    Recovered {
+    Replied {
         answer: RecoveryAnswer::Refused(refusal),
         session,
-        ids,
+        places: [0; 128],
     }
 }
 
-fn refused_by(session: Session, number: u16) -> Recovered
-    ensures { λ r. ⌜ r ≡ recoveryRefused session (refusalOf number) ⌝ }
+fn refused_by(session: Session, number: u16) -> Replied
+    ensures { λ r. ⌜ r ≡ replyRefused session (refusalOf number) ⌝ }
 {
     refused(session, models::refuse(number))
 }
@@ -195,9 +197,12 @@ fn ids_of(rows: &[u64], places: &[usize]) -> [RequestId; 128]
     ids
 }
 
-fn id_lists(rows: &[u64], completed: &[usize], aborted: &[usize]) -> Ids
-    ensures { λ r. ⌜ r ≡ idLists (rowsIn rows) (now (completed .entry)) (now (aborted .entry)) ⌝ }
+fn id_lists(rows: &[u64], places: &[usize], n: usize) -> Ids
+    requires { ⌜ n ≤ length (now places) ⌝ }
+    ensures { λ r. ⌜ r ≡ idLists (rowsIn rows) (take n (now (places .entry))) (from n (now (places .entry))) ⌝ }
 {
+    let completed = &places[..n];
+    let aborted = &places[n..];
     let first = ids_of(rows, completed);
     let second = ids_of(rows, aborted);
     Ids {
@@ -229,22 +234,18 @@ fn apply_all(
 }
 
 // The refusal of an entry, or the report.
-fn conclude(
-    verdict: Verdict,
-    ended: Ended,
-    rows: &[u64],
-    report: AbortReport,
-    ids: Ids,
-) -> Recovered
-    ensures { λ r. ⌜ r ≡ concludedBy verdict ended report ids (rowsIn rows) ⌝ }
+fn conclude(verdict: Verdict, ended: Ended, rows: &[u64], report: AbortReport) -> Settled
+    ensures { λ r. ⌜ r ≡ concludedTo verdict ended report (rowsIn rows) ⌝ }
 {
     let idle = ended.idle;
     match verdict {
-        Verdict::Refused(refusal) => refused(refused_after(refusal, idle), refusal),
-        Verdict::Pass => Recovered {
+        Verdict::Refused(refusal) => Settled {
+            answer: RecoveryAnswer::Refused(refusal),
+            session: refused_after(refusal, idle),
+        },
+        Verdict::Pass => Settled {
             answer: RecoveryAnswer::Report(report),
             session: session_after(ended, rows),
-            ids,
         },
     }
 }
@@ -258,18 +259,37 @@ fn settle(
     aborted: &[usize],
     completions: &[u64],
     bytes: &[u8],
-) -> Recovered
+) -> Settled
     requires { ⌜ Places (ended .idle .size) (now rows) (now area) (now completed) × Below (now rows) (now aborted)
         × Agree (now completed) (now completions) (now bytes) ⌝ }
-    ensures { λ r. ⌜ after r (memoryOut rows area)
-        ≡ settledOf ended (rowListsIn completed completions aborted bytes) (memoryIn rows area) ⌝ }
+    ensures { λ r. ⌜ Settles r ended (rowsOut rows) (rowListsIn completed completions aborted bytes)
+        (memoryIn rows area) (memoryOut rows area) ⌝ }
 {
     let idle = ended.idle;
     let size = idle.size;
-    let ids = id_lists(rows, completed, aborted);
     let report = report_of(ended, completed.len() as u64, aborted.len() as u64);
     let verdict = apply_all(rows, area, size, completed, aborted, completions, bytes);
-    conclude(verdict, ended, rows, report, ids)
+    conclude(verdict, ended, rows, report)
+}
+
+// The same in a list of places: the first n are completed, the others aborted.
+fn settle_places(
+    ended: Ended,
+    rows: &mut [u64],
+    area: &mut [u8],
+    places: &[usize],
+    n: usize,
+    completions: &[u64],
+    bytes: &[u8],
+) -> Settled
+    requires { ⌜ (n ≤ length (now places)) × Places (ended .idle .size) (now rows) (now area) (take n (now places))
+        × Below (now rows) (from n (now places)) × Agree (take n (now places)) (now completions) (now bytes) ⌝ }
+    ensures { λ r. ⌜ Settles r ended (rowsOut rows) (rowLists (take n (now (places .entry))) (now (completions .entry))
+        (from n (now (places .entry))) (now (bytes .entry))) (memoryIn rows area) (memoryOut rows area) ⌝ }
+{
+    let completed = &places[..n];
+    let aborted = &places[n..];
+    settle(ended, rows, area, completed, aborted, completions, bytes)
 }
 
 // The tokens are in scope.
@@ -283,27 +303,25 @@ fn reply_scoped(
     completions: &[u64],
     aborted: &[u64],
     bytes: &[u8],
-) -> Recovered
+) -> Replied
     requires { ⌜ Places (ended .idle .size) (now rows) (now area) (now affected)
         × Agree (now tokens) (now completions) (now bytes)
         × (length (now tokens) + length (now aborted) ≤ 128) ⌝ }
-    ensures { λ r. ⌜ after r (memoryOut rows area)
+    ensures { λ r. ⌜ after (filled r (rowsOut rows)) (memoryOut rows area)
         ≡ settledOf ended (rowsMeant (meant (now (affected .entry)) (now (own .entry)))
         (listsIn tokens completions aborted bytes)) (memoryIn rows area) ⌝ }
 {
-    let done = entries::places_of(affected, own, tokens);
-    let gone = entries::places_of(affected, own, aborted);
+    let places = entries::places_of(affected, own, tokens, aborted);
     let n = tokens.len();
-    let m = aborted.len();
-    settle(
-        ended,
-        rows,
-        area,
-        &done[..n],
-        &gone[..m],
-        completions,
-        bytes,
-    )
+    let end = n + aborted.len();
+    let settled = settle_places(ended, rows, area, &places[..end], n, completions, bytes);
+    let answer = settled.answer;
+    let session = settled.session;
+    Replied {
+        answer,
+        session,
+        places,
+    }
 }
 
 // 46: token scope, with a mark.
@@ -317,11 +335,11 @@ fn reply_affected(
     completions: &[u64],
     aborted: &[u64],
     bytes: &[u8],
-) -> Recovered
+) -> Replied
     requires { ⌜ Places (ended .idle .size) (now rows) (now area) (now affected)
         × Agree (now tokens) (now completions) (now bytes)
         × (length (now own) ≤ 128) ⌝ }
-    ensures { λ r. ⌜ after r (memoryOut rows area)
+    ensures { λ r. ⌜ after (filled r (rowsOut rows)) (memoryOut rows area)
         ≡ doneOf ended (now (affected .entry)) (now (own .entry)) (listsIn tokens completions aborted bytes)
         (memoryIn rows area) ⌝ }
 {
@@ -353,9 +371,9 @@ fn reply_done(
     completions: &[u64],
     aborted: &[u64],
     bytes: &[u8],
-) -> Recovered
+) -> Replied
     requires { ⌜ Fit (ended .idle .size) (now rows) (now area) × Agree (now tokens) (now completions) (now bytes) ⌝ }
-    ensures { λ r. ⌜ after r (memoryOut rows area)
+    ensures { λ r. ⌜ after (filled r (rowsOut rows)) (memoryOut rows area)
         ≡ replyBy (RecoveryReply.Done (ended .outcome)) (ended .recovery) (listsIn tokens completions aborted bytes)
         (ended .idle) (memoryIn rows area) ⌝ }
 {
@@ -388,9 +406,9 @@ fn reply_to(
     completions: &[u64],
     aborted: &[u64],
     bytes: &[u8],
-) -> Recovered
+) -> Replied
     requires { ⌜ Fit (idle .size) (now rows) (now area) × Agree (now tokens) (now completions) (now bytes) ⌝ }
-    ensures { λ r. ⌜ after r (memoryOut rows area)
+    ensures { λ r. ⌜ after (filled r (rowsOut rows)) (memoryOut rows area)
         ≡ replyBy reply recovery (listsIn tokens completions aborted bytes) idle (memoryIn rows area) ⌝ }
 {
     match reply {
@@ -419,8 +437,8 @@ fn reply_sized(
     completions: &[u64],
     aborted: &[u64],
     bytes: &[u8],
-) -> Recovered
-    ensures { λ r. ⌜ after r (memoryOut rows area)
+) -> Replied
+    ensures { λ r. ⌜ after (filled r (rowsOut rows)) (memoryOut rows area)
         ≡ replySized reply recovery (listsIn tokens completions aborted bytes) session (memoryIn rows area) ⌝ }
 {
     let size = session.size;
@@ -445,7 +463,7 @@ fn reply_sized(
 }
 
 // 2: no recovery is in flight; 3; 49. Else the operation ends.
-pub fn recovery_reply(
+pub fn reply_by_places(
     session: Session,
     rows: &mut [u64],
     area: &mut [u8],
@@ -454,10 +472,9 @@ pub fn recovery_reply(
     completions: &[u64],
     aborted: &[u64],
     bytes: &[u8],
-) -> Recovered
-    ensures { λ r. ⌜ (after r (memoryOut rows area)
-        ≡ recoveryReplyOf reply (listsIn tokens completions aborted bytes) session (memoryIn rows area))
-        × Tabled recoveryReplyNumbers (recoverySaid (r .answer)) ⌝ }
+) -> Replied
+    ensures { λ r. ⌜ after (filled r (rowsOut rows)) (memoryOut rows area)
+        ≡ recoveryReplyOf reply (listsIn tokens completions aborted bytes) session (memoryIn rows area) ⌝ }
 {
     let flight = session.in_flight;
     match flight {
@@ -476,4 +493,81 @@ pub fn recovery_reply(
             bytes,
         ),
     }
+}
+
+fn no_ids() -> Ids
+    ensures { λ r. ⌜ r ≡ noIds ⌝ }
+{
+    let none = no_id();
+    Ids {
+        completed: [none; 128],
+        aborted: [none; 128],
+    }
+}
+
+// The ids of the rows at the first n places, and at the next m.
+fn ids_at(rows: &[u64], places: [usize; 128], n: usize, m: usize) -> Ids
+    requires { ⌜ n + m ≤ 128 ⌝ }
+    ensures { λ r. ⌜ r ≡ idLists (rowsIn rows) (take n places) (take m (drop n places)) ⌝ }
+{
+    let end = n + m;
+    id_lists(rows, &places[..end], n)
+}
+
+// By the answer; a refusal has none.
+fn fill(rows: &[u64], replied: Replied) -> Recovered
+    requires { ⌜ manyIn (replied .answer) ≤ 128 ⌝ }
+    ensures { λ r. ⌜ r ≡ filled replied (rowsIn rows) ⌝ }
+{
+    let answer = replied.answer;
+    let session = replied.session;
+    let places = replied.places;
+    match answer {
+        RecoveryAnswer::Refused(_) => Recovered {
+            answer,
+            session,
+            ids: no_ids(),
+        },
+        RecoveryAnswer::Report(report) => {
+            let ids = ids_at(
+                rows,
+                places,
+                report.completed as usize,
+                report.aborted as usize,
+            );
+            Recovered {
+                answer: RecoveryAnswer::Report(report),
+                session,
+                ids,
+            }
+        }
+    }
+}
+
+// The same with ids.
+pub fn recovery_reply(
+    session: Session,
+    rows: &mut [u64],
+    area: &mut [u8],
+    reply: RecoveryReply,
+    tokens: &[u64],
+    completions: &[u64],
+    aborted: &[u64],
+    bytes: &[u8],
+) -> Recovered
+    ensures { λ r. ⌜ (after r (memoryOut rows area)
+        ≡ recoveryReplyOf reply (listsIn tokens completions aborted bytes) session (memoryIn rows area))
+        × Tabled recoveryReplyNumbers (recoverySaid (r .answer)) ⌝ }
+{
+    let replied = reply_by_places(
+        session,
+        rows,
+        area,
+        reply,
+        tokens,
+        completions,
+        aborted,
+        bytes,
+    );
+    fill(rows, replied)
 }

@@ -6,10 +6,11 @@ use mathlib.Core.Path.{_≡_, refl}
 use Rattle.chain.specs.After.{After, after}
 use Rattle.chain.specs.declared.Found.{Found}
 use Rattle.chain.specs.declared.Found.the-variants as found
+use Rattle.chain.specs.Lists.{isAmong, allIn}
 use Rattle.chain.proofs.Chain.{both, if-all}
-use Rattle.models.specs.Said.{isOneOf, Tabled}
+use Rattle.models.specs.Said.{Tabled}
 use Rattle.models.specs.declared.RequestId.{RequestId}
-use Rattle.models.proofs.Said.{areIn, tabled-says, tabled-own, tabled-in, said-of}
+use Rattle.models.proofs.Said.{tabled-says, tabled-own, tabled-in, said-of}
 use Rattle.rows.specs.Store.{Store}
 use Rattle.rows.specs.declared.Row.{Row}
 use Rattle.rules.specs.declared.Change.{Change}
@@ -114,7 +115,7 @@ module _ (id : RequestId) (size : ℕ) (s : Session) (store : Store) where
   part-said x e = said-of Parts _ _ e part-tabled
 
 -- ---- cancel, timeout and reclaim: 1, 3, and the ledger's numbers of the change, all in ns
-module _ (ns : List ℕ) (c : Change) (all : areIn ns (1 ∷ 3 ∷ applyNumbers c) ≡ true) where
+module _ (ns : List ℕ) (c : Change) (all : allIn (1 ∷ 3 ∷ applyNumbers c) ns ≡ true) where
   reported-by : (x : Applied) → Tabled ns (appliedSaid x) → (s : Session) → Tabled ns (reportSaid (reportedBy x s .answer))
   unfolding reportedBy
   reported-by (applied.Refused r) h s = h
@@ -124,8 +125,8 @@ module _ (ns : List ℕ) (c : Change) (all : areIn ns (1 ∷ 3 ∷ applyNumbers 
     pub change-tabled : Tabled ns (reportSaid (changeOf id c s store .result .answer))
     unfolding changeOf
     change-tabled =
-        let one = both (isOneOf ns 1) _ all in
-        let three = both (isOneOf ns 3) _ (one .1) in
+        let one = both (isAmong 1 ns) _ all in
+        let three = both (isAmong 3 ns) _ (one .1) in
         guarded-all (λ (o : After Reported Store). Tabled ns (reportSaid (o .result .answer))) s _ _ _ (tabled-own ns 1 (one .0)) (tabled-own ns 3 (three .0))
         (reported-by (applyOf id c store .result) (tabled-in ns (applyNumbers c) (three .1) _ (apply-tabled c store id)) s)
 

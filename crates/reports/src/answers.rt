@@ -9,7 +9,8 @@ ghost use mathlib.Core.Path.{_≡_};
 ghost use Rattle.models.specs.Refusals.{refusalOf};
 ghost use Rattle.reports.specs.Answers.{isMild, effect, reportRefused};
 
-fn is_mild(c: ErrorCategory) -> bool
+// A backend's error of such a category marks nothing.
+pub fn is_mild(c: ErrorCategory) -> bool
     ensures { λ r. ⌜ r ≡ isMild c ⌝ }
 {
     match c {

@@ -7,7 +7,7 @@ use Rattle.models.specs.declared.OptionSetup.{OptionSetup}
 use Rattle.models.specs.declared.RequestState.{RequestState}
 use Rattle.models.specs.declared.RequestState.the-variants.{Pending, Completed, Failed, Aborted}
 use Rattle.rows.specs.Codec.{readSetupWords, stateByKind, kindBy}
-use Rattle.rows.specs.Table.{flagged}
+use Rattle.rows.specs.Table.{withState, flagged}
 use Rattle.rows.specs.declared.Row.{Row}
 
 -- the SETUP packet and the state of a row with the record w
@@ -36,3 +36,7 @@ cancelled r = flagged r true (lateIn (r .state)) true (r .«timed_out»)
 
 unfoldable pub timedOut : Row → Row
 timedOut r = flagged r (cancelIn (r .state)) true (r .«logical_cancel») true
+
+-- a completion keeps the cancel flag of the state
+unfoldable pub completedRow : Row → ℕ → ℕ → Row
+completedRow r actual code = withState r (Completed actual code (cancelIn (r .state)))

@@ -8,6 +8,7 @@ use Rattle.words.specs.Records.{tab, splice, part}
 use Rattle.models.specs.Requests.{deviceMayAccess, isPending, isUncertainFailure}
 use Rattle.models.specs.declared.RequestId.{RequestId}
 use Rattle.models.specs.declared.RequestReport.{RequestReport}
+use Rattle.models.specs.declared.RequestState.{RequestState}
 use Rattle.models.specs.declared.RequestState.the-variants.{Pending}
 use Rattle.rows.specs.Codec.{readRow, recordOf, statusWords}
 use Rattle.rows.specs.declared.Row.{Row}
@@ -93,14 +94,21 @@ withToken r token = record {
   state = r .state;
 }
 
--- Pending with the flags sc and st in its state, and c and t as the row's own copies
-abbrev pub flagged : Row → Bool → Bool → Bool → Bool → Row
-flagged r sc st c t = record {
+-- with another state, and c and t as the row's own copies of the flags
+abbrev pub restated : Row → Bool → Bool → RequestState → Row
+restated r c t state = record {
   used = r .used;
   id = r .id;
   metadata = r .metadata;
   token = r .token;
   «logical_cancel» = c;
   «timed_out» = t;
-  state = Pending sc st;
+  state = state;
 }
+
+abbrev pub withState : Row → RequestState → Row
+withState r state = restated r (r .«logical_cancel») (r .«timed_out») state
+
+-- Pending with the flags sc and st in its state
+abbrev pub flagged : Row → Bool → Bool → Bool → Bool → Row
+flagged r sc st c t = restated r c t (Pending sc st)

@@ -50,7 +50,7 @@ pub(crate) fn column(rows: &[u64], i: usize, k: usize) -> u64
 }
 
 // Word k of the record of row i.
-fn field(rows: &[u64], i: usize, k: usize) -> u64
+pub(crate) fn field(rows: &[u64], i: usize, k: usize) -> u64
     requires { ⌜ (i < length (readRows (now rows))) × (k < recordWords) ⌝ }
     ensures { λ r. ⌜ r ≡ wordAt (now (rows .entry)) i (columnWords + k) ⌝ }
 {

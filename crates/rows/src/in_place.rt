@@ -6,6 +6,7 @@ use crate::STATUS;
 use crate::codec;
 use crate::codec::StateWords;
 use crate::columns;
+use models::RequestState;
 use models::SetupWords;
 use models::codes;
 use words::slices;
@@ -17,11 +18,15 @@ ghost use lib.ListN.{length};
 ghost use Rattle.words.specs.Words.{readFlag, flagWord};
 ghost use Rattle.models.specs.Codes.{readTransfer, transferWord, readDirection, directionWord};
 ghost use Rattle.models.specs.Values.{setupWords};
+ghost use Rattle.models.specs.declared.RequestState.the-variants as RequestState;
 ghost use Rattle.rows.specs.Codec.{stateWords, readRow, recordOf};
-ghost use Rattle.rows.specs.Table.{readRows, rowAt, emptyRow, isPendingRow, reportOf, withToken, flagged};
+ghost use Rattle.rows.specs.Table.{readRows, rowAt, emptyRow, isPendingRow, reportOf, withToken, restated, withState};
 ghost use Rattle.rows.specs.Store.{storeOf, putIn};
 ghost use Rattle.rows.specs.Values.{reportValues};
-ghost use Rattle.rows.specs.InPlace.{setupAt, stateAt, cancelled, timedOut};
+ghost use Rattle.rows.specs.InPlace.{setupAt, stateAt, cancelled, timedOut, completedRow};
+
+// The word of a record that has the cancel flag of a Pending state.
+const CANCEL: usize = 18;
 
 // A word made anew: the one that says what w says.
 fn renewed_flag(w: u64) -> u64
@@ -108,13 +113,14 @@ pub fn report_values(rows: &[u64], i: usize) -> [u64; 25]
     values(sequence, status, &rows[at..end])
 }
 
-// The record of a Pending row with another token, the flags c and t, and sc and st in its state, from the record w that it
-// has. A record says nothing of the sequence, which is 0 here.
-fn renewed(w: &[u64], token: u64, sc: bool, st: bool, c: bool, t: bool) -> [u64; 24]
+// The record of a request's row with another token, the flags c and t, and another state, from the record w that it has. A
+// record says nothing of the sequence, which is 0 here.
+fn renewed(w: &[u64], token: u64, c: bool, t: bool, state: RequestState) -> [u64; 24]
     requires { ⌜ length (now w) ≡ 24 ⌝ }
-    ensures { λ r. ⌜ r ≡ recordOf (flagged (withToken (readRow (0 ∷ 1 ∷ now (w .entry))) token) sc st c t) ⌝ }
+    ensures { λ r. ⌜ r ≡ recordOf (restated (withToken (readRow (0 ∷ 1 ∷ now (w .entry))) token) c t state) ⌝ }
 {
     let p = renewed_setup(w);
+    let s = codec::status_words(true, state);
     [
         w[0],
         w[1],
@@ -134,13 +140,22 @@ fn renewed(w: &[u64], token: u64, sc: bool, st: bool, c: bool, t: bool) -> [u64;
         token,
         words::flag_word(c),
         words::flag_word(t),
-        words::flag_word(sc),
-        words::flag_word(st),
-        0,
-        0,
-        0,
-        0,
+        s.a,
+        s.b,
+        s.rest,
+        s.d,
+        s.e,
+        s.f,
     ]
+}
+
+fn pending(logical_cancel: bool, timed_out: bool) -> RequestState
+    ensures { λ r. ⌜ r ≡ RequestState.Pending «logical_cancel» «timed_out» ⌝ }
+{
+    RequestState::Pending {
+        logical_cancel,
+        timed_out,
+    }
 }
 
 fn cancelled_record(w: &[u64]) -> [u64; 24]
@@ -149,7 +164,7 @@ fn cancelled_record(w: &[u64]) -> [u64; 24]
 {
     let late = words::to_flag(w[19]);
     let timed_out = words::to_flag(w[17]);
-    renewed(w, w[15], true, late, true, timed_out)
+    renewed(w, w[15], true, timed_out, pending(true, late))
 }
 
 fn late_record(w: &[u64]) -> [u64; 24]
@@ -158,7 +173,7 @@ fn late_record(w: &[u64]) -> [u64; 24]
 {
     let cancel = words::to_flag(w[18]);
     let logical_cancel = words::to_flag(w[16]);
-    renewed(w, w[15], cancel, true, logical_cancel, true)
+    renewed(w, w[15], logical_cancel, true, pending(cancel, true))
 }
 
 fn accepted_record(w: &[u64], token: u64) -> [u64; 24]
@@ -169,7 +184,16 @@ fn accepted_record(w: &[u64], token: u64) -> [u64; 24]
     let late = words::to_flag(w[19]);
     let logical_cancel = words::to_flag(w[16]);
     let timed_out = words::to_flag(w[17]);
-    renewed(w, token, cancel, late, logical_cancel, timed_out)
+    renewed(w, token, logical_cancel, timed_out, pending(cancel, late))
+}
+
+fn ended_record(w: &[u64], state: RequestState) -> [u64; 24]
+    requires { ⌜ length (now w) ≡ 24 ⌝ }
+    ensures { λ r. ⌜ r ≡ recordOf (withState (readRow (0 ∷ 1 ∷ now (w .entry))) state) ⌝ }
+{
+    let logical_cancel = words::to_flag(w[16]);
+    let timed_out = words::to_flag(w[17]);
+    renewed(w, w[15], logical_cancel, timed_out, state)
 }
 
 // Row i, which is Pending, is cancelled; its column words stay.
@@ -206,6 +230,37 @@ pub fn accept_row(rows: &mut [u64], i: usize, token: u64)
     let end = at + RECORD_WORDS;
     let w = accepted_record(&rows[at..end], token);
     slices::copy_words(rows, at, &w, RECORD_WORDS);
+}
+
+// Row i, which is Pending, has another state.
+pub fn end_row(rows: &mut [u64], i: usize, state: RequestState)
+    requires { ⌜ (i < length (readRows (now rows))) × (isPendingRow (rowAt (now rows) i) ≡ true) ⌝ }
+    ensures { λ _. ⌜ storeOf (now (rows .exit))
+        ≡ putIn (storeOf (now (rows .entry))) i (withState (rowAt (now (rows .entry)) i) state) ⌝ }
+{
+    let n = rows.len() / ROW_WORDS;
+    let at = columns::record_at(rows, i);
+    let end = at + RECORD_WORDS;
+    let w = ended_record(&rows[at..end], state);
+    let s = codec::status_words(true, state);
+    let sequence = columns::column(rows, i, SEQUENCE);
+    crate::put_columns(rows, n, i, sequence, s.status);
+    slices::copy_words(rows, at, &w, RECORD_WORDS);
+}
+
+// Row i, which is Pending, is completed.
+pub fn complete_row(rows: &mut [u64], i: usize, actual_length: u64, completion_code: u32)
+    requires { ⌜ (i < length (readRows (now rows))) × (isPendingRow (rowAt (now rows) i) ≡ true) ⌝ }
+    ensures { λ _. ⌜ storeOf (now (rows .exit)) ≡ putIn (storeOf (now (rows .entry))) i
+        (completedRow (rowAt (now (rows .entry)) i) «actual_length» «completion_code») ⌝ }
+{
+    let logical_cancel = words::to_flag(columns::field(rows, i, CANCEL));
+    let state = RequestState::Completed {
+        actual_length,
+        completion_code,
+        logical_cancel,
+    };
+    end_row(rows, i, state)
 }
 
 // Row i is free.

@@ -12,7 +12,7 @@ use Rattle.models.specs.declared.RequestMetadata.{RequestMetadata}
 use Rattle.models.specs.declared.RequestState.{RequestState}
 use Rattle.models.specs.declared.RequestState.the-variants.{Pending, Completed, Failed, Aborted}
 use Rattle.rows.specs.Table.{emptyRow}
-pub use Rattle.rows.specs.Table.{reportOf, withToken, flagged}
+pub use Rattle.rows.specs.Table.{reportOf, withToken, withState, flagged}
 use Rattle.rows.specs.declared.Row.{Row}
 use Rattle.rules.specs.declared.Step.{Step}
 use Rattle.rules.specs.declared.Step.the-variants as step
@@ -38,17 +38,6 @@ moved r = step.To r (reportOf r)
 
 unfoldable pub freed : Row → Step
 freed r = step.To emptyRow (reportOf r)
-
-abbrev pub withState : Row → RequestState → Row
-withState r s = record {
-  used = r .used;
-  id = r .id;
-  metadata = r .metadata;
-  token = r .token;
-  «logical_cancel» = r .«logical_cancel»;
-  «timed_out» = r .«timed_out»;
-  state = s;
-}
 
 -- the backend took the submission
 unfoldable pub accepted : Row → ℕ → Step

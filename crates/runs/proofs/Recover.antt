@@ -8,7 +8,7 @@ use borrow.Author.Tests.{eqb-true, eqb-false, not-true, ltb-false}
 use lib.Dec.{eqb, ltb}
 use lib.ListN.{length, set, take, drop, length-set}
 use lib.Seq.{getD-set-same, getD-set-other}
-use Rattle.chain.specs.Lists.{count, anyIn}
+use Rattle.chain.specs.Lists.{count, anyIn, isAmong}
 use Rattle.chain.specs.After.{After}
 use Rattle.chain.proofs.Chain.{caseB, if-by, and3}
 use Rattle.words.specs.declared.OptionU32.{OptionU32}
@@ -38,7 +38,7 @@ use Rattle.session.specs.declared.OptionStall.the-variants as stall
 use Rattle.session.specs.declared.RecoveryKind.{RecoveryKind}
 use Rattle.session.specs.declared.RecoveryKind.the-variants as kind
 use Rattle.session.specs.declared.Session.{Session}
-use Rattle.scope.specs.Scope.{isAmong, inScope}
+use Rattle.scope.specs.Scope.{inScope}
 use Rattle.scope.specs.Returned.{Returned}
 use Rattle.session.specs.declared.Size.{Size}
 use Rattle.session.specs.declared.Recovery.{Recovery}

@@ -3,14 +3,15 @@ use Prim.Native.Nat.{ℕ}
 use mathlib.Core.Path.{_≡_, refl, sym, ap, _∙_}
 use mathlib.Core.Bool.{Bool, true, false, not, _&&_, _||_, true≢false, false≢true}
 use mathlib.Core.List.{List, [], _∷_, _++_, map}
-use borrow.Author.Tests.{eq-eqb, eqb-true, not-true}
+use borrow.Author.Tests.{eqb-true, not-true}
 use lib.ListN.{length}
 use lib.Dec.{eqb}
+use Rattle.chain.specs.Lists.{isAmong, allIn}
 use Rattle.chain.proofs.Chain.{caseB, both}
+use Rattle.chain.proofs.Lists.{in-cons, in-head}
 use Rattle.words.proofs.Records.{map-tab, tab-list}
 use Rattle.scope.specs.Returned.{Returned, returnedAt, readReturned}
-use Rattle.scope.specs.Scope.{isAmong, eachOnce, allIn, inScope}
-use Rattle.scope.proofs.tokens.Laws.{in-cons}
+use Rattle.scope.specs.Scope.{eachOnce, inScope}
 use Rattle.recovery.specs.RecoveryReply.{ReplyLists}
 
 abbrev pub tokensIn : List Returned → List ℕ
@@ -72,14 +73,11 @@ module _ (own : List ℕ) where
       let later : isAmong u (t ∷ l) ≡ true = in-cons u t l ∙ rw (n, i) in
       in-cons u t ts ∙ rw n (apart ts (t ∷ l) u (p .2) later)
 
-  self-in : (t : ℕ) (l : List ℕ) → isAmong t (t ∷ l) ≡ true
-  self-in t l = let s = eq-eqb t t refl in in-cons t t l ∙ rw s
-
   each-apart : (ts l : List ℕ) → eachOnce own l ts ≡ true → Distinct ts
   each-apart [] l e = tt
   each-apart (t ∷ ts) l e =
       let p = and3 (isAmong t own) (not (isAmong t l)) (eachOnce own (t ∷ l) ts) e in
-      (apart ts (t ∷ l) t (p .2) (self-in t l), each-apart ts (t ∷ l) (p .2))
+      (apart ts (t ∷ l) t (p .2) (in-head t l), each-apart ts (t ∷ l) (p .2))
 
   module _ (whole : Bool) (l : ReplyLists) (scope : inScope whole own (l .tokens ++ l .aborted) ≡ true) where
     once : eachOnce own [] (replyTokens l) ≡ true

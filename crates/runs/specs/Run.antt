@@ -4,12 +4,12 @@ use mathlib.Core.Bool.{Bool, true, false, not}
 use mathlib.Core.Path.{_≡_}
 use mathlib.Core.List.{List, [], _∷_}
 use Rattle.chain.specs.After.{After}
+use Rattle.chain.specs.Lists.{isAmong}
 use Rattle.words.specs.declared.OptionU64.{OptionU64}
 use Rattle.words.specs.declared.OptionU64.the-variants as u64
 use Rattle.models.specs.Refusals.{refusalOf}
 use Rattle.bus.specs.Tables.{Bus}
 use Rattle.session.specs.Lent.{Lent, memory, lent}
-use Rattle.scope.specs.Scope.{isAmong}
 use Rattle.calls.specs.Calls.{Call, Open, Place, Move, Acquire, Initialize, Close, Begin, Reply, Change, Read}
 use Rattle.calls.specs.Step.{World, world, worldStore, stepOf}
 use Rattle.calls.specs.declared.Answer.{Answer}

@@ -3,7 +3,8 @@ ghost use mathlib.Core.Path.{_≡_};
 ghost use Prim.Native.Nat.{_+_, _<_, _≤_};
 ghost use mathlib.Core.List.{[], _++_};
 ghost use lib.ListN.{length, getD};
-ghost use Rattle.scope.specs.Scope.{slotOf, isAmong, eachOnce, allIn, inScope};
+ghost use Rattle.chain.specs.Lists.{isAmong, allIn};
+ghost use Rattle.scope.specs.Scope.{slotOf, Rises, eachOnce, inScope};
 
 // The place of the first that has the token; as many as there are where none has it.
 pub fn slot_of(own: &[u64], token: u64) -> usize
@@ -20,6 +21,34 @@ pub fn slot_of(own: &[u64], token: u64) -> usize
     k
 }
 
+// Each token is greater than the one before it.
+pub fn rises(own: &[u64]) -> bool
+    ensures { λ r. ⌜ Rises r (now (own .entry)) ⌝ }
+{
+    let n = own.len();
+    let mut k = 1;
+    while k < n {
+        if own[k - 1] >= own[k] {
+            return false;
+        }
+        k += 1;
+    }
+    true
+}
+
+// The same as `slot_of`. Where tokens rise, one that stands at `near` stands nowhere else.
+pub fn slot_near(own: &[u64], rising: bool, near: usize, token: u64) -> usize
+    requires { ⌜ Rises rising (now own) ⌝ }
+    ensures { λ r. ⌜ r ≡ slotOf (now (own .entry)) token ⌝ }
+{
+    if near < own.len() {
+        if rising & (token == own[near]) {
+            return near;
+        }
+    }
+    slot_of(own, token)
+}
+
 fn contains(list: &[u64], token: u64) -> bool
     ensures { λ r. ⌜ r ≡ isAmong token (now (list .entry)) ⌝ }
 {
@@ -27,7 +56,7 @@ fn contains(list: &[u64], token: u64) -> bool
 }
 
 // The k-th of the tokens that came back: the completed ones, then the aborted ones.
-fn returned_at(tokens: &[u64], aborted: &[u64], k: usize) -> u64
+pub fn returned_at(tokens: &[u64], aborted: &[u64], k: usize) -> u64
     requires { ⌜ k < length (now tokens) + length (now aborted) ⌝ }
     ensures { λ r. ⌜ r ≡ getD (now (tokens .entry) ++ now (aborted .entry)) k 0 ⌝ }
 {
@@ -44,11 +73,12 @@ fn each_once(own: &[u64], tokens: &[u64], aborted: &[u64]) -> bool
     ensures { λ r. ⌜ r ≡ eachOnce (now (own .entry)) [] (now (tokens .entry) ++ now (aborted .entry)) ⌝ }
 {
     let n = tokens.len() + aborted.len();
+    let rising = rises(own);
     let mut marks = [false; 128];
     let mut k = 0;
     while k < n {
         let token = returned_at(tokens, aborted, k);
-        let j = slot_of(own, token);
+        let j = slot_near(own, rising, k, token);
         if j >= own.len() {
             return false;
         }

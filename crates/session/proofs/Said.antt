@@ -4,11 +4,12 @@ use mathlib.Core.Bool.{Bool, true}
 use mathlib.Core.List.{List}
 use mathlib.Core.Path.{_≡_, refl}
 use Rattle.chain.specs.After.{After, after}
+use Rattle.chain.specs.Lists.{isAmong}
 use Rattle.chain.proofs.Chain.{if-all}
 use Rattle.words.specs.declared.OptionU64.{OptionU64}
 use Rattle.words.specs.declared.OptionU64.the-variants as u64
 use Rattle.models.specs.Refusals.{refusalOf}
-use Rattle.models.specs.Said.{isOneOf, Tabled, verdictSaid}
+use Rattle.models.specs.Said.{Tabled, verdictSaid}
 use Rattle.models.specs.declared.DeviceSnapshot.{DeviceSnapshot}
 use Rattle.models.specs.declared.OptionError.{OptionError}
 use Rattle.models.specs.declared.OptionError.the-variants as error
@@ -114,7 +115,7 @@ pub placed-said : (ns : List ℕ) (o : After Verdict Bus) (x : Verdict) (left : 
 placed-said ns o x left e h = said-of (Places ns) _ _ e h
 
 module _ (s : Session) (b : Bus) where
-  placed-tabled : (ns : List ℕ) (done : After Verdict Bus) → isOneOf ns 1 ≡ true → isOneOf ns 3 ≡ true → Places ns done → Places ns (placed done s b)
+  placed-tabled : (ns : List ℕ) (done : After Verdict Bus) → isAmong 1 ns ≡ true → isAmong 3 ns ≡ true → Places ns done → Places ns (placed done s b)
   unfolding placed
   placed-tabled ns done a c h = guarded-all (Places ns) s _ _ _ (tabled-own _ 1 a) (tabled-own _ 3 c) h
 

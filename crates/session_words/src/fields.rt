@@ -1,4 +1,5 @@
 // Single fields of a session, read from its words and written there.
+use crate::state;
 use models::RequestId;
 use models::codes;
 use session::Size;
@@ -8,6 +9,7 @@ ghost use mathlib.Core.Bool.{true, false};
 ghost use mathlib.Core.Path.{_≡_};
 ghost use Rattle.session.specs.Session.{isBusy, isInitialized, withFlight};
 ghost use Rattle.session.specs.declared.InFlight.the-variants as InFlight;
+ghost use Rattle.session_words.specs.Fields.{isSubmitFlight, isPollFlight, flightId};
 ghost use Rattle.session_words.specs.State.{readSession, isSession, keptOf, keptAs};
 
 pub fn size(w: &[u64]) -> Size
@@ -25,6 +27,28 @@ pub fn is_busy(w: &[u64]) -> bool
 {
     let tag = word_at(w, 15);
     tag != 0
+}
+
+pub fn is_submitting(w: &[u64]) -> bool
+    ensures { λ r. ⌜ r ≡ isSubmitFlight (readSession (now (w .entry)) .«in_flight») ⌝ }
+{
+    let tag = word_at(w, 15);
+    tag == 1
+}
+
+pub fn is_polling(w: &[u64]) -> bool
+    ensures { λ r. ⌜ r ≡ isPollFlight (readSession (now (w .entry)) .«in_flight») ⌝ }
+{
+    let tag = word_at(w, 15);
+    tag == 2
+}
+
+// The request of what is in flight.
+pub fn flight_id(w: &[u64]) -> RequestId
+    requires { ⌜ isBusy (readSession (now w) .«in_flight») ≡ true ⌝ }
+    ensures { λ r. ⌜ r ≡ flightId (readSession (now (w .entry)) .«in_flight») ⌝ }
+{
+    state::id_at(w, 16)
 }
 
 pub fn is_initialized(w: &[u64]) -> bool

@@ -7,9 +7,10 @@ use lib.ListN.{length}
 use Rattle.chain.specs.After.{After, after}
 use Rattle.chain.specs.declared.Found.{Found}
 use Rattle.chain.specs.declared.Found.the-variants as found
+use Rattle.chain.specs.Lists.{isAmong}
 use Rattle.chain.proofs.Chain.{if-all}
 use Rattle.models.specs.Refusals.{refusalOf}
-use Rattle.models.specs.Said.{isOneOf, Tabled, verdictSaid}
+use Rattle.models.specs.Said.{Tabled, verdictSaid}
 use Rattle.models.specs.declared.ControlPlan.{ControlPlan}
 use Rattle.models.specs.declared.OperationError.{OperationError}
 use Rattle.models.specs.declared.PortReading.{PortReading}
@@ -62,7 +63,7 @@ use Rattle.submissions.specs.declared.begin.Start.the-variants as start
 use Rattle.submissions.specs.declared.begin.Started.{Started}
 
 -- ---- the end of every submission; 39 is in ns
-module _ (ns : List ℕ) (last : isOneOf ns 39 ≡ true) where
+module _ (ns : List ℕ) (last : isAmong 39 ns ≡ true) where
   abbrev Starts : After Started Memory → Type 0
   Starts o = Tabled ns (startSaid (o .result .answer))
 

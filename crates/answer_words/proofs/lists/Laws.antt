@@ -1,11 +1,11 @@
 -- Laws of lists that are written beside an answer. Assumes nothing.
-use Prim.Native.Nat.{ℕ, _+_, _*_, _<_, _≤_, min}
+use Prim.Native.Nat.{ℕ, _+_, _-_, _*_, _<_, _≤_, min}
 use mathlib.Core.List.{List, [], _∷_, _++_, append-assoc}
 use mathlib.Core.Path.{_≡_, refl, sym, ap, _∙_}
 use native.Mathlib.Omega.{arith}
 use native.Mathlib.Numerals.{add-one}
-use lib.ListN.{length, getD, take, drop, length-append, length-take, take-append-drop}
-use lib.Seq.{take-suc, take-at, drop-drop, drop-append-add, length-take-le}
+use lib.ListN.{length, getD, take, drop, length-append, length-take, length-drop, length-map, take-append-drop, List·getD-map}
+use lib.Seq.{take-suc, take-all, take-at, drop-drop, drop-append-add, length-take-le}
 use borrow.Author.Tests.{lt-ltb, le-ltb}
 use Rattle.chain.proofs.Chain.{takes, passes}
 use Rattle.words.proofs.Parts.{take-cut}
@@ -17,9 +17,15 @@ use Rattle.session.specs.declared.Recovery.{Recovery}
 use Rattle.recovery.specs.declared.AbortReport.{AbortReport}
 use Rattle.recovery.specs.declared.BeginAnswer.the-variants as begin
 use Rattle.recovery.specs.declared.Begun.{Begun}
-use Rattle.recovery.specs.declared.Recovered.{Recovered}
+use Rattle.recovery.specs.declared.RecoveryAnswer.{RecoveryAnswer}
 use Rattle.recovery.specs.declared.RecoveryAnswer.the-variants as recovery
-use Rattle.answer_words.specs.Lists.{tokenList, idWords, idList, begunLists, recoveredLists, putLists}
+use Rattle.recovery.specs.declared.Replied.{Replied}
+use Rattle.recovery.specs.Reports.{noId, idsOf, from, idsIn, manyIn, filled}
+use Rattle.recovery.proofs.recovery_reply.Laws.{part-first, part-rest, fill-few}
+use Rattle.chain.proofs.Listed.{listed-take}
+use Rattle.rows.specs.Table.{idIn}
+use Rattle.rows.specs.declared.Row.{Row}
+use Rattle.answer_words.specs.Lists.{tokenList, idWords, idList, begunLists, partLists, recoveredBy, recoveredLists, putLists}
 
 -- a, and then b behind it
 splice-join : (at from : ℕ) (a b l : List ℕ) → from ≡ at + length a → from ≤ length l → splice from b (splice at a l) ≡ splice at (a ++ b) l
@@ -60,12 +66,24 @@ module _ (ids : List RequestId) (at : ℕ) (l : List ℕ) where
         let j = splice-join (at + 1) (at + 1 + k * 3) (idWords (take k ids)) (requestIdWords (getD ids k d)) l z (omega arith) in
         q ∙ rw (e, j, add-one k, take-suc ids k d (omega arith), id-words-append (take k ids) (getD ids k d ∷ []))
 
-    pub ids-end : (l₀ : List ℕ) → at + 1 + n * 3 ≤ length l₀ → length ids ≡ 128 → n ≤ 128 → k ≤ n → n ≤ k → l ≡ splice at (n ∷ []) l₀
-        → m ≡ splice at (idList (take n ids)) l₀
-    ids-end l₀ h i le g o el =
+    pub ids-end : (l₀ : List ℕ) → at + 1 + n * 3 ≤ length l₀ → n ≡ length ids → k ≤ n → n ≤ k → l ≡ splice at (n ∷ []) l₀
+        → m ≡ splice at (idList ids) l₀
+    ids-end l₀ h i g o el =
         let z : k ≡ n = omega arith in
-        let j = splice-join at (at + 1) (n ∷ []) (idWords (take n ids)) l₀ refl (omega arith) in
-        e ∙ rw (z, el, j, length-take-le n ids (omega arith))
+        let j = splice-join at (at + 1) (n ∷ []) (idWords ids) l₀ refl (omega arith) in
+        e ∙ rw (z, take-all n ids (omega arith), el, j, i)
+
+-- of the rows at places
+module _ (rows : List Row) (places : List ℕ) (at : ℕ) (l : List ℕ) (n k : ℕ) (m : List ℕ) (en : n ≡ length places)
+    (e : m ≡ splice (at + 1) (idWords (take k (idsOf rows places))) l) where
+  pub place-on : (id : RequestId) (after : List ℕ) → k < n → id ≡ idIn rows (getD places k 0) → after ≡ splice (at + 1 + k * 3) (requestIdWords id) m
+      → at + 1 + n * 3 ≤ length l → after ≡ splice (at + 1) (idWords (take (k + 1) (idsOf rows places))) l
+  place-on id after lt ei q h =
+      ids-on (idsOf rows places) at l n k m e (idIn rows 0) after h lt (omega (arith, length-map places (idIn rows)))
+      (q ∙ ap (λ (x : RequestId). splice (at + 1 + k * 3) (requestIdWords x) m) (ei ∙ sym (List·getD-map (idIn rows) places k 0)))
+
+  pub place-end : (l₀ : List ℕ) → at + 1 + n * 3 ≤ length l₀ → k ≤ n → n ≤ k → l ≡ splice at (n ∷ []) l₀ → m ≡ splice at (idList (idsOf rows places)) l₀
+  place-end l₀ h g o el = ids-end (idsOf rows places) at l n k m e l₀ h (en ∙ sym (length-map places (idIn rows))) g o el
 
 -- ---- room
 pub put-all : (lists l after : List ℕ) → length lists ≤ length l → after ≡ splice 0 lists l → after ≡ putLists lists l
@@ -94,27 +112,46 @@ module _ (tokens l : List ℕ) (count n : ℕ) (et : length tokens ≡ 128) (en 
       let j = splice-join 0 1 (n ∷ []) (take n tokens) l refl (omega arith) in
       put-all (tokenList (take count tokens)) l after (omega (arith, tokens-length)) (ea ∙ rw (em, j, tokens-length, cut tokens count n et en))
 
--- ---- two lists of ids
-module _ (a b : List RequestId) (l : List ℕ) (x y n m : ℕ) (ha : length a ≡ 128) (hb : length b ≡ 128) (en : n ≡ min x 128) (em : m ≡ min y 128) where
-  abbrev two : List ℕ
-  two = idList (take x a) ++ idList (take y b)
+-- ---- two lists of ids, at the first n places and at the others
+module _ (rows : List Row) (places l : List ℕ) (n m : ℕ) (h : n ≤ length places) (em : m ≡ length places - n) where
+  abbrev first : List RequestId
+  first = idsOf rows (take n places)
 
-  first-length : length (idList (take x a)) ≡ 1 + n * 3
-  first-length = let z : length (take x a) ≡ n = length-take x a ∙ rw (ha, en) in omega (arith, id-words-length (take x a))
+  abbrev others : List RequestId
+  others = idsOf rows (from n places)
 
-  two-length : length two ≡ 2 + n * 3 + m * 3
-  two-length =
-      let z : length (take y b) ≡ m = length-take y b ∙ rw (hb, em) in
-      omega (arith, length-append (idList (take x a)) (idList (take y b)), first-length, id-words-length (take y b))
+  first-length : length first ≡ n
+  first-length = length-map (take n places) (idIn rows) ∙ length-take-le n places h
 
-  pub two-short : length l < 1 + n * 3 + 1 + m * 3 → l ≡ putLists two l
-  two-short h = put-not two l (omega (arith, two-length))
+  others-length : length others ≡ m
+  others-length = length-map (from n places) (idIn rows) ∙ length-take-le (length places - n) (drop n places) (omega (arith, length-drop n places)) ∙ sym em
 
-  pub two-put : (k after : List ℕ) → 1 + n * 3 + 1 + m * 3 ≤ length l → k ≡ splice 0 (idList (take n a)) l
-      → after ≡ splice (1 + n * 3) (idList (take m b)) k → after ≡ putLists two l
-  two-put k after h ek ea =
-      let j = splice-join 0 (1 + n * 3) (idList (take x a)) (idList (take y b)) l (omega (arith, first-length)) (omega arith) in
-      put-all two l after (omega (arith, two-length)) (ea ∙ rw (ek, cut a x n ha en, cut b y m hb em) j)
+  two-length : length (idList first ++ idList others) ≡ 2 + n * 3 + m * 3
+  two-length = omega (arith, length-append (idList first) (idList others), id-words-length first, id-words-length others, first-length, others-length)
+
+  pub two-short : length l < 1 + n * 3 + 1 + m * 3 → l ≡ putLists (idList first ++ idList others) l
+  two-short g = put-not (idList first ++ idList others) l (omega (arith, two-length))
+
+  pub two-put : (k after : List ℕ) → 1 + n * 3 + 1 + m * 3 ≤ length l → k ≡ splice 0 (idList first) l → after ≡ splice (1 + n * 3) (idList others) k
+      → after ≡ putLists (idList first ++ idList others) l
+  two-put k after g ek ea =
+      let j = splice-join 0 (1 + n * 3) (idList first) (idList others) l (omega (arith, id-words-length first, first-length)) (omega arith) in
+      put-all (idList first ++ idList others) l after (omega (arith, two-length)) (ea ∙ rw (ek, j))
+
+  pub first-room : 1 + n * 3 + 1 + m * 3 ≤ length l → 0 + 1 + length (take n places) * 3 ≤ length l
+  first-room g = omega (arith, length-take-le n places h)
+
+-- in a list of 128
+module _ (rows : List Row) (places l after : List ℕ) (n m : ℕ) (few : n + m ≤ 128) (el : length places ≡ 128) where
+  pub parts-put : after ≡ putLists (idList (idsOf rows (take n (take (n + m) places))) ++ idList (idsOf rows (from n (take (n + m) places)))) l
+      → after ≡ putLists (partLists rows places n m) l
+  parts-put e =
+      let z : n + m - n ≡ m = omega arith in
+      let a : List RequestId = idsOf rows (take n places) in
+      let b : List RequestId = idsOf rows (take m (drop n places)) in
+      let la : n ≡ length a = sym (length-map (take n places) (idIn rows) ∙ length-take-le n places (omega arith)) in
+      let lb : m ≡ length b = sym (length-map (take m (drop n places)) (idIn rows) ∙ length-take-le m (drop n places) (omega (arith, length-drop n places))) in
+      e ∙ rw (part-first places n (n + m) (omega arith), part-rest places n (n + m) (omega arith) (omega arith), z, listed-take 128 noId a n la (omega arith), listed-take 128 noId b m lb (omega arith))
 
 -- ---- by the answer
 pub begun-refused : (o : Begun) (r : Refusal) (l : List ℕ) → o .answer ≡ begin.Refused r → l ≡ putLists (begunLists o) l
@@ -126,12 +163,15 @@ pub begun-put : (o : Begun) (x : Recovery) (l after : List ℕ) → o .answer �
 unfolding begunLists
 begun-put o x l after e h = rw e h
 
-pub recovered-refused : (o : Recovered) (r : Refusal) (l : List ℕ) → o .answer ≡ recovery.Refused r → l ≡ putLists (recoveredLists o) l
+pub replied-refused : (p : Replied) (rows : List Row) (r : Refusal) (l : List ℕ) → p .answer ≡ recovery.Refused r → l ≡ putLists (recoveredLists (filled p rows)) l
 unfolding recoveredLists
-recovered-refused o r l e = rw e (put-none l)
+replied-refused p rows r l e = put-none l ∙ ap (λ (x : RecoveryAnswer). putLists (recoveredBy x (idsIn x rows (p .places))) l) (sym e)
 
-pub recovered-put : (o : Recovered) (x : AbortReport) (l after : List ℕ) → o .answer ≡ recovery.Report x
-    → after ≡ putLists (idList (take (x .completed) (o .ids .completed)) ++ idList (take (x .aborted) (o .ids .aborted))) l
-    → after ≡ putLists (recoveredLists o) l
-unfolding recoveredLists
-recovered-put o x l after e h = rw e h
+module _ (p : Replied) (x : AbortReport) (e : p .answer ≡ recovery.Report x) where
+  pub replied-few : manyIn (p .answer) ≤ 128 → x .completed + x .aborted ≤ 128
+  replied-few h = fill-few p x e h
+
+  pub replied-put : (rows : List Row) (l after : List ℕ) → after ≡ putLists (partLists rows (p .places) (x .completed) (x .aborted)) l
+      → after ≡ putLists (recoveredLists (filled p rows)) l
+  unfolding recoveredLists
+  replied-put rows l after h = h ∙ ap (λ (y : RecoveryAnswer). putLists (recoveredBy y (idsIn y rows (p .places))) l) (sym e)

@@ -1,10 +1,13 @@
-use Rattle.direct.proofs.Laws.{submitting-not, submitting-own}
+use Rattle.direct.proofs.Laws.{submission-busy, submitting-not, submitting-own}
 use borrow.Author.Needs.{needs}
 use Rattle.direct.proofs.is_submitting.Statement.{statement}
 use Rattle.direct.proofs.is_submitting.Tie as tie
 
 returns : tie.Need-returns
 returns c = search submitting-not
+
+flight-id-requires : tie.Need-flight-id-requires
+flight-id-requires c κs = search submission-busy
 
 returns-2 : tie.Need-returns-2
 returns-2 c = search submitting-own
@@ -15,6 +18,6 @@ is-submitting-spec =
     (tie.spec
     (λ c κs. search needs)
     returns
-    (λ c κs. search needs)
+    flight-id-requires
     (λ c κs. search needs)
     returns-2)

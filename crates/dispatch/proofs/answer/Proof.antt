@@ -1,10 +1,10 @@
-use Rattle.dispatch.proofs.Dispatch.{by-value-is, poll-ran, change-ran, report-ran}
+use Rattle.dispatch.proofs.Dispatch.{other-is, poll-ran, change-ran, report-ran}
 use borrow.Author.Needs.{needs}
 use Rattle.dispatch.proofs.answer.Statement.{statement}
 use Rattle.dispatch.proofs.answer.Tie as tie
 
 answer-other-requires : tie.Need-answer-other-requires
-answer-other-requires c κs = search by-value-is
+answer-other-requires c κs = search other-is
 
 returns-2 : tie.Need-returns-2
 returns-2 c = search poll-ran

@@ -19,6 +19,9 @@ use Rattle.recovery.specs.RecoveryReply.{ReplyLists, replyLists, recoveryReplyO
 use Rattle.recovery.specs.declared.Begun.{Begun}
 use Rattle.recovery.specs.declared.Recovered.{Recovered}
 use Rattle.recovery.specs.declared.RecoveryReply.{RecoveryReply}
+use Rattle.recovery.specs.declared.Replied.{Replied}
+use Rattle.recovery.specs.Reports.{filled}
+use Rattle.rows.specs.declared.Row.{Row}
 use Rattle.calls.specs.Answers.{outcome, ofBegin, ofRecovery}
 use Rattle.call_words.specs.Arguments.{readRecoveryReply, readCompleted, readCompletions, readAborted, readLists}
 use Rattle.calls.specs.Calls.{Recover, ToRecovery, Begin, Reply}
@@ -39,7 +42,7 @@ module _ (s : Session) (store : Store) (area w bytes l m : List ℕ) (r : Outcom
   abbrev Runs : ℕ → Memory → Type 0
   Runs n next = (b : Bus) → ran (after r (lent b next)) m ≡ runOf (readRecovering n w bytes) (handed b) l
 
-  pub reply-run : (next : Memory) (x : Recovered) (reply : RecoveryReply) (tokens words aborted : List ℕ) → reply ≡ readRecoveryReply w
+  reply-run : (next : Memory) (x : Recovered) (reply : RecoveryReply) (tokens words aborted : List ℕ) → reply ≡ readRecoveryReply w
       → tokens ≡ readCompleted w → words ≡ readCompletions w → aborted ≡ readAborted w
       → after x next ≡ recoveryReplyOf reply (replyLists tokens words aborted bytes) s (memory store area)
       → m ≡ putLists (recoveredLists x) l → r ≡ outcome (ofRecovery (x .answer)) (x .session) → Runs 24 next
@@ -51,6 +54,13 @@ module _ (s : Session) (store : Store) (area w bytes l m : List ℕ) (r : Outcom
       (ap (λ (z : Outcome). ran (after z (lent b next)) m) eo
       ∙ ap (ran (recovers (after x next) (handed b))) el
       ∙ ap (λ (z : After Recovered Memory). ran (recovers z (handed b)) (putLists (recoveredLists (z .result)) l)) h)
+
+  -- the same by the places of rows
+  pub places-run : (next : Memory) (p : Replied) (rows : List Row) (reply : RecoveryReply) (tokens words aborted : List ℕ) → reply ≡ readRecoveryReply w
+      → tokens ≡ readCompleted w → words ≡ readCompletions w → aborted ≡ readAborted w
+      → after (filled p rows) next ≡ recoveryReplyOf reply (replyLists tokens words aborted bytes) s (memory store area)
+      → m ≡ putLists (recoveredLists (filled p rows)) l → r ≡ outcome (ofRecovery (p .answer)) (p .session) → Runs 24 next
+  places-run next p rows reply tokens words aborted er et ew ea h el eo = reply-run next (filled p rows) reply tokens words aborted er et ew ea h el eo
 
   module _ (n : ℕ) where
     pub replied-run : (next : Memory) → (n ≡ 22 → ⊥) → (n ≡ 23 → ⊥) → Runs 24 next → Runs n next

@@ -1,4 +1,4 @@
-use Rattle.dispatch.proofs.Dispatch.{place-said, move-said, submit-said, not-poll, reply-said, recover-said}
+use Rattle.dispatch.proofs.Dispatch.{place-said, move-said, submit-said, recover-said}
 use borrow.Author.Needs.{needs}
 use Rattle.dispatch.proofs.step.Statement.{statement}
 use Rattle.dispatch.proofs.step.Tie as tie
@@ -12,14 +12,8 @@ returns-2 c = search move-said
 returns-3 : tie.Need-returns-3
 returns-3 c = search submit-said
 
-reply-call-requires : tie.Need-reply-call-requires
-reply-call-requires c κs = search not-poll
-
 returns-4 : tie.Need-returns-4
-returns-4 c = search reply-said
-
-returns-5 : tie.Need-returns-5
-returns-5 c = search recover-said
+returns-4 c = search recover-said
 
 pub step-spec : {M : Type 1} → statement M
 step-spec =
@@ -39,12 +33,8 @@ step-spec =
     (λ c. search needs)
     (λ c. search needs)
     returns-3
-    reply-call-requires
-    (λ c. search needs)
-    (λ c. search needs)
-    returns-4
     (λ c κs. search needs)
     (λ c. search needs)
     (λ c. search needs)
     (λ c. search needs)
-    returns-5)
+    returns-4)

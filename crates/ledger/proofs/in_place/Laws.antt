@@ -43,7 +43,7 @@ settled (Completed actual code cancel) next e = refl
 settled (Failed error code quiescent) next e = refl
 settled Aborted next e = refl
 
-pending : (s : RequestState) (next : Bool → Bool → Row) → isPending s ≡ true → whilePending s next ≡ moved (next (cancelIn s) (lateIn s))
+pub pending : (s : RequestState) (next : Bool → Bool → Row) → isPending s ≡ true → whilePending s next ≡ moved (next (cancelIn s) (lateIn s))
 unfolding whilePending
 pending (Pending cancel late) next e = refl
 pending (Completed actual code cancel) next e = let z : _≡_ {A = ℕ} 0 1 = cc in absurd (omega arith)
@@ -56,10 +56,10 @@ module _ (l m : List ℕ) (i : ℕ) (r : Row) (h : i < length (readRows l)) (e :
   unfolding storeOf putIn
   rows-put = ap (λ (s : Store). s .rows) e
 
-  still-in : i < length (readRows m)
+  pub still-in : i < length (readRows m)
   still-in = rw (rows-put, length-set (readRows l) i r) h
 
-  read-back : rowAt m i ≡ r
+  pub read-back : rowAt m i ≡ r
   read-back = rw rows-put (getD-set-same (readRows l) i r emptyRow h)
 
 -- the row that was found

@@ -1,12 +1,12 @@
 -- One law for each way out of a reply's entries: its premises are the facts in hand there. Assumes nothing.
-use Prim.Native.Nat.{ℕ, suc, _+_, _-_, _*_, _<_, _≤_}
+use Prim.Native.Nat.{ℕ, suc, _+_, _-_, _*_, _<_, _≤_, min}
 use mathlib.Core.Path.{_≡_, sym, ap, _∙_}
 use mathlib.Core.Bool.{true}
-use mathlib.Core.List.{List, [], _∷_}
+use mathlib.Core.List.{List, [], _∷_, _++_, map}
 use native.Mathlib.Omega.{arith}
 use native.Mathlib.Numerals.{add-one}
 use lib.Dec.{ltb}
-use lib.ListN.{length, getD, take, drop, length-drop, List·getD-eq-default, drop-of-length-le}
+use lib.ListN.{length, getD, take, drop, set, replicate, length-append, length-drop, List·getD-eq-default, drop-of-length-le}
 use lib.Seq.{take-all, drop-cons, drop-drop}
 use borrow.Author.Tests.{ltb-true, ltb-false, eqb-true}
 use mir.Syntax.{w64}
@@ -14,6 +14,7 @@ use mir.Val.{Fits}
 use Rattle.chain.specs.After.{After, after}
 use Rattle.chain.specs.Lists.{sumBy}
 use Rattle.chain.proofs.Chain.{caseB, both}
+use Rattle.chain.proofs.Listed.{list-on}
 use Rattle.words.specs.Records.{tab, spliceCut}
 use Rattle.words.proofs.Records.{record-in, length-tab, getD-tab}
 use Rattle.models.specs.Refusals.{refusalOf, invalidCompletion}
@@ -93,6 +94,14 @@ pub meant-in : (w affected own : List ℕ) (t i : ℕ) → Below w affected → 
 meant-in w affected own t i b e = rw e (caseB (ltb (slotOf own t) (length affected))
     (λ y. b .inside (slotOf own t) (ltb-true (slotOf own t) (length affected) y))
     (λ y. let q : length affected ≤ slotOf own t = ltb-false (slotOf own t) (length affected) y in rw (List·getD-eq-default affected 0 q) (b .some)))
+
+pub all-returned : (a b : List ℕ) (n : ℕ) → length a + length b ≤ 128 → n ≡ length a + length b → n ≡ min (length (a ++ b)) 128
+all-returned a b n few e = omega (arith, length-append a b)
+
+module _ (affected own l : List ℕ) (n : ℕ) (a : List ℕ) (k x t : ℕ) where
+  pub place-on : k < n → n ≡ min (length l) 128 → a ≡ take k (map (meant affected own) l) ++ drop k (replicate 128 0) → t ≡ getD l k 0 → x ≡ meant affected own t
+      → set a k x ≡ take (k + 1) (map (meant affected own) l) ++ drop (k + 1) (replicate 128 0)
+  place-on lt en ea et ex = list-on 128 0 (meant affected own) l 0 n a k x lt en ea (ex ∙ ap (meant affected own) et)
 
 -- ---- the places that a walk visits
 module _ (z : Size) (w area : List ℕ) (f : Fit z w area) (i : ℕ) (h : i < length (readRows w)) where

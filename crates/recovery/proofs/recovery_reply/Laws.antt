@@ -1,12 +1,15 @@
 -- One law for each way out of a recovery's reply: its premises are the facts in hand there. Assumes nothing.
-use Prim.Native.Nat.{ℕ, _+_, _≤_}
+use Prim.Native.Nat.{ℕ, _+_, _-_, _≤_}
 use mathlib.Core.Bool.{Bool, true, false, not, _&&_}
 use mathlib.Core.List.{List, _++_}
 use mathlib.Core.Path.{_≡_, refl, sym, ap, _∙_}
 use native.Mathlib.Omega.{arith}
 use lib.Dec.{eqb}
-use lib.ListN.{length, take, replicate, length-take, length-map}
+use lib.ListN.{length, take, drop, replicate, length-take, length-drop, length-map, take-append-drop}
+use lib.Seq.{take-all, take-at, take-take, drop-append-le, length-take-le}
 use borrow.Author.Tests.{eq-eqb, ne-eqb}
+use mir.Syntax.{w64}
+use mir.Val.{Fits}
 use Rattle.chain.specs.After.{After, after}
 use Rattle.chain.specs.Lists.{anyIn, listed}
 use Rattle.chain.proofs.Chain.{takes, passes, both, fits-told}
@@ -38,7 +41,7 @@ use Rattle.scope.specs.Affected.{affectedOf, tokensOf}
 use Rattle.scope.specs.Scope.{meant, inScope}
 use Rattle.scope.specs.Returned.{listsAgree}
 use Rattle.recovery.specs.Entries.{RowLists, readEntries, completeAll, abortAll, applyAll}
-use Rattle.recovery.specs.Reports.{noId, idsOf, idLists}
+use Rattle.recovery.specs.Reports.{noId, idsOf, noIds, from, idLists, manyIn, idsIn, filled}
 use Rattle.recovery.specs.Places.{Fit, Places}
 use Rattle.scope.proofs.affected.Laws.{affected-bounded}
 use Rattle.chain.proofs.Listed.{listed-take}
@@ -47,20 +50,35 @@ use Rattle.session.specs.Sizes.{rowsFit, memorySizes}
 use Rattle.session.specs.declared.Size.{Size}
 use Rattle.session.proofs.sizes.Laws.{memory-rows, rows-sized}
 use borrow.Author.Tests.{not-false}
-use Rattle.recovery.specs.RecoveryReply.{ReplyLists, rowsMeant, recoveryRefused, ended, isWhole, isRevision, matching, restoredBy, resetBy, sessionAfter, refusedAfter, abortReport, concludedBy, settledOf, doneOf, replyBy, replySized, replyIn, recoveryReplyOf}
+use Rattle.recovery.specs.RecoveryReply.{ReplyLists, rowsMeant, recoveryRefused, replyRefused, withIds, Counts, Settles, ended, isWhole, isRevision, matching, restoredBy, resetBy, sessionAfter, refusedAfter, abortReport, concludedBy, concludedTo, settledOf, doneOf, replyBy, replySized, replyIn, recoveryReplyOf}
 use Rattle.recovery.specs.declared.AbortReport.{AbortReport}
 use Rattle.recovery.specs.declared.Ids.{Ids}
 use Rattle.recovery.specs.declared.Outcome.{Outcome}
 use Rattle.recovery.specs.declared.Recovered.{Recovered}
+use Rattle.recovery.specs.declared.RecoveryAnswer.{RecoveryAnswer}
 use Rattle.recovery.specs.declared.RecoveryAnswer.the-variants as answer
 use Rattle.recovery.specs.declared.RecoveryReply.{RecoveryReply}
 use Rattle.recovery.specs.declared.RecoveryReply.the-variants as reply
+use Rattle.recovery.specs.declared.Replied.{Replied}
 use Rattle.recovery.specs.declared.recovery_reply.Ended.{Ended}
+use Rattle.recovery.specs.declared.recovery_reply.Settled.{Settled}
+use Rattle.recovery.proofs.Kept.{ids-kept}
+
+-- ---- the parts of a list of places
+pub part-first : (l : List ℕ) (n end : ℕ) → n ≤ end → take n (take end l) ≡ take n l
+part-first l n end h = take-take n end l h
+
+pub part-rest : (l : List ℕ) (n end : ℕ) → n ≤ end → end ≤ length l → from n (take end l) ≡ take (end - n) (drop n l)
+part-rest l n end h g =
+    let len : length (take end l) ≡ end = length-take-le end l g in
+    let rest : length (drop n (take end l)) ≡ end - n = length-drop n (take end l) ∙ rw len in
+    let whole : drop n l ≡ drop n (take end l) ++ drop end l =
+    ap (drop n) (sym (take-append-drop end l)) ∙ drop-append-le n (take end l) (drop end l) (omega arith) in
+    take-all (length (take end l) - n) (drop n (take end l)) (omega arith) ∙ sym (rw whole (take-at (drop n (take end l)) (drop end l) (end - n) rest))
 
 -- ---- small answers
-pub refused-is : (s : Session) (r : Refusal) (n : RequestId) → n ≡ noId
-    → _≡_ {A = Recovered} (record { answer = answer.Refused r; session = s; ids = record { completed = replicate 128 n; aborted = replicate 128 n } }) (recoveryRefused s r)
-refused-is s r n e = rw e
+pub no-ids-is : (n : RequestId) → n ≡ noId → _≡_ {A = Ids} (record { completed = replicate 128 n; aborted = replicate 128 n }) noIds
+no-ids-is n e = rw e
 
 pub whole-is : (o : Outcome) (b : Bool) → b ≡ hasError (o .error) → (o .«restart_ready» && not b) ≡ isWhole o
 whole-is o b e = rw e
@@ -131,23 +149,39 @@ module _ (z : Size) (l : RowLists) (m : Memory) (v : Verdict) (w₁ area₁ : Li
   unfolding applyAll
   apply-on u w₂ e eu = rw (← ev, e, ← eu)
 
-module _ (v : Verdict) (e : Ended) (report : AbortReport) (ids : Ids) (rows : List Row) where
-  pub conclude-no : (r : Refusal) (next : Session) (y : Recovered) → v ≡ verdict.Refused r → next ≡ refusedAfter r (e .idle) → y ≡ recoveryRefused next r
-      → y ≡ concludedBy v e report ids rows
-  unfolding concludedBy
-  conclude-no r next y ev en ey = ey ∙ rw (ev, en)
+module _ (v : Verdict) (e : Ended) (report : AbortReport) (rows : List Row) where
+  pub conclude-no : (r : Refusal) (next : Session) → v ≡ verdict.Refused r → next ≡ refusedAfter r (e .idle)
+      → _≡_ {A = Settled} (record { answer = answer.Refused r; session = next }) (concludedTo v e report rows)
+  unfolding concludedTo
+  conclude-no r next ev en = rw (ev, en)
 
   pub conclude-on : (next : Session) → v ≡ verdict.Pass → next ≡ sessionAfter e rows
-      → _≡_ {A = Recovered} (record { answer = answer.Report report; session = next; ids = ids }) (concludedBy v e report ids rows)
-  unfolding concludedBy
+      → _≡_ {A = Settled} (record { answer = answer.Report report; session = next }) (concludedTo v e report rows)
+  unfolding concludedTo
   conclude-on next ev en = rw (ev, en)
 
-pub settled-is : (e : Ended) (l : RowLists) (m : Memory) (ids : Ids) (report : AbortReport) (v : Verdict) (w₁ area₁ : List ℕ) (y : Recovered)
-    → ids ≡ idLists (m .store .rows) (l .completed) (l .aborted) → report ≡ abortReport e (length (l .completed)) (length (l .aborted))
-    → after v (memory (storeOf w₁) area₁) ≡ applyAll (e .idle .size) l m → y ≡ concludedBy v e report ids (readRows w₁)
-    → after y (memory (storeOf w₁) area₁) ≡ settledOf e l m
+concluded-with : (v : Verdict) (e : Ended) (report : AbortReport) (ids : Ids) (rows : List Row)
+    → withIds (concludedTo v e report rows) ids ≡ concludedBy v e report ids rows
+unfolding concludedTo concludedBy
+concluded-with (verdict.Refused r) e report ids rows = refl
+concluded-with verdict.Pass e report ids rows = refl
+
+concluded-counts : (v : Verdict) (e : Ended) (report : AbortReport) (rows : List Row) → Counts (concludedTo v e report rows .answer) (report .completed) (report .aborted)
+unfolding concludedTo
+concluded-counts (verdict.Refused r) e report rows = tt
+concluded-counts verdict.Pass e report rows = (refl, refl)
+
+pub settled-is : (e : Ended) (l : RowLists) (m : Memory) (report : AbortReport) (v : Verdict) (w₁ area₁ : List ℕ) (y : Settled)
+    → report ≡ abortReport e (length (l .completed)) (length (l .aborted)) → after v (memory (storeOf w₁) area₁) ≡ applyAll (e .idle .size) l m
+    → y ≡ concludedTo v e report (readRows w₁) → Settles y e (readRows w₁) l m (memory (storeOf w₁) area₁)
 unfolding storeOf settledOf
-settled-is e l m ids report v w₁ area₁ y ei er ev ey = rw (← ev, ey, ei, er)
+settled-is e l m report v w₁ area₁ y er ev ey = record {
+  is =
+      let ids : idLists (readRows w₁) (l .completed) (l .aborted) ≡ idLists (m .store .rows) (l .completed) (l .aborted) =
+      ap (λ (x : After Verdict Memory). idLists (x .lent .store .rows) (l .completed) (l .aborted)) ev ∙ ids-kept (e .idle .size) l m (l .completed) (l .aborted) in
+      rw (ey, ids, concluded-with v e report (idLists (m .store .rows) (l .completed) (l .aborted)) (readRows w₁), ← ev, er);
+  counts = rw (ey, er) (concluded-counts v e (abortReport e (length (l .completed)) (length (l .aborted))) (readRows w₁));
+}
 
 -- ---- the affected rows, collected in the first places of a list
 fit-some : (z : Size) (w area : List ℕ) → Fit z w area → 1 ≤ length (readRows w)
@@ -183,10 +217,10 @@ module _ (e : Ended) (affected own : List ℕ) (l : ReplyLists) (m : Memory) (wh
   scope-is : inScope (isWhole (e .outcome)) own (l .tokens ++ l .aborted) ≡ b
   scope-is = sym (eb ∙ ap (λ (z : Bool). inScope z own (l .tokens ++ l .aborted)) ew)
 
-  pub scope-46 : (next : Session) (y : Recovered) → not b ≡ true → next ≡ marked (e .idle) → y ≡ recoveryRefused next (refusalOf 46)
-      → after y m ≡ doneOf e affected own l m
+  pub scope-46 : (next : Session) (y : Replied) (rows : List Row) → not b ≡ true → next ≡ marked (e .idle) → y ≡ replyRefused next (refusalOf 46)
+      → after (filled y rows) m ≡ doneOf e affected own l m
   unfolding doneOf
-  scope-46 next y t en ey = takes (After Recovered Memory) _ _ _ _ (ap not scope-is ∙ t) (rw (ey, en))
+  scope-46 next y rows t en ey = takes (After Recovered Memory) _ _ _ _ (ap not scope-is ∙ t) (rw (ey, en))
 
   pub scope-on : (y : After Recovered Memory) → not b ≡ false → y ≡ settledOf e (rowsMeant (meant affected own) l) m → y ≡ doneOf e affected own l m
   unfolding doneOf
@@ -194,23 +228,23 @@ module _ (e : Ended) (affected own : List ℕ) (l : ReplyLists) (m : Memory) (wh
 
 -- ---- by the reply, the sizes and what is in flight
 module _ (p : RecoveryReply) (x : Recovery) (l : ReplyLists) (idle : Session) (m : Memory) where
-  pub reply-45 : (e : OperationError) (next : Session) (r : Refusal) (y : Recovered) → p ≡ reply.Error e → next ≡ marked idle → r ≡ fromBackend 45 e → y ≡ recoveryRefused next r
-      → after y m ≡ replyBy p x l idle m
+  pub reply-45 : (e : OperationError) (next : Session) (r : Refusal) (y : Replied) (rows : List Row) → p ≡ reply.Error e → next ≡ marked idle → r ≡ fromBackend 45 e
+      → y ≡ replyRefused next r → after (filled y rows) m ≡ replyBy p x l idle m
   unfolding replyBy
-  reply-45 e next r y f en er ey = rw (ey, en, er, f)
+  reply-45 e next r y rows f en er ey = rw (ey, en, er, f)
 
   pub reply-done : (o : Outcome) (y : After Recovered Memory) → p ≡ reply.Done o → y ≡ replyBy (reply.Done o) x l idle m → y ≡ replyBy p x l idle m
   reply-done o y f ey = ey ∙ rw f
 
 module _ (r : RecoveryReply) (x : Recovery) (l : ReplyLists) (s : Session) (m : Memory) (f : Bool) (ef : f ≡ memoryFits (s .size) m) where
-  pub sized-3 : (y : Recovered) → not f ≡ true → y ≡ recoveryRefused s (refusalOf 3) → after y m ≡ replySized r x l s m
+  pub sized-3 : (y : Replied) (rows : List Row) → not f ≡ true → y ≡ replyRefused s (refusalOf 3) → after (filled y rows) m ≡ replySized r x l s m
   unfolding replySized
-  sized-3 y t ey = takes (After Recovered Memory) _ _ _ _ (rw ef at t) (rw ey)
+  sized-3 y rows t ey = takes (After Recovered Memory) _ _ _ _ (rw ef at t) (rw ey)
 
   module _ (t : not f ≡ false) (g : Bool) (eg : g ≡ listsAgree (length (l .tokens)) (l .completions) (length (l .bytes))) where
-    pub sized-49 : (y : Recovered) → not g ≡ true → y ≡ recoveryRefused s (refusalOf 49) → after y m ≡ replySized r x l s m
+    pub sized-49 : (y : Replied) (rows : List Row) → not g ≡ true → y ≡ replyRefused s (refusalOf 49) → after (filled y rows) m ≡ replySized r x l s m
     unfolding replySized
-    sized-49 y n ey = passes (After Recovered Memory) _ _ _ _ (rw ef at t) (takes (After Recovered Memory) _ _ _ _ (rw eg at n) (rw ey))
+    sized-49 y rows n ey = passes (After Recovered Memory) _ _ _ _ (rw ef at t) (takes (After Recovered Memory) _ _ _ _ (rw eg at n) (rw ey))
 
     pub sized-on : (idle : Session) (y : After Recovered Memory) → not g ≡ false → idle ≡ withFlight s flight.Nothing → y ≡ replyBy r x l idle m → y ≡ replySized r x l s m
     unfolding replySized
@@ -225,23 +259,51 @@ pub agreed-is : (n : ℕ) (words : List ℕ) (size : ℕ) (g : Bool) → g ≡ l
 agreed-is n words size g e t = sym e ∙ not-false g t
 
 module _ (r : RecoveryReply) (l : ReplyLists) (s : Session) (m : Memory) where
-  module _ (y : Recovered) (ey : y ≡ recoveryRefused s (refusalOf 2)) where
-    refused-in : replyIn (s .«in_flight») r l s m ≡ after (recoveryRefused s (refusalOf 2)) m → after y m ≡ recoveryReplyOf r l s m
+  module _ (y : Replied) (rows : List Row) (ey : y ≡ replyRefused s (refusalOf 2)) where
+    refused-in : replyIn (s .«in_flight») r l s m ≡ after (recoveryRefused s (refusalOf 2)) m → after (filled y rows) m ≡ recoveryReplyOf r l s m
     unfolding recoveryReplyOf
     refused-in e = rw ey (sym e)
 
-    pub in-idle : s .«in_flight» ≡ flight.Nothing → after y m ≡ recoveryReplyOf r l s m
+    pub in-idle : s .«in_flight» ≡ flight.Nothing → after (filled y rows) m ≡ recoveryReplyOf r l s m
     unfolding recoveryReplyOf replyIn
     in-idle e = refused-in (ap (λ (f : InFlight). replyIn f r l s m) e)
 
-    pub in-submission : (id : RequestId) → s .«in_flight» ≡ flight.Submission id → after y m ≡ recoveryReplyOf r l s m
+    pub in-submission : (id : RequestId) → s .«in_flight» ≡ flight.Submission id → after (filled y rows) m ≡ recoveryReplyOf r l s m
     unfolding recoveryReplyOf replyIn
     in-submission id e = refused-in (ap (λ (f : InFlight). replyIn f r l s m) e)
 
-    pub in-poll : (id : RequestId) → s .«in_flight» ≡ flight.Poll id → after y m ≡ recoveryReplyOf r l s m
+    pub in-poll : (id : RequestId) → s .«in_flight» ≡ flight.Poll id → after (filled y rows) m ≡ recoveryReplyOf r l s m
     unfolding recoveryReplyOf replyIn
     in-poll id e = refused-in (ap (λ (f : InFlight). replyIn f r l s m) e)
 
   pub in-recovery : (x : Recovery) (y : After Recovered Memory) → s .«in_flight» ≡ flight.Recovery x → y ≡ replySized r x l s m → y ≡ recoveryReplyOf r l s m
   unfolding recoveryReplyOf replyIn
   in-recovery x y e ey = ey ∙ rw e
+
+-- ---- the ids at the places
+pub fill-refused : (p : Replied) (rows : List Row) (r : Refusal) (ids : Ids) → p .answer ≡ answer.Refused r → ids ≡ noIds
+    → _≡_ {A = Recovered} (record { answer = p .answer; session = p .session; ids = ids }) (filled p rows)
+fill-refused p rows r ids e ei = ap (λ (q : Ids). record { answer = p .answer; session = p .session; ids = q }) (ei ∙ sym (ap (λ (x : RecoveryAnswer). idsIn x rows (p .places)) e))
+
+module _ (p : Replied) (r : AbortReport) (e : p .answer ≡ answer.Report r) (h : manyIn (p .answer) ≤ 128) where
+  pub fill-few : r .completed + r .aborted ≤ 128
+  fill-few = omega (arith, h, ap manyIn e)
+
+  pub fill-report : (rows : List Row) (ids : Ids) → ids ≡ idLists rows (take (r .completed) (p .places)) (take (r .aborted) (drop (r .completed) (p .places)))
+      → _≡_ {A = Recovered} (record { answer = answer.Report r; session = p .session; ids = ids }) (filled p rows)
+  fill-report rows ids ei =
+      ap (λ (q : Ids). record { answer = answer.Report r; session = p .session; ids = q }) ei
+      ∙ sym (ap (λ (x : RecoveryAnswer). record { answer = x; session = p .session; ids = idsIn x rows (p .places) }) e)
+
+module _ (l : List ℕ) (n m : ℕ) (few : n + m ≤ 128) (el : length l ≡ 128) where
+  pub parted-first : n ≤ length (take (n + m) l)
+  parted-first = omega (arith, length-take-le (n + m) l (omega arith))
+
+  pub parted-is : (rows : List Row) (ids : Ids) → ids ≡ idLists rows (take n (take (n + m) l)) (from n (take (n + m) l))
+      → ids ≡ idLists rows (take n l) (take m (drop n l))
+  parted-is rows ids ei =
+      let z : n + m - n ≡ m = omega arith in
+      ei ∙ rw (part-first l n (n + m) (omega arith), part-rest l n (n + m) (omega arith) (omega arith), z)
+
+pub filled-told : (r y : Recovered) (m : Memory) (z : After Recovered Memory) → r ≡ y → after y m ≡ z → after r m ≡ z
+filled-told r y m z e f = rw e f

@@ -1,7 +1,7 @@
 -- Laws of the scope: where a token stands, the marks, and what they say. Assumes nothing.
-use Prim.Native.Nat.{ℕ, suc, _+_, _-_, _<_, _≤_}
+use Prim.Native.Nat.{ℕ, zero, suc, _+_, _-_, _<_, _≤_}
 use mathlib.Core.Path.{_≡_, refl, sym, ap, _∙_}
-use mathlib.Core.Bool.{Bool, true, false, cond, not, _&&_, _||_, or-true, or-assoc}
+use mathlib.Core.Bool.{Bool, true, false, cond, not, _&&_, _||_, or-true, false≢true}
 use mathlib.Core.List.{List, [], _∷_, _++_}
 use native.Mathlib.Omega.{arith}
 use native.Mathlib.Numerals.{add-one}
@@ -9,10 +9,10 @@ use lib.Dec.{eqb, ltb}
 use lib.ListN.{length, getD, drop, set, replicate, length-set, drop-of-length-le, getD-replicate, length-replicate, length-append, List·getD-append}
 use lib.Seq.{drop-cons, getD-set-same, getD-set-other, getD-append-add}
 use borrow.Author.Tests.{eq-eqb, ne-eqb, eqb-true, eqb-false, lt-ltb, le-ltb, ltb-true, ltb-false, not-true, not-false}
-use Rattle.chain.specs.Lists.{only, count, find}
+use Rattle.chain.specs.Lists.{only, count, find, isAmong, allIn}
 use Rattle.chain.proofs.Chain.{caseB, both, and3}
-use Rattle.chain.proofs.Lists.{sum-eq, sum-pair, count-pos, count-most, find-on, find-here, find-hit}
-use Rattle.scope.specs.Scope.{slotOf, isAmong, eachOnce, allIn, inScope}
+use Rattle.chain.proofs.Lists.{sum-eq, sum-pair, count-pos, count-most, find-on, find-here, find-hit, in-cons, in-append}
+use Rattle.scope.specs.Scope.{slotOf, Rising, Rises, eachOnce, inScope}
 
 -- ---- the search for a token
 module _ (l : List ℕ) (t n k : ℕ) (e : n ≡ length l) (h : k ≤ find (eqb t) l) (lt : k < n) where
@@ -22,18 +22,44 @@ module _ (l : List ℕ) (t n k : ℕ) (e : n ≡ length l) (h : k ≤ find (eqb 
   pub slot-on : (t ≡ getD l k 0 → ⊥) → k + 1 ≤ find (eqb t) l
   slot-on q = find-on (eqb t) 0 l k (omega arith) h (ne-eqb t (getD l k 0) q)
 
--- ---- membership
-pub in-cons : (u t : ℕ) (l : List ℕ) → isAmong u (t ∷ l) ≡ (eqb u t || isAmong u l)
-in-cons u t l = caseB (eqb u t)
-    (λ e. rw e (lt-ltb 0 (suc (length l)) (omega arith)))
-    (λ e. rw e (caseB (isAmong u l)
-    (λ y. rw y (lt-ltb (suc (find (eqb u) l)) (suc (length l)) (omega (arith, ltb-true (find (eqb u) l) (length l) y))))
-    (λ y. rw y (le-ltb (suc (find (eqb u) l)) (suc (length l)) (omega (arith, ltb-false (find (eqb u) l) (length l) y))))))
+-- ---- where tokens rise, the one that is met is the first
+abbrev pub RisesTo : List ℕ → ℕ → ℕ → Type 0
+RisesTo l n k = (n ≡ length l) × (1 ≤ k) × ((i : ℕ) → suc i < k → getD l i 0 < getD l (suc i) 0)
 
-pub in-append : (t : ℕ) (a b : List ℕ) → isAmong t (a ++ b) ≡ (isAmong t a || isAmong t b)
-in-append t [] b = refl
-in-append t (x ∷ a) b = in-cons t x (a ++ b) ∙ ap (λ (z : Bool). eqb t x || z) (in-append t a b) ∙ sym (or-assoc (eqb t x) (isAmong t a) (isAmong t b))
-    ∙ ap (λ (z : Bool). z || isAmong t b) (sym (in-cons t x a))
+pub rises-start : (l : List ℕ) (i : ℕ) → suc i < 1 → getD l i 0 < getD l (suc i) 0
+rises-start l i h = absurd (omega arith)
+
+module _ (l : List ℕ) (n k : ℕ) (e : n ≡ length l) (h : (i : ℕ) → suc i < k → getD l i 0 < getD l (suc i) 0) where
+  pub rises-on : 1 ≤ k → getD l (k - 1) 0 < getD l k 0 → (i : ℕ) → suc i < k + 1 → getD l i 0 < getD l (suc i) 0
+  rises-on o lt i q = caseB (ltb (suc i) k)
+      (λ y. h i (ltb-true (suc i) k y))
+      (λ y. let g = ltb-false (suc i) k y in let z : suc i ≡ k = omega arith in let w : i ≡ k - 1 = omega arith in rw (z, w) lt)
+
+  pub rises-end : n ≤ k → Rises true l
+  rises-end o t i q = h i (omega arith)
+
+pub rises-not : (l : List ℕ) → Rises false l
+rises-not l e = absurd (false≢true e)
+
+module _ (l : List ℕ) (r : Rising l) where
+  rising-lt : (m k : ℕ) → suc (k + m) < length l → getD l k 0 < getD l (suc (k + m)) 0
+  rising-lt zero k h = let z : k + 0 ≡ k = omega arith in rw z (r k (omega arith))
+  rising-lt (suc m) k h =
+      let z : k + suc m ≡ suc (k + m) = omega arith in
+      rw z (omega (arith, rising-lt m k (omega arith), r (suc (k + m)) (omega arith)))
+
+  none-before : (t k : ℕ) → k < length l → t ≡ getD l k 0 → (i : ℕ) → i ≤ k → i ≤ find (eqb t) l
+  none-before t k h e zero q = omega arith
+  none-before t k h e (suc i) q =
+      let z : suc (i + (k - suc i)) ≡ k = omega arith in
+      let lt : getD l i 0 < getD l k 0 = rw z at (rising-lt (k - suc i) i (omega arith)) in
+      let on = find-on (eqb t) 0 l i (omega arith) (none-before t k h e i (omega arith)) (ne-eqb t (getD l i 0) (λ y. absurd (omega arith))) in
+      omega (arith, on)
+
+pub near-is : (l : List ℕ) (t near : ℕ) (rising : Bool) → near < length l → Rises rising l → (rising && eqb t (getD l near 0)) ≡ true → near ≡ slotOf l t
+near-is l t near rising h r q =
+    let p = both rising (eqb t (getD l near 0)) q in
+    sym (find-here (eqb t) 0 l near h (none-before l (r (p .0)) t near h (eqb-true t (getD l near 0) (p .1)) near (omega arith)) (p .1))
 
 -- ---- the marks are the tokens that came
 own-at : (own : List ℕ) (t : ℕ) → isAmong t own ≡ true → t ≡ getD own (slotOf own t) 0

@@ -6,7 +6,7 @@ use mathlib.Core.Path.{_≡_, refl, sym, ap, _∙_}
 use lib.Dec.{eqb}
 use lib.ListN.{length, getD, take, replicate}
 use native.Mathlib.Omega.{arith}
-use borrow.Author.Tests.{eqb-true}
+use borrow.Author.Tests.{eqb-true, not-true}
 use Rattle.chain.proofs.Chain.{caseB, both, passes, eq-not}
 use Rattle.words.specs.Records.{splice}
 use Rattle.models.specs.Codes.{readController}
@@ -18,7 +18,8 @@ use Rattle.session.specs.declared.InFlight.{InFlight}
 use Rattle.session.specs.declared.InFlight.the-variants as flight
 use Rattle.session.specs.declared.Session.{Session}
 use Rattle.session.specs.declared.Size.{Size}
-use Rattle.session_words.specs.State.{readSession, sessionWords, sessionSize, standsAt, isSession, Kept, keptOf, keptAs}
+use Rattle.session_words.specs.Fields.{isSubmitFlight, isPollFlight, flightId}
+use Rattle.session_words.specs.State.{readRequestId, readSession, sessionWords, sessionSize, standsAt, isSession, Kept, keptOf, keptAs}
 use Rattle.session_words.proofs.Own.{own-words}
 
 module _ (l : List ℕ) where
@@ -38,6 +39,29 @@ module _ (l : List ℕ) where
       rw (← e)
       (caseB (eqb tag 0) (λ t. rw t)
       (λ t. rw t (caseB (eqb tag 1) (λ u. rw u) (λ u. rw u (caseB (eqb tag 2) (λ v. rw v) (λ v. rw v))))))
+
+  pub submission-is : (tag : ℕ) → tag ≡ getD l 15 0 → eqb tag 1 ≡ isSubmitFlight (readSession l .«in_flight»)
+  unfolding readSession
+  submission-is tag e =
+      rw (← e)
+      (caseB (eqb tag 0) (λ t. rw t (ap (λ (n : ℕ). eqb n 1) (eqb-true tag 0 t)))
+      (λ t. rw t (caseB (eqb tag 1) (λ u. rw u) (λ u. rw u (caseB (eqb tag 2) (λ v. rw v) (λ v. rw v))))))
+
+  pub poll-is : (tag : ℕ) → tag ≡ getD l 15 0 → eqb tag 2 ≡ isPollFlight (readSession l .«in_flight»)
+  unfolding readSession
+  poll-is tag e =
+      rw (← e)
+      (caseB (eqb tag 0) (λ t. rw t (ap (λ (n : ℕ). eqb n 2) (eqb-true tag 0 t)))
+      (λ t. rw t (caseB (eqb tag 1) (λ u. rw u (ap (λ (n : ℕ). eqb n 2) (eqb-true tag 1 u)))
+      (λ u. rw u (caseB (eqb tag 2) (λ v. rw v) (λ v. rw v))))))
+
+  pub flight-id-is : (id : RequestId) → isBusy (readSession l .«in_flight») ≡ true → id ≡ readRequestId l 16 → id ≡ flightId (readSession l .«in_flight»)
+  unfolding readSession
+  flight-id-is id busy e =
+      let busy-words : not (eqb (getD l 15 0) 0) ≡ true = busy-is (getD l 15 0) refl ∙ busy in
+      e
+      ∙ rw (not-true (eqb (getD l 15 0) 0) busy-words)
+      (caseB (eqb (getD l 15 0) 1) (λ u. rw u) (λ u. rw u (caseB (eqb (getD l 15 0) 2) (λ v. rw v) (λ v. rw v))))
 
 idle : (f : InFlight) → isBusy f ≡ false → f ≡ flight.Nothing
 idle flight.Nothing h = refl

@@ -1,4 +1,5 @@
-use Rattle.dispatch.proofs.requests.Recover.{reply-run}
+use Rattle.dispatch.proofs.requests.Recover.{places-run}
+use Rattle.recovery.proofs.Few.{few-told}
 use borrow.Author.Needs.{needs}
 use Rattle.dispatch.proofs.requests.recovered.Statement.{statement}
 use Rattle.dispatch.proofs.requests.recovered.Tie as tie
@@ -12,9 +13,9 @@ recovered-spec =
     (λ c κs. search needs)
     (λ c κs. search needs)
     (λ c κs. search needs)
+    (λ c κs. search few-told)
     (λ c κs. search needs)
-    (λ c κs. search needs)
     (λ c. search needs)
     (λ c. search needs)
     (λ c. search needs)
-    (λ c. search reply-run))
+    (λ c. search places-run))

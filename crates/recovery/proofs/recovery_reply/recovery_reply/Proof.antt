@@ -1,6 +1,7 @@
 use borrow.Author.Needs.{needs}
+use Rattle.recovery.proofs.Few.{few-told}
 use Rattle.recovery.proofs.Said.{recovery-reply-said}
-use Rattle.recovery.proofs.recovery_reply.Laws.{in-idle, in-submission, in-poll, in-recovery}
+use Rattle.recovery.proofs.recovery_reply.Laws.{filled-told}
 use Rattle.recovery.proofs.recovery_reply.recovery_reply.Statement.{statement}
 use Rattle.recovery.proofs.recovery_reply.recovery_reply.Tie as tie
 
@@ -8,17 +9,8 @@ pub recovery-reply-spec : {M : Type 1} → statement M
 recovery-reply-spec =
     tie.close
     (tie.spec
-    (λ c. search needs)
     (λ c κs. search needs)
-    (λ c. search needs)
-    (λ c κs. search needs)
-    (λ c. search needs)
-    (λ c κs. search needs)
-    (λ c. search needs)
-    (λ c κs. search needs)
-    (λ c. recovery-reply-said _ _ _ _ _ _ (search in-idle))
-    (λ c. recovery-reply-said _ _ _ _ _ _ (search in-submission))
-    (λ c. recovery-reply-said _ _ _ _ _ _ (search in-poll))
+    (λ c κs. search few-told)
     (λ c. search needs)
     (λ c. search needs)
-    (λ c. recovery-reply-said _ _ _ _ _ _ (search in-recovery)))
+    (λ c. recovery-reply-said _ _ _ _ _ _ (search filled-told)))

@@ -1,7 +1,7 @@
 use native.Mathlib.Omega.{arith}
 use lib.ListN.{length-take}
 use borrow.Author.Needs.{needs}
-use Rattle.recovery.proofs.Tokens.{done-places, gone-below, done-agree, scoped-is}
+use Rattle.recovery.proofs.Tokens.{first-in, done-places, gone-below, done-agree, scoped-is}
 use Rattle.recovery.proofs.recovery_reply.reply_scoped.Statement.{statement}
 use Rattle.recovery.proofs.recovery_reply.reply_scoped.Tie as tie
 
@@ -10,12 +10,10 @@ reply-scoped-spec =
     tie.close
     (tie.spec
     (λ c κs. search needs)
-    (λ c κs. search needs)
+    (λ c. search needs)
     (λ c. search needs)
     (λ c. simp length-take (omega arith))
-    (λ c. search needs)
-    (λ c. simp length-take (omega arith))
-    (λ c κs. (search (done-places, c .before .before .before .before .before .before .before .before .before .before .before .before .before .before .pre .0, c .before .before .before .before .before .before .before .before .before .before .before .before .before .before .pre .2), search (gone-below, c .before .before .before .before .before .before .before .before .before .before .before .before .before .before .pre .0, c .before .before .before .before .before .before .before .before .before .before .before .before .before .before .pre .2), search (done-agree, c .before .before .before .before .before .before .before .before .before .before .before .before .before .before .pre .1, c .before .before .before .before .before .before .before .before .before .before .before .before .before .before .pre .2)))
+    (λ c κs. (search (first-in, c .before .before .before .before .before .before .before .before .before .before .before .before .pre .2), search (done-places, c .before .before .before .before .before .before .before .before .before .before .before .before .pre .0, c .before .before .before .before .before .before .before .before .before .before .before .before .pre .2), search (gone-below, c .before .before .before .before .before .before .before .before .before .before .before .before .pre .0, c .before .before .before .before .before .before .before .before .before .before .before .before .pre .2), search (done-agree, c .before .before .before .before .before .before .before .before .before .before .before .before .pre .1, c .before .before .before .before .before .before .before .before .before .before .before .before .pre .2)))
     (λ c. search needs)
     (λ c. search needs)
-    (λ c. search (scoped-is, c .before .before .before .before .before .before .before .before .before .before .before .before .before .before .before .before .before .before .before .pre .2)))
+    (λ c. search (scoped-is, c .before .before .before .before .before .before .before .before .before .before .before .before .before .before .before .before .before .before .pre .2)))

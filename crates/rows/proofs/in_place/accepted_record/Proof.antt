@@ -3,9 +3,6 @@ use borrow.Author.Needs.{needs}
 use Rattle.rows.proofs.in_place.accepted_record.Statement.{statement}
 use Rattle.rows.proofs.in_place.accepted_record.Tie as tie
 
-returns : tie.Need-returns
-returns c = accepted-is _ _ _ _ _ _ _ (c .before .before .before .before .before .before .before .to-flag .ensures) (c .before .before .before .before .before .to-flag2 .ensures) (c .before .before .before .to-flag3 .ensures) (c .before .to-flag4 .ensures) (c .renewed .ensures)
-
 pub accepted-record-spec : {M : Type 1} → statement M
 accepted-record-spec =
     tie.close
@@ -19,4 +16,5 @@ accepted-record-spec =
     (λ c. search needs)
     (λ c κs. search needs)
     (λ c κs. search needs)
-    returns)
+    (λ c κs. search needs)
+    (λ c. accepted-is _ _ _ _ _ _ _ _ (c .before .pending .ensures) (c .before .before .before .before .before .before .before .before .to-flag .ensures) (c .before .before .before .before .before .before .to-flag2 .ensures) (c .before .before .before .before .to-flag3 .ensures) (c .before .before .to-flag4 .ensures) (c .renewed .ensures)))

@@ -3,9 +3,6 @@ use borrow.Author.Needs.{needs}
 use Rattle.rows.proofs.in_place.cancel_row.Statement.{statement}
 use Rattle.rows.proofs.in_place.cancel_row.Tie as tie
 
-returns : tie.Need-returns
-returns c = cancel-put _ _ _ _ _ (c .before .before .before .before .before .before .before .before .before .before .before .pre .0) (c .before .before .before .before .before .before .before .before .before .before .before .pre .1) (c .before .before .before .before .before .before .before .before .record-at .ensures .0) (c .before .before .copy-words .ensures) (c .before .before .before .before .before .cancelled-record .ensures)
-
 pub cancel-row-spec : {M : Type 1} → statement M
 cancel-row-spec =
     tie.close
@@ -20,4 +17,4 @@ cancel-row-spec =
     (λ c. search needs)
     (λ c κs. search needs)
     (λ c. search needs)
-    returns)
+    (λ c. cancel-put _ _ _ ((c .before .before .before .before .before .before .before .before .before .before .before .pre .0)) ((c .before .before .before .before .before .before .before .before .before .before .before .pre .1)) ((c .before .before .before .before .before .before .before .before .record-at .ensures) .0) _ _ (c .before .before .copy-words .ensures) (c .before .before .before .before .before .cancelled-record .ensures)))

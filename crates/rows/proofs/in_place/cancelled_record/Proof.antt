@@ -3,9 +3,6 @@ use borrow.Author.Needs.{needs}
 use Rattle.rows.proofs.in_place.cancelled_record.Statement.{statement}
 use Rattle.rows.proofs.in_place.cancelled_record.Tie as tie
 
-returns : tie.Need-returns
-returns c = cancelled-is _ _ _ _ (c .before .before .before .before .to-flag .ensures) (c .before .before .to-flag2 .ensures) (c .renewed .ensures)
-
 pub cancelled-record-spec : {M : Type 1} → statement M
 cancelled-record-spec =
     tie.close
@@ -16,4 +13,5 @@ cancelled-record-spec =
     (λ c κs. search needs)
     (λ c. search needs)
     (λ c κs. search needs)
-    returns)
+    (λ c κs. search needs)
+    (λ c. cancelled-is _ _ _ _ _ (c .before .pending .ensures) (c .before .before .before .before .before .to-flag .ensures) (c .before .before .before .to-flag2 .ensures) (c .renewed .ensures)))

@@ -3,9 +3,6 @@ use borrow.Author.Needs.{needs}
 use Rattle.rows.proofs.in_place.late_record.Statement.{statement}
 use Rattle.rows.proofs.in_place.late_record.Tie as tie
 
-returns : tie.Need-returns
-returns c = late-is _ _ _ _ (c .before .before .before .before .to-flag .ensures) (c .before .before .to-flag2 .ensures) (c .renewed .ensures)
-
 pub late-record-spec : {M : Type 1} → statement M
 late-record-spec =
     tie.close
@@ -16,4 +13,5 @@ late-record-spec =
     (λ c κs. search needs)
     (λ c. search needs)
     (λ c κs. search needs)
-    returns)
+    (λ c κs. search needs)
+    (λ c. late-is _ _ _ _ _ (c .before .pending .ensures) (c .before .before .before .before .before .to-flag .ensures) (c .before .before .before .to-flag2 .ensures) (c .renewed .ensures)))

@@ -3,14 +3,12 @@ use borrow.Author.Needs.{needs}
 use Rattle.rows.proofs.in_place.renewed.Statement.{statement}
 use Rattle.rows.proofs.in_place.renewed.Tie as tie
 
-returns : tie.Need-returns
-returns c = record-is _ _ _ _ (c .before .before .before .before .before .before .before .renewed-transfer .ensures) (c .before .before .before .before .before .renewed-direction .ensures) (c .before .before .before .before .before .before .before .before .before .before .before .before .before .before .before .renewed-setup .ensures) _ _ _ _ _ _ _ _ _ (c .before .before .before .flag-word .ensures .1) (c .before .before .flag-word2 .ensures .1) (c .before .flag-word3 .ensures .1) (c .flag-word4 .ensures .1)
-
 pub renewed-spec : {M : Type 1} → statement M
 renewed-spec =
     tie.close
     (tie.spec
     (λ c κs. search needs)
+    (λ c κs. search needs)
     (λ c. search needs)
     (λ c. search needs)
     (λ c. search needs)
@@ -24,6 +22,4 @@ renewed-spec =
     (λ c. search needs)
     (λ c κs. search needs)
     (λ c κs. search needs)
-    (λ c κs. search needs)
-    (λ c κs. search needs)
-    returns)
+    (λ c. record-is _ _ _ _ (c .before .before .before .before .before .renewed-transfer .ensures) (c .before .before .before .renewed-direction .ensures) (c .before .before .before .before .before .before .before .before .before .before .before .before .before .before .renewed-setup .ensures) _ _ _ _ _ _ _ ((c .before .flag-word .ensures) .1) ((c .flag-word2 .ensures) .1) ((c .before .before .before .before .before .before .before .before .before .before .before .before .before .status-words .ensures) .2)))

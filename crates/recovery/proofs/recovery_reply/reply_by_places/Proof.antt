@@ -1,0 +1,23 @@
+use borrow.Author.Needs.{needs}
+use Rattle.recovery.proofs.recovery_reply.Laws.{in-idle, in-submission, in-poll, in-recovery}
+use Rattle.recovery.proofs.recovery_reply.reply_by_places.Statement.{statement}
+use Rattle.recovery.proofs.recovery_reply.reply_by_places.Tie as tie
+
+pub reply-by-places-spec : {M : Type 1} → statement M
+reply-by-places-spec =
+    tie.close
+    (tie.spec
+    (λ c. search needs)
+    (λ c κs. search needs)
+    (λ c. search needs)
+    (λ c κs. search needs)
+    (λ c. search needs)
+    (λ c κs. search needs)
+    (λ c. search needs)
+    (λ c κs. search needs)
+    (λ c. search in-idle)
+    (λ c. search in-submission)
+    (λ c. search in-poll)
+    (λ c. search needs)
+    (λ c. search needs)
+    (λ c. search in-recovery))
