@@ -19,7 +19,7 @@ use Rattle.models.specs.declared.RequestState.the-variants.{Pending, Completed,
 use Rattle.rows.specs.Table.{emptyRow, isHeld, rowIn}
 use Rattle.rows.specs.declared.Row.{Row}
 use Rattle.ledger.specs.Search.{isAt}
-use Rattle.rules.specs.Rules.{pendingRow, withState, flagged}
+use Rattle.rules.specs.Rules.{pendingRow, withToken, withState, flagged}
 use Rattle.runs.proofs.Held.{empty-free, free-held, unheld-row}
 use Rattle.runs.proofs.Ids.{free-at, same-request, same-self}
 use Rattle.history.specs.Journal.{Entry, isNone, isOpen, isEntry, entryOf, release, markFailed, entryWithToken, newEntry, View, entryView}
@@ -90,28 +90,17 @@ module _ (r : Row) (e : Entry) (held : isHeld r ≡ true) (is : (w : View → �
   abbrev tokened : ℕ → View → View
   tokened t v = record { id = v .id; device = v .device; endpoint = v .endpoint; requested = v .requested; token = t; failed = v .failed }
 
-  abbrev tokenRow : ℕ → Row
-  tokenRow t = record {
-    used = r .used;
-    id = r .id;
-    metadata = r .metadata;
-    token = t;
-    «logical_cancel» = r .«logical_cancel»;
-    «timed_out» = r .«timed_out»;
-    state = r .state;
-  }
-
-  same-held : (t : ℕ) → isHeld (tokenRow t) ≡ isHeld r
+  same-held : (t : ℕ) → isHeld (withToken r t) ≡ isHeld r
   unfolding isHeld
   same-held t = refl
 
-  same-at : (t : ℕ) (x : RequestId) → isAt x (tokenRow t) ≡ isAt x r
+  same-at : (t : ℕ) (x : RequestId) → isAt x (withToken r t) ≡ isAt x r
   unfolding isAt
   same-at t x = refl
 
-  pub token-change : (t : ℕ) → Changed r (tokenRow t) e (entryWithToken t e)
+  pub token-change : (t : ℕ) → Changed r (withToken r t) e (entryWithToken t e)
   token-change t = record {
-    same = kept r e held is (tokened t) (tokenRow t) (entryWithToken t e) (same-held t ∙ held) (entry-open r e held is) refl refl;
+    same = kept r e held is (tokened t) (withToken r t) (entryWithToken t e) (same-held t ∙ held) (entry-open r e held is) refl refl;
     row-id = λ x. rw (same-at t x) (le-refl _);
     entry-id = λ x. refl;
     single = stays r e held is;
