@@ -1,13 +1,16 @@
-# make run: proves and runs the programs `examples`, `life` and `recoveries`; make test: the merge gate; make fmt: lays every file out.
+# make run: proves and runs the programs `examples`, `life`, `recoveries` and `key`; make test: the merge gate; make fmt: lays every file out.
 SHELL := /bin/bash
 .SHELLFLAGS := -o pipefail -c
-.PHONY: run test fmt staticlib oracle compare fuzz bench mutants
+.PHONY: run test fmt staticlib key oracle compare fuzz bench mutants
 
 run:
-	@rt check examples life recoveries | .ci/progress examples life recoveries
+	@rt check examples life recoveries key | .ci/progress examples life recoveries key
 	./target/bin/examples
 	./target/bin/life
 	./target/bin/recoveries
+	./target/bin/key < papers/example.paper
+	@echo "papers/belt.txt, each event beside its line of ./target/bin/key < papers/belt.paper:"
+	@./target/bin/key < papers/belt.paper | paste <(sed '/^#/d; s/ *#.*//' papers/belt.txt) - | expand -t 46
 
 test:
 	.ci/run
@@ -20,12 +23,16 @@ fmt:
 staticlib:
 	rt staticlib tapewoad
 
+# Proves the key program and writes target/bin/key.
+key:
+	rt check key
+
 # Builds the unchanged Rust and runs it over the recorded scripts.
 oracle:
 	$(MAKE) --no-print-directory -C host oracle
 
-# Runs the unchanged Rust and the port on some millions of generated calls.
-compare: staticlib
+# Runs the unchanged Rust and the port on some millions of generated calls, and the key program on papers of some millions of events.
+compare: staticlib key
 	$(MAKE) --no-print-directory -C host compare
 
 # Throws bad words, sessions and slices at the library for SECONDS seconds (180 without it).

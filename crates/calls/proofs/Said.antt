@@ -70,7 +70,7 @@ plan-same : (x : PlanAnswer) → answerSaid (ofPlan x) ≡ planSaid x
 plan-same (plan.Refused r) = refl
 plan-same (plan.Begun y) = refl
 
-report-same : (x : ReportAnswer) → answerSaid (ofReport x) ≡ reportSaid x
+pub report-same : (x : ReportAnswer) → answerSaid (ofReport x) ≡ reportSaid x
 report-same (report.Refused r) = refl
 report-same (report.Report y) = refl
 
@@ -96,7 +96,7 @@ begin-same : (x : BeginAnswer) → answerSaid (ofBegin x) ≡ beginSaid x
 begin-same (begin.Refused r) = refl
 begin-same (begin.Recover y) = refl
 
-recovery-same : (x : RecoveryAnswer) → answerSaid (ofRecovery x) ≡ recoverySaid x
+pub recovery-same : (x : RecoveryAnswer) → answerSaid (ofRecovery x) ≡ recoverySaid x
 recovery-same (recovery.Refused r) = refl
 recovery-same (recovery.Report y) = refl
 

@@ -39,33 +39,11 @@ impl Display for Difference {
     }
 }
 
-/// Drops the calls that don't matter, largest parts first. None where both
-/// sides, made anew, answer all of them alike.
+/// Drops the calls that don't matter. None where both sides, made anew, answer
+/// all of them alike.
 pub fn shrink(calls: Vec<Call>, new_port: NewSide<'_>) -> Option<Difference> {
-    let mut best = first_difference(calls, new_port)?;
-    let mut trials = 0;
-    let mut part = best.script.len().div_ceil(2);
-    while part > 0 && trials < TRIALS {
-        let mut from = 0;
-        let mut dropped = false;
-        while from < best.script.len() && trials < TRIALS {
-            let mut fewer = best.script.clone();
-            fewer.drain(from..best.script.len().min(from + part));
-            trials += 1;
-            match first_difference(fewer, new_port) {
-                Some(found) => {
-                    best = found;
-                    dropped = true;
-                }
-                None => from += part,
-            }
-        }
-        part = match (part, dropped) {
-            (1, true) => 1,
-            _ => part / 2,
-        };
-    }
-    Some(best)
+    let show = |calls| first_difference(calls, new_port);
+    script::fewest(calls, TRIALS, show, |found| &found.script)
 }
 
 /// The shortest prefix that shows a difference.

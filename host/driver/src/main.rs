@@ -77,11 +77,7 @@ fn read(file: Option<&str>) -> Result<String, String> {
         Some(path) => (path, read_file(path, &mut bytes)),
     };
     read.map_err(|error| format!("{name}: {error}"))?;
-    String::from_utf8(bytes).map_err(|error| {
-        let good = &error.as_bytes()[..error.utf8_error().valid_up_to()];
-        let line = good.iter().filter(|byte| **byte == b'\n').count() + 1;
-        format!("line {line}: not UTF-8 text")
-    })
+    script::text(bytes).map_err(|error| error.to_string())
 }
 
 fn read_file(path: &str, bytes: &mut Vec<u8>) -> io::Result<usize> {

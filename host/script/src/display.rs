@@ -364,7 +364,8 @@ fn flag(set: bool) -> u8 {
     u8::from(set)
 }
 
-fn hex(bytes: &[u8]) -> String {
+/// Two hex digits a byte.
+pub fn hex(bytes: &[u8]) -> String {
     bytes.iter().map(|byte| format!("{byte:02x}")).collect()
 }
 

@@ -5,16 +5,21 @@
 mod answer;
 mod call;
 mod display;
+mod fewest;
 mod fields;
 mod parse;
+mod text;
 mod values;
 
 pub use answer::{AbortReport, Answer, Asked, Dump, Outcome, PortRow, Ports, Row, RowState};
 pub use call::{
     AbortReply, AbortResult, Call, Completion, Open, Plan, PollReply, Recovery, Submit,
 };
+pub use display::hex;
+pub use fewest::fewest;
 pub use fields::ScriptError;
-pub use parse::parse_line;
+pub use parse::{Parsed, decimal, hex_bytes, out_of_range, parse_line};
+pub use text::text;
 pub use values::{
     Bytes, Category, ControllerState, Data, DeviceId, DeviceState, Direction, Error, PortId,
     Profile, Reading, RequestId, Setup, TransferType, fnv1a,

@@ -4,7 +4,7 @@ use crate::fields::{Fields, ScriptError};
 use crate::values::*;
 use std::str::FromStr;
 
-type Parsed<T> = Result<T, String>;
+pub type Parsed<T> = Result<T, String>;
 
 /// A script's data is a lent list; this bounds what a typing error can allocate.
 const MOST_DATA: usize = 1 << 24;
@@ -141,14 +141,16 @@ fn recover(f: &mut Fields, kind: Recovery) -> Parsed<Call> {
     Ok(Call::Recover { id, kind, reply })
 }
 
-fn decimal<T: FromStr>(text: &str) -> Parsed<T> {
+/// A number of decimal digits that its type holds.
+pub fn decimal<T: FromStr>(text: &str) -> Parsed<T> {
     if text.is_empty() || !text.bytes().all(|byte| byte.is_ascii_digit()) {
         return Err(format!("`{text}` is not a decimal number"));
     }
     text.parse().map_err(|_| out_of_range(text))
 }
 
-fn out_of_range(text: &str) -> String {
+/// What is wrong with a number that its field does not hold.
+pub fn out_of_range(text: &str) -> String {
     format!("`{text}` is out of range")
 }
 
@@ -293,7 +295,8 @@ fn data_length(text: &str) -> Parsed<usize> {
     }
 }
 
-fn hex_bytes(digits: &str) -> Parsed<Vec<u8>> {
+/// Bytes of two hex digits each.
+pub fn hex_bytes(digits: &str) -> Parsed<Vec<u8>> {
     if !digits.is_ascii() || !digits.len().is_multiple_of(2) {
         return Err(format!("`{digits}` is not hex bytes of two digits each"));
     }

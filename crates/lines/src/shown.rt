@@ -1,0 +1,94 @@
+// What a line shows after an event: the state's letter and the held count.
+use line_text::Line;
+use marking::Marked;
+use models::RequestState;
+use reports::OptionId;
+use reports::ReportAnswer;
+use reports::Tally;
+use reports::status;
+use session::Session;
+ghost use mathlib.Core.Path.{_≡_};
+ghost use Rattle.session.specs.Lent.{storeIn};
+ghost use Rattle.lines.specs.Lines.{stateLetter, letterBy, letterOf, tallied, heldIn, damagedLine, eventLine};
+
+fn state_letter(s: RequestState) -> u8
+    ensures { λ r. ⌜ r ≡ stateLetter s ⌝ }
+{
+    match s {
+        RequestState::Pending {
+            logical_cancel: _,
+            timed_out: _,
+        } => b'P',
+        RequestState::Completed {
+            actual_length: _,
+            completion_code: _,
+            logical_cancel: _,
+        } => b'C',
+        RequestState::Failed {
+            error: _,
+            completion_code: _,
+            quiescent: _,
+        } => b'F',
+        RequestState::Aborted => b'A',
+    }
+}
+
+fn report_letter(a: ReportAnswer) -> u8
+    ensures { λ r. ⌜ r ≡ letterBy a ⌝ }
+{
+    match a {
+        ReportAnswer::Refused(_) => b'-',
+        ReportAnswer::Report(x) => {
+            let state = x.state;
+            state_letter(state)
+        }
+    }
+}
+
+fn letter_of(session: Session, rows: &[u64], id: OptionId) -> u8
+    ensures { λ r. ⌜ r ≡ letterOf id session (storeIn rows) ⌝ }
+{
+    match id {
+        OptionId::None => b'-',
+        OptionId::Some(own) => report_letter(status::request_status(session, rows, own)),
+    }
+}
+
+fn tally_number(t: Tally) -> u64
+    ensures { λ r. ⌜ r ≡ tallied t ⌝ }
+{
+    match t {
+        Tally::Refused(_) => 0,
+        Tally::Number(n) => n,
+    }
+}
+
+fn held_in(session: Session, rows: &[u64]) -> u64
+    ensures { λ r. ⌜ r ≡ heldIn session (storeIn rows) ⌝ }
+{
+    tally_number(status::held_count(session, rows))
+}
+
+pub(crate) fn damaged_line(index: u64, session: Session, rows: &[u64]) -> Line
+    ensures { λ r. ⌜ r ≡ damagedLine index session (storeIn rows) ⌝ }
+{
+    Line {
+        index,
+        refusal: 57,
+        letter: b'-',
+        held: held_in(session, rows),
+    }
+}
+
+pub(crate) fn event_line(index: u64, marked: Marked, rows: &[u64]) -> Line
+    ensures { λ r. ⌜ r ≡ eventLine index marked (storeIn rows) ⌝ }
+{
+    let session = marked.session;
+    let id = marked.id;
+    Line {
+        index,
+        refusal: marked.refusal,
+        letter: letter_of(session, rows, id),
+        held: held_in(session, rows),
+    }
+}

@@ -1,0 +1,3 @@
+pub mod Widths
+pub mod Events
+pub mod Form
