@@ -201,7 +201,7 @@ other-port : (o : OptionPorts) (id : PortId) (x : PortReading) (b : Bus) → Oth
 unfolding bus.freshPort bus.validated
 other-port o id x b = other-by (bus.validatedBy (bus.numberChecked o (id .number)) o id b) (other-valid (bus.numberChecked o (id .number)) (other-number o (id .number)) o id b) x o id b
 
--- ---- a device's 26 to 28 and 35, a target's 36 to 38
+-- ---- a device's 26 to 28 and 35, a target's 36, 37, 58 and 38
 other-known : (o : OptionDevice) (ready : Bool) (id : DeviceId) → OtherDevice (target.knownBy o ready id)
 unfolding target.knownBy
 other-known device.None ready id = refl
@@ -225,7 +225,7 @@ other-device ready o id x b =
 other-endpoint : (k : PortChecked) → OtherPort k → (m : RequestMetadata) (b : Bus) → OtherVerdict (target.endpointBy k m b)
 unfolding target.endpointBy target.speedChecked
 other-endpoint (checked.Refused r) h m b = h
-other-endpoint (checked.Read raw) h m b = if-all OtherVerdict _ _ _ refl (if-all OtherVerdict _ _ _ refl tt)
+other-endpoint (checked.Read raw) h m b = if-all OtherVerdict _ _ _ refl (if-all OtherVerdict _ _ _ refl (if-all OtherVerdict _ _ _ refl tt))
 
 other-by-device : (k : DeviceChecked) → OtherDevice k → (o : OptionPorts) (m : RequestMetadata) (x : PortReading) (b : Bus) → OtherVerdict (target.checkTargetBy k o m x b .result)
 unfolding target.checkTargetBy target.checkEndpoint

@@ -21,9 +21,9 @@ ownError c n code = record { category = c; message = n; «os_code» = i32.None; 
 abbrev pub fromBackend : ℕ → OperationError → Refusal
 fromBackend n e = record { number = n; error = e }
 
--- the numbers with a U in the table
+-- the numbers with a U in the table, and document 02's 58
 abbrev pub isUnsupported : ℕ → Bool
-isUnsupported n = eqb n 6 || eqb n 11 || eqb n 13 || eqb n 14 || eqb n 18 || eqb n 19 || eqb n 20 || eqb n 21 || eqb n 37
+isUnsupported n = eqb n 6 || eqb n 11 || eqb n 13 || eqb n 14 || eqb n 18 || eqb n 19 || eqb n 20 || eqb n 21 || eqb n 37 || eqb n 58
 
 -- the category that the table gives a number; 33 and 45 have the backend's instead
 unfoldable pub tableCategory : ℕ → ErrorCategory

@@ -320,6 +320,7 @@ fn table_category(number: u16) -> ErrorCategory
         | (number == 20)
         | (number == 21)
         | (number == 37)
+        | (number == 58)
     {
         return ErrorCategory::Unsupported;
     }

@@ -97,7 +97,7 @@ spend-all d s m P over go =
     ]))
     _ _ _ (λ y. over) (λ y. go (s .«next_sequence» + 1) (omega arith))
 
--- 26 to 38
+-- 26 to 37, 58, 38
 module _ (d : Draft) (s : Session) (m : Memory) (P : After Started Lent → Type 0)
     (no : (x : Refusal) (b : Bus) → P (after (startRefused s x) (lent b m)))
     (go : isInitialized (s .state) ≡ true → (next : ℕ) → s .«next_sequence» < next → (b : Bus) → P (withBus b (begun next d s m))) where

@@ -1,4 +1,4 @@
-// What the two standards say of the bytes, words and codes that the ledger reads: USB 2.0 chapter 9 and xHCI chapters 5 and 6.
+// What the two standards say of the bytes, words and codes that the ledger reads: USB 2.0 chapters 5 and 9, xHCI chapters 5 to 7.
 pub mod completion;
 pub mod ports;
 pub mod setup;

@@ -81,7 +81,7 @@ unfoldable pub targetBy : Verdict → Draft → Session → Lent → After Start
 targetBy (verdict.Refused r) d s l = after (startRefused s r) l
 targetBy verdict.Pass d s l = withBus (l .bus) (beginOf d s (l .memory))
 
--- 26 to 38, then 39; readings taken before a refusal stay written
+-- 26 to 37, 58, 38, then 39; readings taken before a refusal stay written
 unfoldable pub targetOf : Draft → Readings → Session → Lent → After Started Lent
 targetOf d x s l =
     let seen = checkTarget (isInitialized (s .state)) (s .ports) (d .metadata) x (l .bus) in

@@ -47,7 +47,7 @@ submittedBy (start.At id i) s m given = record { answer = submit.Begun (record {
 abbrev pub submittedTo : After Started Lent → RequestMetadata → Bool → After Submitted Lent
 submittedTo o m given = after (submittedBy (o .result .answer) (o .result .session) m given) (o .lent)
 
--- 6 to 17, then 26 to 39
+-- 6 to 17, then 26 to 39 with 58 after 37
 unfoldable pub preparedOf : Place → Request → Session → Lent → After Submitted Lent
 preparedOf p q s l =
     elim (prepared (q .spec) (length (q .bytes)) (s .size .«row_bytes»)) [

@@ -109,7 +109,7 @@ fn begin(
     }
 }
 
-// 26 to 38, then 39.
+// 26 to 37, 58, 38, then 39.
 pub(crate) fn begin_target(
     session: Session,
     bus: &mut [u64],

@@ -58,7 +58,7 @@ fn submitted(started: Started, metadata: RequestMetadata, given: bool) -> Submit
     }
 }
 
-// 6 to 17, then 26 to 39; the place is of a free row.
+// 6 to 17, then 26 to 39 with 58 after 37; the place is of a free row.
 fn submit_prepared(
     session: Session,
     bus: &mut [u64],
@@ -145,7 +145,7 @@ fn submit_checked(
     }
 }
 
-// A request: 1, 3, 4, 5, 6 to 17, 26 to 38, 39. Passing, it is in flight, and the answer is what the backend is to do.
+// A request: 1, 3, 4, 5, 6 to 17, 26 to 37, 58, 38, 39. Passing, it is in flight, and the answer is what the backend is to do.
 pub fn submit_request_packets(
     session: Session,
     bus: &mut [u64],

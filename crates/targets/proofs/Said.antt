@@ -62,7 +62,7 @@ module _ (m : RequestMetadata) where
   endpoint-by : (x : PortChecked) → Tabled freshPortNumbers (portSaid x) → (b : Bus) → Tabled targetNumbers (verdictSaid (endpointBy x m b))
   unfolding endpointBy speedChecked
   endpoint-by (checked.Refused r) h b = tabled-in targetNumbers freshPortNumbers refl _ h
-  endpoint-by (checked.Read raw) h b = tabled-stop _ 37 refl _ _ (tabled-stop _ 38 refl _ _ (tabled-says _ _))
+  endpoint-by (checked.Read raw) h b = tabled-stop _ 37 refl _ _ (tabled-stop _ 58 refl _ _ (tabled-stop _ 38 refl _ _ (tabled-says _ _)))
 
   module _ (o : OptionPorts) where
     endpoint-tabled : (d : DeviceSnapshot) (reading : PortReading) (b : Bus) → Targets targetNumbers (checkEndpoint o d m reading b)

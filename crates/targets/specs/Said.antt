@@ -15,4 +15,4 @@ deviceNumbers = 26 ∷ 27 ∷ 28 ∷ 29 ∷ 30 ∷ 31 ∷ 32 ∷ 33 ∷ 34 ∷ 3
 
 -- and those of not control, whose second reading has some of the first's
 abbrev pub targetNumbers : List ℕ
-targetNumbers = deviceNumbers ++ 36 ∷ 37 ∷ 38 ∷ []
+targetNumbers = deviceNumbers ++ 36 ∷ 37 ∷ 58 ∷ 38 ∷ []

@@ -4,7 +4,7 @@ use mathlib.Core.Bool.{Bool, not, _&&_}
 use lib.Dec.{eqb}
 use Rattle.chain.specs.Chain.{_if_else_}
 use Rattle.chain.specs.After.{After, after}
-use Rattle.models.specs.Kinds.{isControl, isBulk, isPrepared, isConfigured}
+use Rattle.models.specs.Kinds.{isControl, isBulk, isIsochronous, isPrepared, isConfigured}
 use Rattle.models.specs.Refusals.{refusalOf, rejected}
 use Rattle.models.specs.Requests.{sameDevice}
 use Rattle.models.specs.declared.DeviceId.{DeviceId}
@@ -59,10 +59,11 @@ checkDeviceBy (answer.Ready d) ports reading b = freshDevice ports d reading b
 unfoldable pub checkDevice : Bool → OptionPorts → DeviceId → PortReading → Bus → After DeviceChecked Bus
 checkDevice initialized ports id reading b = checkDeviceBy (knownDevice initialized id b) ports reading b
 
--- 37U speed 2 and bulk; 38 endpoint and type not placed
+-- 37U speed 2 and bulk; 58U speed 2 and isochronous (document 02, M-110); 38 endpoint and type not placed
 unfoldable pub speedChecked : ℕ → ℕ → ℕ → TransferType → Bus → Verdict
 speedChecked raw slot endpoint type b =
     rejected 37 if eqb (portSpeed raw) 2 && isBulk type else
+    rejected 58 if eqb (portSpeed raw) 2 && isIsochronous type else
     rejected 38 if not (hasEndpoint slot endpoint type b) else
     verdict.Pass
 

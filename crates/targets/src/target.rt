@@ -112,7 +112,7 @@ fn check_device(
     }
 }
 
-// 37 and 38, by the second reading.
+// 37, 58 and 38, by the second reading: low speed has neither bulk nor isochronous pipes.
 fn check_speed(
     bus: &[u64],
     raw: u32,
@@ -128,6 +128,10 @@ fn check_speed(
     if (speed == 2) & bulk {
         return reject(37);
     }
+    let isochronous = kinds::is_isochronous(transfer_type);
+    if (speed == 2) & isochronous {
+        return reject(58);
+    }
     let placed = endpoints::has_endpoint(bus, slot, endpoint, transfer_type);
     if !placed {
         return reject(38);
@@ -135,7 +139,7 @@ fn check_speed(
     Verdict::Pass
 }
 
-// The second reading's refusal, or 37 and 38.
+// The second reading's refusal, or 37, 58 and 38.
 fn check_read(bus: &[u64], port: PortChecked, metadata: RequestMetadata) -> Verdict
     requires { ⌜ length (now bus) ≡ busWords ⌝ }
     ensures { λ r. ⌜ r ≡ endpointBy port metadata (busOf (now (bus .entry))) ⌝ }
@@ -150,7 +154,7 @@ fn check_read(bus: &[u64], port: PortChecked, metadata: RequestMetadata) -> Verd
     }
 }
 
-// 36, the second reading (33, 34, 31), 37, 38.
+// 36, the second reading (33, 34, 31), 37, 58, 38.
 fn check_endpoint(
     bus: &mut [u64],
     ports: OptionPorts,

@@ -1,16 +1,20 @@
 //! The unchanged Rust and the port on the same generated calls.
 //!
 //! Both answer every call; the first difference stops the run and is cut down to
-//! few calls that still show it.
+//! few calls that still show it. Where the port departs from the Rust on purpose
+//! the history ends, and the next opening goes on.
 mod history;
+mod judge;
 mod shrink;
 
 use generate::{Generator, Mix, Phase, Table};
-use script::{Answer, Call, Side};
+use script::{Call, Side};
 
+pub use judge::{Answers, Departures};
 pub use shrink::{Difference, shrink};
 
 use history::History;
+use judge::{Judge, Judgement};
 
 /// Makes a side anew.
 pub type NewSide<'a> = &'a dyn Fn() -> Box<dyn Side>;
@@ -29,17 +33,20 @@ pub struct Plan {
 
 impl Plan {
     fn generator(&self) -> Generator {
-        match self.stores {
+        let generator = match self.stores {
             true => Generator::in_small_stores(self.seed, self.mix, self.phase),
             false => Generator::new(self.seed, self.mix, self.phase),
-        }
+        };
+        generator.with_departures()
     }
 }
 
-/// The Rust's counts and the port's.
+/// The Rust's counts and the port's, of the calls that they answer alike, and how
+/// often they departed.
 pub struct Tables {
     pub rust: Table,
     pub port: Table,
+    pub departures: Departures,
 }
 
 impl Tables {
@@ -48,6 +55,7 @@ impl Tables {
         Self {
             rust: Table::new(mix),
             port: Table::new(mix),
+            departures: Departures::default(),
         }
     }
 
@@ -56,6 +64,7 @@ impl Tables {
         Self {
             rust: Table::in_small_stores(mix),
             port: Table::in_small_stores(mix),
+            departures: Departures::default(),
         }
     }
 }
@@ -76,18 +85,22 @@ pub fn compare(plan: Plan, new_port: NewSide<'_>, tables: &mut Tables) -> Result
     let mut generator = plan.generator();
     let mut port = new_port();
     let mut history = History::default();
+    let mut judge = Judge::default();
     for after in 1..=plan.calls {
         let (call, rust) = generator.step().map_err(Stop::Failure)?;
-        let answer = port.apply(&call);
+        if judge.is_over(&call) {
+            return Err(Stop::Failure(format!("no opening after 58: {call}")));
+        }
         history.add(&call);
-        match answer {
-            Ok(answer) if answer == rust => {
+        match judge.judge(&call, &rust, port.apply(&call)) {
+            Judgement::Alike(answer) => {
                 tables.rust.count(&call, &rust, generator.before());
                 tables.port.count(&call, &answer, generator.before());
             }
-            answer => {
-                let first = Difference::new(call, &rust, &answer);
-                let found = cut_down(&history, first, new_port);
+            Judgement::Departs(place) => tables.departures.count(place),
+            Judgement::Differs(answers) => {
+                let script = vec![call];
+                let found = cut_down(&history, Difference { script, answers }, new_port);
                 return Err(Stop::Difference { after, found });
             }
         }
@@ -101,27 +114,6 @@ fn cut_down(history: &History, first: Difference, new_port: NewSide<'_>) -> Diff
     let tries = history.since_openings();
     let shown = tries.into_iter().find_map(|calls| shrink(calls, new_port));
     shown.unwrap_or(first)
-}
-
-/// An answer's line, or why there is none.
-fn line(answer: &Result<Answer, String>) -> String {
-    match answer {
-        Ok(answer) => answer.to_string(),
-        Err(message) => format!("no answer: {message}"),
-    }
-}
-
-/// Whether a call's two answers differ, and the lines that say so. What a line
-/// leaves out is shown as it stands.
-fn difference(rust: &Answer, port: &Result<Answer, String>) -> Option<(String, String)> {
-    if port.as_ref() == Ok(rust) {
-        return None;
-    }
-    let lines = (rust.to_string(), line(port));
-    match port {
-        Ok(port) if lines.0 == lines.1 => Some((format!("{rust:?}"), format!("{port:?}"))),
-        _ => Some(lines),
-    }
 }
 
 /// Whether the call begins a new history: an opening, or the size of its store.

@@ -75,6 +75,7 @@ fn report(options: &Options, tables: &Tables, start: Instant) {
     } else {
         println!("not met by these calls: refusals {numbers:?}, kinds {kinds:?}");
     }
+    println!("{}", tables.departures);
     if options.plan.stores {
         println!("{}", tables.port.small_stores());
     }

@@ -2,9 +2,10 @@
 use std::fmt::{self, Display, Formatter};
 
 use generate::Bounded;
-use script::{Answer, Call, Side};
+use script::{Call, Side};
 
-use crate::{NewSide, difference};
+use crate::NewSide;
+use crate::judge::{Answers, Judge, Judgement};
 
 /// How often a script is run anew at most.
 const TRIALS: usize = 4_000;
@@ -13,20 +14,7 @@ const TRIALS: usize = 4_000;
 #[derive(Debug)]
 pub struct Difference {
     pub script: Vec<Call>,
-    pub rust: String,
-    pub port: String,
-}
-
-impl Difference {
-    /// A difference of one call, whose script is not known.
-    pub fn new(call: Call, rust: &Answer, port: &Result<Answer, String>) -> Self {
-        let (rust, port) = difference(rust, port).expect("they differ");
-        Self {
-            script: vec![call],
-            rust,
-            port,
-        }
-    }
+    pub answers: Answers,
 }
 
 impl Display for Difference {
@@ -34,8 +22,7 @@ impl Display for Difference {
         for call in &self.script {
             writeln!(f, "{call}")?;
         }
-        writeln!(f, "# the Rust: {}", self.rust)?;
-        writeln!(f, "# the port: {}", self.port)
+        write!(f, "{}", self.answers)
     }
 }
 
@@ -46,18 +33,22 @@ pub fn shrink(calls: Vec<Call>, new_port: NewSide<'_>) -> Option<Difference> {
     script::fewest(calls, TRIALS, show, |found| &found.script)
 }
 
-/// The shortest prefix that shows a difference.
+/// The shortest prefix that shows a difference. What follows a departure is left
+/// out up to the next opening.
 fn first_difference(mut calls: Vec<Call>, new_port: NewSide<'_>) -> Option<Difference> {
     let (mut rust, mut port) = (Bounded::new(), new_port());
+    let mut judge = Judge::default();
     for place in 0..calls.len() {
         let call = &calls[place];
+        if judge.is_over(call) {
+            continue;
+        }
         let answer = rust.apply(call).ok()?;
-        if let Some((rust, port)) = difference(&answer, &port.apply(call)) {
+        if let Judgement::Differs(answers) = judge.judge(call, &answer, port.apply(call)) {
             calls.truncate(place + 1);
             return Some(Difference {
                 script: calls,
-                rust,
-                port,
+                answers,
             });
         }
     }

@@ -2,8 +2,8 @@
 use std::collections::BTreeMap;
 
 use compare::{Plan, Stop, Tables, compare};
-use generate::Mix;
-use script::{Answer, Call, DeviceId, Outcome, RowState, Side};
+use generate::{Bounded, Mix};
+use script::{Answer, Call, Category, DeviceId, InItsPlace, Outcome, RowState, Side};
 
 fn plan(seed: u64, calls: u64) -> Plan {
     Plan {
@@ -26,8 +26,9 @@ fn run(new_port: &dyn Fn() -> Box<dyn Side>, plan: Plan) -> Result<Tables, Stop>
 #[test]
 fn the_port_answers_as_the_rust() {
     let tables = run(&|| Box::new(port::Port::new()), plan(11, 20_000)).unwrap();
-    assert_eq!(tables.port.calls, 20_000);
+    assert_eq!(tables.port.calls + tables.departures.total(), 20_000);
     assert_eq!(tables.rust.to_string(), tables.port.to_string());
+    assert!(tables.departures.times(InItsPlace::Report) > 5);
 }
 
 #[test]
@@ -74,8 +75,11 @@ fn a_store_with_a_row_too_many_is_found() {
     let Err(Stop::Difference { found, .. }) = run(&roomy, in_small_stores(1, 20_000)) else {
         panic!("it was not found");
     };
-    assert!(found.rust.starts_with("refuse 5 V.5.-.- |"), "{found}");
-    assert!(!found.port.starts_with("refuse 5 "), "{found}");
+    assert!(
+        found.answers.rust.starts_with("refuse 5 V.5.-.- |"),
+        "{found}"
+    );
+    assert!(!found.answers.port.starts_with("refuse 5 "), "{found}");
     assert!(matches!(found.script.first(), Some(Call::Store { .. })));
 }
 
@@ -100,7 +104,10 @@ fn a_row_with_a_byte_too_few_is_found() {
     let Err(Stop::Difference { found, .. }) = run(&tight, in_small_stores(1, 20_000)) else {
         panic!("it was not found");
     };
-    assert!(found.port.starts_with("refuse 7 V.7.-.- |"), "{found}");
+    assert!(
+        found.answers.port.starts_with("refuse 7 V.7.-.- |"),
+        "{found}"
+    );
 }
 
 /// The port, but a request that timed out is shown as not timed out.
@@ -128,10 +135,10 @@ fn a_difference_is_found_and_cut_down() {
     assert!(after > 1);
     let text = found.to_string();
     // An opening, what makes a device usable, a submission or two and the timeout.
-    assert!(found.script.len() <= 12, "{text}");
+    assert!(found.script.len() <= 14, "{text}");
     assert!(matches!(found.script.last(), Some(Call::Timeout(_))));
-    assert!(found.rust.contains("state=P(0,1)"), "{text}");
-    assert!(found.port.contains("state=P(0,0)"), "{text}");
+    assert!(found.answers.rust.contains("state=P(0,1)"), "{text}");
+    assert!(found.answers.port.contains("state=P(0,0)"), "{text}");
 }
 
 /// The port, but it has no answer to an abort.
@@ -152,7 +159,7 @@ fn a_side_without_an_answer_is_a_difference() {
     let Err(Stop::Difference { found, .. }) = run(&mute, plan(3, 20_000)) else {
         panic!("it was not found");
     };
-    assert_eq!(found.port, "no answer: no word of it");
+    assert_eq!(found.answers.port, "no answer: no word of it");
     assert_eq!(found.script.last().map(Call::verb), Some("abort"));
     // Without an opening the Rust has no answer either.
     assert_eq!(found.script.len(), 2, "{found}");
@@ -227,7 +234,42 @@ fn a_mark_that_is_looked_at_after_the_device_is_found_by_every_seed() {
             panic!("it was not found by seed {seed}");
         };
         println!("seed {seed}: call {after}");
-        assert!(found.rust.starts_with("refuse 26 "), "{found}");
-        assert!(found.port.starts_with("refuse 27 "), "{found}");
+        assert!(found.answers.rust.starts_with("refuse 26 "), "{found}");
+        assert!(found.answers.port.starts_with("refuse 27 "), "{found}");
     }
+}
+
+/// The Rust in the port's place, which has no 58.
+#[test]
+fn a_side_that_does_not_depart_is_found() {
+    let rust = || Box::new(Bounded::new()) as Box<dyn Side>;
+    let Err(Stop::Difference { found, .. }) = run(&rust, plan(1, 20_000)) else {
+        panic!("it was not found");
+    };
+    assert_eq!(found.answers.rust, found.answers.port);
+    let due = found.answers.due.as_deref().unwrap_or("");
+    assert!(due.starts_with("refuse 58 U.58.-.- |"), "{found}");
+    assert!(matches!(found.script.last(), Some(Call::Submit(_))));
+}
+
+/// The port, but 58 is of another category.
+struct Miscalled(port::Port);
+
+impl Side for Miscalled {
+    fn apply(&mut self, call: &Call) -> Result<Answer, String> {
+        let mut answer = self.0.apply(call)?;
+        if let Outcome::Refused { number: 58, error } = &mut answer.outcome {
+            error.category = Category::Validation;
+        }
+        Ok(answer)
+    }
+}
+
+#[test]
+fn a_departure_of_another_category_is_found() {
+    let miscalled = || Box::new(Miscalled(port::Port::new())) as Box<dyn Side>;
+    let Err(Stop::Difference { found, .. }) = run(&miscalled, plan(1, 20_000)) else {
+        panic!("it was not found");
+    };
+    assert!(found.answers.port.starts_with("refuse 58 V.58.-.- |"));
 }

@@ -14,7 +14,7 @@ use crate::judge;
 use crate::lent::Slices;
 
 /// Refusals of category Unsupported.
-const UNSUPPORTED: [u16; 9] = [6, 11, 13, 14, 18, 19, 20, 21, 37];
+const UNSUPPORTED: [u16; 10] = [6, 11, 13, 14, 18, 19, 20, 21, 37, 58];
 
 /// The answer, where there is one; what is wrong with it or with what it left.
 /// `sound` says that calls lead to the session and its rows.
@@ -136,7 +136,7 @@ fn may_refuse(call: u64, number: u16) -> bool {
         5 => matches!(number, 1 | 45 | 50),
         6 => matches!(number, 1 | 45 | 51),
         7 => matches!(number, 1 | 3 | 45 | 52),
-        8 => matches!(number, 1 | 3..=17 | 26..=39),
+        8 => matches!(number, 1 | 3..=17 | 26..=39 | 58),
         9 => matches!(number, 1 | 3 | 5..=7 | 18..=35 | 39),
         10 | 12 => matches!(number, 2 | 3 | 45),
         11 => matches!(number, 1 | 3 | 28 | 40),
@@ -346,7 +346,7 @@ fn refused(call: &[u64], number: u16, rows: Records) -> Changes {
         _ => &[],
     };
     match (call[0], number) {
-        (8 | 9, 31 | 33..=39) => Changes {
+        (8 | 9, 31 | 33..=39 | 58) => Changes {
             session,
             bus: PORT_ROW,
             ..NOTHING

@@ -7,7 +7,7 @@
 use std::mem;
 
 use oracle::{Oracle, View};
-use script::{Answer, Asked, Call, Category, ControllerState, Error, Open, Outcome, Side};
+use script::{Answer, Call, Category, ControllerState, Error, Open, Outcome, Side, Standing};
 
 /// A longer request is refused (6) whatever the store.
 const LONGEST: u64 = 65_536;
@@ -36,9 +36,7 @@ pub struct Bounded {
     size: StoreSize,
     next_size: StoreSize,
     /// What a refusal by the store's own limit leaves: all as it was.
-    state: ControllerState,
-    held: u64,
-    held_bytes: u64,
+    standing: Standing,
 }
 
 impl Default for Bounded {
@@ -47,9 +45,11 @@ impl Default for Bounded {
             oracle: Oracle::new(),
             size: StoreSize::WHOLE,
             next_size: StoreSize::WHOLE,
-            state: ControllerState::Closed,
-            held: 0,
-            held_bytes: 0,
+            standing: Standing {
+                state: ControllerState::Closed,
+                held: 0,
+                held_bytes: 0,
+            },
         }
     }
 }
@@ -69,7 +69,7 @@ impl Side for Bounded {
             _ => self.own_limit(call)?.map(refused),
         };
         match outcome {
-            Some(outcome) => Ok(self.unchanged(outcome)),
+            Some(outcome) => Ok(Answer::unchanged(outcome, self.standing)),
             None => self.ask(call),
         }
     }
@@ -90,20 +90,8 @@ impl Bounded {
 
     fn ask(&mut self, call: &Call) -> Result<Answer, String> {
         let answer = self.oracle.apply(call)?;
-        self.state = answer.state;
-        (self.held, self.held_bytes) = (answer.held, answer.held_bytes);
+        self.standing = answer.standing();
         Ok(answer)
-    }
-
-    fn unchanged(&self, outcome: Outcome) -> Answer {
-        Answer {
-            outcome,
-            asked: Asked::Nothing,
-            reads: Vec::new(),
-            state: self.state,
-            held: self.held,
-            held_bytes: self.held_bytes,
-        }
     }
 
     /// 5 or 7, where the store's own limit refuses the call. Where 128 are held
@@ -112,7 +100,7 @@ impl Bounded {
         let Some(length) = requested(call) else {
             return Ok(None);
         };
-        if self.size == StoreSize::WHOLE || self.held >= MOST_HELD {
+        if self.size == StoreSize::WHOLE || self.standing.held >= MOST_HELD {
             return Ok(None);
         }
         let full = self.oracle.rows().len() as u64 >= self.size.rows;

@@ -16,7 +16,7 @@ mod values;
 mod world;
 
 use oracle::View;
-use script::{Answer, Call, Side};
+use script::{Answer, Call, Side, departs, spare};
 
 pub use bounded::{Bounded, StoreSize};
 pub use phase::Phase;
@@ -44,6 +44,8 @@ impl Mix {
 pub struct Generator {
     world: World,
     rust: Bounded,
+    /// Whether there are calls at which the port departs from the Rust.
+    departs: bool,
 }
 
 impl Generator {
@@ -52,6 +54,7 @@ impl Generator {
         Self {
             world: World::new(seed, mix, phase),
             rust: Bounded::new(),
+            departs: false,
         }
     }
 
@@ -60,6 +63,15 @@ impl Generator {
         let mut generator = Self::new(seed, mix, phase);
         generator.world.small_stores = true;
         generator
+    }
+
+    /// With calls at which the port departs from the Rust: each ends its history,
+    /// and an opening is next.
+    pub fn with_departures(self) -> Self {
+        Self {
+            departs: true,
+            ..self
+        }
     }
 
     /// The next call, and the oracle's answer to it.
@@ -71,7 +83,11 @@ impl Generator {
 
     /// The next call. One that the oracle is not asked is as if never made.
     pub fn propose(&mut self) -> Call {
-        self.world.next_call(self.rust.oracle())
+        let mut call = self.world.next_call(self.rust.oracle());
+        if !self.departs {
+            spare(&mut call);
+        }
+        call
     }
 
     /// The oracle's answer to the call that was proposed.
@@ -81,6 +97,9 @@ impl Generator {
             .apply(call)
             .map_err(|message| format!("{message}, at: {call}"))?;
         self.world.note(call, &answer);
+        if departs(call, &answer).is_some() {
+            self.world.end_history();
+        }
         Ok(answer)
     }
 

@@ -30,6 +30,8 @@ pub struct World {
     put_off: Option<Phase>,
     /// Calls left of the phase.
     left: usize,
+    /// Whether an opening must be next.
+    ended: bool,
     /// Calls that are already decided.
     pub queue: VecDeque<Call>,
     /// Steps that become calls when the rows before them are known.
@@ -64,6 +66,7 @@ impl World {
             only,
             put_off: None,
             left: 0,
+            ended: false,
             queue: VecDeque::new(),
             episode: VecDeque::new(),
             devices: Vec::new(),
@@ -175,7 +178,7 @@ impl World {
             Phase::Limits | Phase::Lifecycle | Phase::Hold | Phase::Fill | Phase::Edges
         );
         let stays = self.phase == Phase::Marked;
-        if fresh || no_ports || (!stays && self.rng.chance(50)) {
+        if fresh || no_ports || self.ended || (!stays && self.rng.chance(50)) {
             // The session ends here anyway, so edges take nothing from a phase.
             if self.only.is_none() && self.rng.chance(25) {
                 self.put_off = Some(self.phase);
@@ -185,12 +188,19 @@ impl World {
         }
     }
 
+    /// The phase is over, and the next begins with an opening.
+    pub fn end_history(&mut self) {
+        self.left = 0;
+        self.ended = true;
+    }
+
     fn begin(&mut self, phase: Phase) {
         self.phase = phase;
         self.left = phase.duration(&mut self.rng);
     }
 
     fn open(&mut self) {
+        self.ended = false;
         match self.phase {
             Phase::Edges => self.plan_edges(),
             _ => self.plan_opening(),

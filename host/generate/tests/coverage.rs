@@ -1,10 +1,11 @@
 //! What generated and recorded scripts meet.
+use std::collections::BTreeMap;
 use std::fs;
 use std::path::Path;
 
 use generate::{Generator, Mix, Table};
 use oracle::Oracle;
-use script::{Call, Category, ControllerState, Outcome, Side, parse_line};
+use script::{Call, Category, ControllerState, InItsPlace, Outcome, Side, departs, parse_line};
 
 /// Refusals of category Unsupported by document 01's table.
 const UNSUPPORTED: [u16; 9] = [6, 11, 13, 14, 18, 19, 20, 21, 37];
@@ -143,4 +144,32 @@ fn the_recorded_scripts_together_meet_everything() {
     // 44 by `force` alone.
     assert_eq!(table.unexpected(), [44]);
     assert_eq!(table.missing_kinds(), Vec::<&str>::new());
+}
+
+/// A call at which the port departs from the Rust is made where it is asked for,
+/// and an opening follows it.
+#[test]
+fn a_departure_ends_its_history() {
+    let mut generator = Generator::new(1, Mix::Default, None).with_departures();
+    let (mut met, mut ended) = (BTreeMap::new(), false);
+    for _ in 0..200_000 {
+        let (call, answer) = generator.step().unwrap();
+        assert!(!ended || matches!(call, Call::Open(_)), "{call}");
+        let place = departs(&call, &answer);
+        ended = place.is_some();
+        if let Some(place) = place {
+            *met.entry(place).or_insert(0) += 1;
+        }
+    }
+    let met_of = |place: &InItsPlace| met.contains_key(place);
+    assert!(InItsPlace::ALL.iter().all(met_of), "{met:?}");
+}
+
+#[test]
+fn a_plain_script_has_no_departures() {
+    let mut generator = Generator::new(1, Mix::Default, None);
+    for _ in 0..50_000 {
+        let (call, answer) = generator.step().unwrap();
+        assert_eq!(departs(&call, &answer), None, "{call}");
+    }
 }

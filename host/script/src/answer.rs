@@ -12,6 +12,36 @@ pub struct Answer {
     pub held_bytes: u64,
 }
 
+/// What every answer says of the session as it stands after the call.
+#[derive(Debug, Clone, Copy, PartialEq, Eq)]
+pub struct Standing {
+    pub state: ControllerState,
+    pub held: u64,
+    pub held_bytes: u64,
+}
+
+impl Answer {
+    pub fn standing(&self) -> Standing {
+        Standing {
+            state: self.state,
+            held: self.held,
+            held_bytes: self.held_bytes,
+        }
+    }
+
+    /// An outcome that asked the backend nothing and left all as it stood.
+    pub fn unchanged(outcome: Outcome, standing: Standing) -> Self {
+        Self {
+            outcome,
+            asked: Asked::Nothing,
+            reads: Vec::new(),
+            state: standing.state,
+            held: standing.held,
+            held_bytes: standing.held_bytes,
+        }
+    }
+}
+
 #[derive(Debug, Clone, PartialEq, Eq)]
 pub enum Outcome {
     Done,

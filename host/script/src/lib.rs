@@ -4,6 +4,7 @@
 //! [`run`] reads a script, applies its calls and gives the answer lines.
 mod answer;
 mod call;
+mod departure;
 mod display;
 mod fewest;
 mod fields;
@@ -11,10 +12,13 @@ mod parse;
 mod text;
 mod values;
 
-pub use answer::{AbortReport, Answer, Asked, Dump, Outcome, PortRow, Ports, Row, RowState};
+pub use answer::{
+    AbortReport, Answer, Asked, Dump, Outcome, PortRow, Ports, Row, RowState, Standing,
+};
 pub use call::{
     AbortReply, AbortResult, Call, Completion, Open, Plan, PollReply, Recovery, Submit,
 };
+pub use departure::{InItsPlace, departs, departure, spare};
 pub use display::hex;
 pub use fewest::fewest;
 pub use fields::ScriptError;

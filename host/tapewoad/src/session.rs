@@ -216,8 +216,8 @@ impl<B: Backend> UsbSession<B> {
     ///
     /// # Errors
     /// By the packets (4), the capacity (5), the request itself (6 to 17), its
-    /// device and port (26 to 38) and the sequence numbers (39); the backend's
-    /// error is 45, and 33 where it is of a port's reading.
+    /// device and port (26 to 38, 58) and the sequence numbers (39); the
+    /// backend's error is 45, and 33 where it is of a port's reading.
     pub fn submit_request_packets(
         &mut self,
         spec: RequestSpec,

@@ -88,12 +88,7 @@ fn plans_and_packets_reach_the_backend() {
         data: Vec::new(),
     };
     usb.submit_control_plan(plan).unwrap();
-    let spec = RequestSpec {
-        endpoint: 0x83,
-        transfer_type: TransferType::Isochronous,
-        ..bulk(Direction::In, &[], 30)
-    };
-    usb.submit_request_packets(spec, Some(vec![10, 20]))
+    usb.submit_request_packets(isochronous(30), Some(vec![10, 20]))
         .unwrap();
     assert_eq!(
         asked(&usb),
@@ -105,6 +100,37 @@ fn plans_and_packets_reach_the_backend() {
             "iso 30 [10, 20]"
         ]
     );
+}
+
+fn isochronous(length: usize) -> RequestSpec {
+    RequestSpec {
+        endpoint: 0x83,
+        transfer_type: TransferType::Isochronous,
+        ..bulk(Direction::In, &[], length)
+    }
+}
+
+/// 58 goes by the second reading. The backend is not asked, what was read stays,
+/// and no number is spent.
+#[test]
+fn low_speed_has_no_isochronous_pipes() {
+    const LOW: u32 = 0x803;
+    let mut usb = ready(2, 64);
+    usb.backend_mut().readings = RefCell::new([Ok(WORD), Ok(LOW)].into());
+    let refusal = usb.submit_request(isochronous(8)).unwrap_err();
+    assert_eq!(refusal.number, 58);
+    let text = "Low Speed has no isochronous transfers";
+    let error = OperationError::new(ErrorCategory::Unsupported, text);
+    assert_eq!(refusal.error, error);
+    assert_eq!(asked(&usb), ["port 1", "port 1"]);
+    assert_eq!(usb.state(), ControllerState::Initialized);
+    assert_eq!(usb.held_count(), 0);
+    assert_eq!(usb.store().port(1), Some((1, Some(LOW))));
+    usb.backend_mut().readings = RefCell::new([Ok(LOW), Ok(WORD)].into());
+    usb.backend_mut().tokens = [Ok(1)].into();
+    let report = usb.submit_request(isochronous(8)).unwrap();
+    assert_eq!(report.id, id(0));
+    assert_eq!(asked(&usb)[..2], ["port 1", "port 1"]);
 }
 
 #[test]

@@ -11,8 +11,8 @@ use script::{Answer, Call, Side, parse_line};
 use crate::calls::exchanges;
 use crate::{answers, store};
 
-/// What has no Rust side: statuses, lines that are no call, and refusals between
-/// the two calls of a recovery.
+/// What has no Rust side: statuses, lines that are no call, refusals between the
+/// two calls of a recovery, and where the port departs from the Rust.
 const BY_HAND: [&str; 2] = [
     include_str!("../by-hand.stdin"),
     include_str!("../by-hand.stdout"),
@@ -20,7 +20,7 @@ const BY_HAND: [&str; 2] = [
 
 const HEAD: &str = "\
 # Recorded calls, written by `make -C host words`; docs/CALLS.md has the words. A comment is the script's call that the next lines are.
-# What they must print comes from the unchanged Rust, and from it alone.
+# What they must print comes from the unchanged Rust; the last part, which has no Rust side, is by hand.
 ";
 
 pub struct Recording {

@@ -4,8 +4,9 @@ use mathlib.Core.Bool.{Bool, true, false, not, _&&_}
 use mathlib.Core.Path.{_≡_, refl, ap, sym, _∙_}
 use lib.Dec.{eqb}
 use Rattle.chain.specs.After.{After, after}
+use Rattle.chain.specs.Chain.{_if_else_}
 use Rattle.chain.proofs.Chain.{takes, passes, not-through}
-use Rattle.models.specs.Kinds.{isControl, isBulk, isPrepared, isConfigured}
+use Rattle.models.specs.Kinds.{isControl, isBulk, isIsochronous, isPrepared, isConfigured}
 use Rattle.models.specs.Refusals.{rejected}
 use Rattle.models.specs.Requests.{sameDevice}
 use Rattle.models.specs.declared.DeviceId.{DeviceId}
@@ -94,22 +95,29 @@ module _ (i : Bool) (o : OptionPorts) (id : DeviceId) (reading : PortReading) (b
   unfolding checkDevice checkDeviceBy
   device-fresh d r left e er = er ∙ rw (← ek, e)
 
--- 37 and 38
+-- 37, 58 and 38
 module _ (raw slot endpoint : ℕ) (type : TransferType) (b : Bus) (speed : ℕ) (bulk : Bool) (es : speed ≡ portSpeed raw) (eb : bulk ≡ isBulk type) where
-  pub speed-two : (r : Verdict) → (eqb speed 2 && bulk) ≡ true → r ≡ rejected 37 → r ≡ speedChecked raw slot endpoint type b
+  pub speed-bulk : (r : Verdict) → (eqb speed 2 && bulk) ≡ true → r ≡ rejected 37 → r ≡ speedChecked raw slot endpoint type b
   unfolding speedChecked
-  speed-two r e er = takes Verdict _ _ _ _ (rw (es, eb) at e) er
+  speed-bulk r e er = takes Verdict _ _ _ _ (rw (es, eb) at e) er
 
-  module _ (other : (eqb speed 2 && bulk) ≡ false) (t : Bool) (et : t ≡ hasEndpoint slot endpoint type b) where
-    pub speed-absent : (r : Verdict) → not t ≡ true → r ≡ rejected 38 → r ≡ speedChecked raw slot endpoint type b
+  module _ (noBulk : (eqb speed 2 && bulk) ≡ false) (isochronous : Bool) (ei : isochronous ≡ isIsochronous type) where
+    pub speed-isochronous : (r : Verdict) → (eqb speed 2 && isochronous) ≡ true → r ≡ rejected 58 → r ≡ speedChecked raw slot endpoint type b
     unfolding speedChecked
-    speed-absent r e er = passes Verdict _ _ _ _ (rw (es, eb) at other) (takes Verdict _ _ _ _ (not-through t _ true et e) er)
+    speed-isochronous r e er = passes Verdict _ _ _ _ (rw (es, eb) at noBulk) (takes Verdict _ _ _ _ (rw (es, ei) at e) er)
 
-    pub speed-pass : not t ≡ false → verdict.Pass ≡ speedChecked raw slot endpoint type b
-    unfolding speedChecked
-    speed-pass e = passes Verdict _ _ _ _ (rw (es, eb) at other) (passes Verdict _ _ _ _ (not-through t _ false et e) refl)
+    module _ (neither : (eqb speed 2 && isochronous) ≡ false) (t : Bool) (et : t ≡ hasEndpoint slot endpoint type b) where
+      placed-by : (r : Verdict) → r ≡ (rejected 38 if not (hasEndpoint slot endpoint type b) else verdict.Pass) → r ≡ speedChecked raw slot endpoint type b
+      unfolding speedChecked
+      placed-by r er = passes Verdict _ _ _ _ (rw (es, eb) at noBulk) (passes Verdict _ _ _ _ (rw (es, ei) at neither) er)
 
--- the second reading, then 37 and 38
+      pub speed-absent : (r : Verdict) → not t ≡ true → r ≡ rejected 38 → r ≡ speedChecked raw slot endpoint type b
+      speed-absent r e er = placed-by r (takes Verdict _ _ _ _ (not-through t _ true et e) er)
+
+      pub speed-pass : not t ≡ false → verdict.Pass ≡ speedChecked raw slot endpoint type b
+      speed-pass e = placed-by verdict.Pass (passes Verdict _ _ _ _ (not-through t _ false et e) refl)
+
+-- the second reading, then 37, 58 and 38
 module _ (p : PortChecked) (m : RequestMetadata) (b : Bus) where
   pub read-refused : (r : Refusal) → p ≡ checked.Refused r → verdict.Refused r ≡ endpointBy p m b
   unfolding endpointBy

@@ -1,6 +1,6 @@
 -- `targets::target::check_speed` meets its contract: one law for each way out. Assumes nothing.
 use borrow.Author.Needs.{needs}
-use Rattle.targets.proofs.target.Laws.{speed-two, speed-absent, speed-pass}
+use Rattle.targets.proofs.target.Laws.{speed-bulk, speed-isochronous, speed-absent, speed-pass}
 use Rattle.targets.proofs.target.check_speed.Statement.{statement}
 use Rattle.targets.proofs.target.check_speed.Tie as tie
 
@@ -11,8 +11,11 @@ check-speed-spec =
     (λ c κs. search needs)
     (λ c κs. search needs)
     (λ c κs. search needs)
-    (λ c. search (speed-two, speed-absent, speed-pass))
+    (λ c. search speed-bulk)
     (λ c κs. search needs)
     (λ c κs. search needs)
-    (λ c. search (speed-two, speed-absent, speed-pass))
-    (λ c. search (speed-two, speed-absent, speed-pass)))
+    (λ c. search speed-isochronous)
+    (λ c κs. search needs)
+    (λ c κs. search needs)
+    (λ c. search speed-absent)
+    (λ c. search speed-pass))

@@ -1,0 +1,82 @@
+-- At low speed passes only what USB 2.0 chapter 5 has there, whatever else the request and the bus are. Assumes nothing.
+use Prim.Native.Nat.{ℕ}
+use mathlib.Core.Bool.{Bool, true, false}
+use mathlib.Core.Path.{_≡_, refl, sym}
+use Rattle.chain.specs.After.{After}
+use Rattle.chain.proofs.Chain.{if-all, if-by}
+use Rattle.models.specs.Kinds.{isControl}
+use Rattle.models.specs.Refusals.{rejected}
+use Rattle.models.specs.declared.DeviceSnapshot.{DeviceSnapshot}
+use Rattle.models.specs.declared.OptionPorts.{OptionPorts}
+use Rattle.models.specs.declared.PortReading.{PortReading}
+use Rattle.models.specs.declared.PortReading.the-variants.{Word}
+use Rattle.models.specs.declared.RequestMetadata.{RequestMetadata}
+use Rattle.models.specs.declared.TransferType.{TransferType}
+use Rattle.models.specs.declared.TransferType.the-variants as transfer
+use Rattle.models.specs.declared.Verdict.{Verdict}
+use Rattle.models.specs.declared.Verdict.the-variants as verdict
+use Rattle.standards.specs.Ports.{portSpeed}
+use Rattle.standards.specs.Speeds.{lowSpeed, isLowSpeedType}
+use Rattle.bus.specs.Ports.{freshPort}
+use Rattle.bus.specs.Tables.{Bus}
+use Rattle.bus.specs.declared.ports.PortChecked.{PortChecked}
+use Rattle.bus.specs.declared.ports.PortChecked.the-variants as checked
+use Rattle.bus.proofs.Fresh.{Shows, fresh-shows}
+use Rattle.targets.specs.Target.{speedChecked, endpointBy, checkEndpoint, checkTargetBy, checkDevice, checkTarget}
+use Rattle.targets.specs.declared.Readings.{Readings}
+use Rattle.targets.specs.declared.target.DeviceChecked.{DeviceChecked}
+use Rattle.targets.specs.declared.target.DeviceChecked.the-variants as answer
+use Rattle.targets.proofs.target.Laws.{speed-bulk, speed-isochronous}
+
+-- what passes is of a type that low speed has
+abbrev Carried : TransferType → Verdict → Type 0
+Carried type (verdict.Refused r) = Unit {0}
+Carried type verdict.Pass = isLowSpeedType type ≡ true
+
+passed : (type : TransferType) (v : Verdict) → Carried type v → v ≡ verdict.Pass → isLowSpeedType type ≡ true
+passed type v h e = rw e at h
+
+carried : (type : TransferType) → isLowSpeedType type ≡ true → (v : Verdict) → Carried type v
+carried type e (verdict.Refused r) = tt
+carried type e verdict.Pass = e
+
+control-carried : (type : TransferType) → isControl type ≡ true → isLowSpeedType type ≡ true
+control-carried transfer.Control e = refl
+control-carried transfer.Bulk e = e
+control-carried transfer.Interrupt e = refl
+control-carried transfer.Isochronous e = e
+
+module _ (raw : ℕ) (low : portSpeed raw ≡ lowSpeed) where
+  speed-carries : (slot endpoint : ℕ) (type : TransferType) (b : Bus) → Carried type (speedChecked raw slot endpoint type b)
+  speed-carries slot endpoint transfer.Control b = carried transfer.Control refl (speedChecked raw slot endpoint transfer.Control b)
+  speed-carries slot endpoint transfer.Bulk b =
+      let e = speed-bulk raw slot endpoint transfer.Bulk b lowSpeed true (sym low) refl (rejected 37) refl refl in
+      rw (← e) tt
+  speed-carries slot endpoint transfer.Interrupt b = carried transfer.Interrupt refl (speedChecked raw slot endpoint transfer.Interrupt b)
+  speed-carries slot endpoint transfer.Isochronous b =
+      let e = speed-isochronous raw slot endpoint transfer.Isochronous b lowSpeed false (sym low) refl refl true refl (rejected 58) refl refl in
+      rw (← e) tt
+
+  module _ (o : OptionPorts) (m : RequestMetadata) where
+    abbrev Carries : After Verdict Bus → Type 0
+    Carries x = Carried (m .«transfer_type») (x .result)
+
+    port-carries : (x : PortChecked) → Shows raw x → (b : Bus) → Carried (m .«transfer_type») (endpointBy x m b)
+    unfolding endpointBy
+    port-carries (checked.Refused r) h b = tt
+    port-carries (checked.Read word) h b = rw h (speed-carries (m .device .slot) (m .endpoint) (m .«transfer_type») b)
+
+    endpoint-carries : (d : DeviceSnapshot) (b : Bus) → Carries (checkEndpoint o d m (Word raw) b)
+    unfolding checkEndpoint
+    endpoint-carries d b = if-all Carries _ _ _ tt (port-carries (freshPort o (d .port) (Word raw) b .result) (fresh-shows raw o (d .port) b) _)
+
+    target-carries : (x : DeviceChecked) (b : Bus) → Carries (checkTargetBy x o m (Word raw) b)
+    unfolding checkTargetBy
+    target-carries (answer.Refused r) b = tt
+    target-carries (answer.Ready d) b = if-by Carries _ _ _ (λ y. control-carried (m .«transfer_type») y) (λ y. endpoint-carries d b)
+
+    -- 37 and 58 together: the second reading has speed 2, and the request passes; then it is control or interrupt
+    pub low-speed-carries : (ready : Bool) (first : PortReading) (b : Bus)
+        → checkTarget ready o m (record { first = first; second = Word raw }) b .result ≡ verdict.Pass → isLowSpeedType (m .«transfer_type») ≡ true
+    unfolding checkTarget
+    low-speed-carries ready first b = passed (m .«transfer_type») _ (target-carries (checkDevice ready o (m .device) first b .result) _)
