@@ -1,10 +1,12 @@
--- At low speed passes only what USB 2.0 chapter 5 has there, whatever else the request and the bus are. Assumes nothing.
+-- 37 and 58 refuse just what USB 2.0 chapter 5 does not have at low speed, whatever else the request and the bus are. Assumes nothing.
 use Prim.Native.Nat.{ℕ}
-use mathlib.Core.Bool.{Bool, true, false}
+use mathlib.Core.Bool.{Bool, true, false, not, _&&_}
 use mathlib.Core.Path.{_≡_, refl, sym}
+use lib.Dec.{eqb}
 use Rattle.chain.specs.After.{After}
-use Rattle.chain.proofs.Chain.{if-all, if-by}
-use Rattle.models.specs.Kinds.{isControl}
+use Rattle.chain.specs.Chain.{_if_else_}
+use Rattle.chain.proofs.Chain.{if-all, if-by, and-false}
+use Rattle.models.specs.Kinds.{isControl, isBulk, isIsochronous}
 use Rattle.models.specs.Refusals.{rejected}
 use Rattle.models.specs.declared.DeviceSnapshot.{DeviceSnapshot}
 use Rattle.models.specs.declared.OptionPorts.{OptionPorts}
@@ -18,6 +20,7 @@ use Rattle.models.specs.declared.Verdict.the-variants as verdict
 use Rattle.standards.specs.Ports.{portSpeed}
 use Rattle.standards.specs.Speeds.{lowSpeed, isLowSpeedType}
 use Rattle.bus.specs.Ports.{freshPort}
+use Rattle.bus.specs.Endpoints.{hasEndpoint}
 use Rattle.bus.specs.Tables.{Bus}
 use Rattle.bus.specs.declared.ports.PortChecked.{PortChecked}
 use Rattle.bus.specs.declared.ports.PortChecked.the-variants as checked
@@ -26,7 +29,7 @@ use Rattle.targets.specs.Target.{speedChecked, endpointBy, checkEndpoint
 use Rattle.targets.specs.declared.Readings.{Readings}
 use Rattle.targets.specs.declared.target.DeviceChecked.{DeviceChecked}
 use Rattle.targets.specs.declared.target.DeviceChecked.the-variants as answer
-use Rattle.targets.proofs.target.Laws.{speed-bulk, speed-isochronous}
+use Rattle.targets.proofs.target.Laws.{speed-bulk, speed-isochronous, placed-by}
 
 -- what passes is of a type that low speed has
 abbrev Carried : TransferType → Verdict → Type 0
@@ -80,3 +83,17 @@ module _ (raw : ℕ) (low : portSpeed raw ≡ lowSpeed) where
         → checkTarget ready o m (record { first = first; second = Word raw }) b .result ≡ verdict.Pass → isLowSpeedType (m .«transfer_type») ≡ true
     unfolding checkTarget
     low-speed-carries ready first b = passed (m .«transfer_type») _ (target-carries (checkDevice ready o (m .device) first b .result) _)
+
+-- and no more is refused by 37 or 58: at another speed, or of a type that low speed has, 38 alone is left
+module _ (raw slot endpoint : ℕ) (b : Bus) where
+  abbrev Spared : TransferType → Type 0
+  Spared type = speedChecked raw slot endpoint type b ≡ (rejected 38 if not (hasEndpoint slot endpoint type b) else verdict.Pass)
+
+  spared : (type : TransferType) → (eqb (portSpeed raw) 2 && isBulk type) ≡ false → (eqb (portSpeed raw) 2 && isIsochronous type) ≡ false → Spared type
+  spared type noBulk neither = sym (placed-by raw slot endpoint type b _ _ refl refl noBulk _ refl neither _ refl)
+
+  pub low-speed-spares : (type : TransferType) → (eqb (portSpeed raw) lowSpeed && not (isLowSpeedType type)) ≡ false → Spared type
+  low-speed-spares transfer.Control h = spared transfer.Control h h
+  low-speed-spares transfer.Bulk h = spared transfer.Bulk h (and-false (eqb (portSpeed raw) 2))
+  low-speed-spares transfer.Interrupt h = spared transfer.Interrupt h h
+  low-speed-spares transfer.Isochronous h = spared transfer.Isochronous (and-false (eqb (portSpeed raw) 2)) h

@@ -106,16 +106,17 @@ module _ (raw slot endpoint : ℕ) (type : TransferType) (b : Bus) (speed : ℕ)
     unfolding speedChecked
     speed-isochronous r e er = passes Verdict _ _ _ _ (rw (es, eb) at noBulk) (takes Verdict _ _ _ _ (rw (es, ei) at e) er)
 
-    module _ (neither : (eqb speed 2 && isochronous) ≡ false) (t : Bool) (et : t ≡ hasEndpoint slot endpoint type b) where
-      placed-by : (r : Verdict) → r ≡ (rejected 38 if not (hasEndpoint slot endpoint type b) else verdict.Pass) → r ≡ speedChecked raw slot endpoint type b
+    module _ (neither : (eqb speed 2 && isochronous) ≡ false) where
+      pub placed-by : (r : Verdict) → r ≡ (rejected 38 if not (hasEndpoint slot endpoint type b) else verdict.Pass) → r ≡ speedChecked raw slot endpoint type b
       unfolding speedChecked
       placed-by r er = passes Verdict _ _ _ _ (rw (es, eb) at noBulk) (passes Verdict _ _ _ _ (rw (es, ei) at neither) er)
 
-      pub speed-absent : (r : Verdict) → not t ≡ true → r ≡ rejected 38 → r ≡ speedChecked raw slot endpoint type b
-      speed-absent r e er = placed-by r (takes Verdict _ _ _ _ (not-through t _ true et e) er)
+      module _ (t : Bool) (et : t ≡ hasEndpoint slot endpoint type b) where
+        pub speed-absent : (r : Verdict) → not t ≡ true → r ≡ rejected 38 → r ≡ speedChecked raw slot endpoint type b
+        speed-absent r e er = placed-by r (takes Verdict _ _ _ _ (not-through t _ true et e) er)
 
-      pub speed-pass : not t ≡ false → verdict.Pass ≡ speedChecked raw slot endpoint type b
-      speed-pass e = placed-by verdict.Pass (passes Verdict _ _ _ _ (not-through t _ false et e) refl)
+        pub speed-pass : not t ≡ false → verdict.Pass ≡ speedChecked raw slot endpoint type b
+        speed-pass e = placed-by verdict.Pass (passes Verdict _ _ _ _ (not-through t _ false et e) refl)
 
 -- the second reading, then 37, 58 and 38
 module _ (p : PortChecked) (m : RequestMetadata) (b : Bus) where
