@@ -11,7 +11,7 @@ extern "C" {
 
 /* The version of the words that this header speaks of. */
 #define TAPEWOAD_MAJOR 1u
-#define TAPEWOAD_MINOR 1u
+#define TAPEWOAD_MINOR 2u
 
 /* Lengths of the slices. */
 #define TAPEWOAD_SESSION_WORDS 26u

@@ -287,7 +287,7 @@ module _ (w : List ℕ) where
         recovery-reply-says bytes (e ∙ omega (arith, eqb-false n 22 n22, eqb-false n 23 n23))
 
   pub call-words : (bytes : List ℕ) → isCall w ≡ true → callWords (readCall w bytes) ≡ w
-  unfolding isCall readCall
+  unfolding isCall readCall callWords
   call-words bytes =
       let n = getD w 0 0 in
       same-way Says (leb n 4) (λ a. placing-says n refl (leb-true n 4 a)) λ a.
@@ -295,9 +295,10 @@ module _ (w : List ℕ) where
       same-way Says (leb n 9) (λ c. submission-says n refl bytes (leb-false n 7 b) (leb-true n 9 c)) λ c.
       same-way Says (leb n 12) (λ d. replying-says n refl bytes (leb-false n 9 c) (leb-true n 12 d)) λ d.
       same-way Says (leb n 15) (λ f. changing-says n refl (leb-false n 12 d) (leb-true n 15 f)) λ f.
-      same-way Says (leb n 21) (λ g. reporting-says n refl (leb-false n 15 f) (leb-true n 21 g)) λ g t.
-      let z = known (leb n 24) (isRecoveryCall n w) t in
-      recovering-says n refl bytes (leb-false n 21 g) (leb-true n 24 (z .0)) (z .1)
+      same-way Says (leb n 21) (λ g. reporting-says n refl (leb-false n 15 f) (leb-true n 21 g)) λ g.
+      same-way Says (leb n 24) (λ h. recovering-says n refl bytes (leb-false n 21 g) (leb-true n 24 h)) λ h t.
+      let z = known (eqb n 29) (has w 4) t in
+      id-says 29 (eqb-true n 29 (z .0)) (z .1)
 
 -- so different words are different calls
 pub one-words : (w v bytes other : List ℕ) → isCall w ≡ true → isCall v ≡ true → readCall w bytes ≡ readCall v other → w ≡ v

@@ -31,7 +31,7 @@ use Rattle.polls.specs.declared.PollReply.the-variants as poll
 use Rattle.submissions.specs.declared.SubmitReply.the-variants as submit
 use Rattle.recovery.specs.declared.RecoveryReply.{RecoveryReply}
 use Rattle.recovery.specs.declared.RecoveryReply.the-variants as recovery
-use Rattle.calls.specs.Calls.{Call, Open, Placing, Place, Device, Port, Endpoints, Reconcile, Moving, Move, Acquire, Initialize, Close, Beginning, Begin, Submit, SubmitPlan, Poll, Recover, Replying, Reply, ToSubmit, ToPoll, ToRecovery, Changing, Change, Cancel, Timeout, Reclaim, Reading, Read, Status, Reports, CountReports, CompletedBytes, HeldCount, HeldBytes}
+use Rattle.calls.specs.Calls.{Call, Open, Placing, Place, Device, Port, Endpoints, Reconcile, Moving, Move, Acquire, Initialize, Close, Beginning, Begin, Submit, SubmitPlan, Poll, Recover, Replying, Reply, ToSubmit, ToPoll, ToRecovery, Changing, Change, Cancel, Timeout, Reclaim, Withdraw, Reading, Read, Status, Reports, CountReports, CompletedBytes, HeldCount, HeldBytes}
 use Rattle.calls.proofs.Fits.{u32-back, error-back, option-error-back, setup-back}
 use Rattle.call_words.specs.Parts.{readReading, readingWords, readStage, stageWords, readStatus, statusWord}
 use Rattle.call_words.specs.Arguments.{readOpening, readSnapshot, readPortRow, readAcquireReply, readSpec, readReadings, readPlan, readSubmitReply, readPollReply, readOptionId, readRecoveryReply, readCompleted, readCompletions, readAborted}
@@ -179,6 +179,7 @@ unfolding readCall readChanging callWords _if_else_
 change-back id Cancel = refl
 change-back id Timeout = refl
 change-back id Reclaim = refl
+change-back id Withdraw = refl
 
 read-back : (r : Reading) → Back (Read r)
 unfolding readCall readReporting readOptionId callWords _if_else_

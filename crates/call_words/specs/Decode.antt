@@ -7,7 +7,7 @@ use Rattle.chain.specs.Chain.{_if_else_}
 use Rattle.words.specs.Words.{readFlag, readOptionU64}
 use Rattle.session.specs.declared.RecoveryKind.the-variants as kind
 use Rattle.scope.specs.Returned.{readOptionError}
-use Rattle.calls.specs.Calls.{Call, Open, Place, Device, Port, Endpoints, Reconcile, Move, Acquire, Initialize, Close, Begin, Submit, SubmitPlan, Poll, Recover, Reply, ToSubmit, ToPoll, ToRecovery, Change, Cancel, Timeout, Reclaim, Read, Status, Reports, CountReports, CompletedBytes, HeldCount, HeldBytes}
+use Rattle.calls.specs.Calls.{Call, Open, Place, Device, Port, Endpoints, Reconcile, Move, Acquire, Initialize, Close, Begin, Submit, SubmitPlan, Poll, Recover, Reply, ToSubmit, ToPoll, ToRecovery, Change, Cancel, Timeout, Reclaim, Withdraw, Read, Status, Reports, CountReports, CompletedBytes, HeldCount, HeldBytes}
 use Rattle.session_words.specs.State.{readRequestId}
 use Rattle.call_words.specs.Parts.{readReading}
 use Rattle.call_words.specs.Arguments.{readOpening, readSnapshot, readPortRow, readAcquireReply, readRequest, readPlan, readSubmitReply, readPollReply, readOptionId, readRecoveryReply, readLists}
@@ -65,6 +65,7 @@ readRecovering n w bytes =
     Begin (Recover (readRequestId w 1) (kind.Reset (readFlag (getD w 4 0)))) if eqb n 23 else
     Reply (ToRecovery (readRecoveryReply w) (readLists w bytes))
 
+-- and 29
 unfoldable pub readCall : List ℕ → List ℕ → Call
 readCall w bytes =
     readPlacing (getD w 0 0) w if leb (getD w 0 0) 4 else
@@ -73,4 +74,5 @@ readCall w bytes =
     readReplying (getD w 0 0) w bytes if leb (getD w 0 0) 12 else
     readChanging (getD w 0 0) w if leb (getD w 0 0) 15 else
     readReporting (getD w 0 0) w if leb (getD w 0 0) 21 else
-    readRecovering (getD w 0 0) w bytes
+    readRecovering (getD w 0 0) w bytes if leb (getD w 0 0) 24 else
+    Change (readRequestId w 1) Withdraw

@@ -20,7 +20,7 @@ use Rattle.submissions.specs.declared.SubmitReply.the-variants as submit
 use Rattle.scope.specs.Returned.{completionWords}
 use Rattle.recovery.specs.declared.RecoveryReply.{RecoveryReply}
 use Rattle.recovery.specs.declared.RecoveryReply.the-variants as recovery
-use Rattle.calls.specs.Calls.{Call, Open, Placing, Place, Device, Port, Endpoints, Reconcile, Moving, Move, Acquire, Initialize, Close, Beginning, Begin, Submit, SubmitPlan, Poll, Recover, Replying, Reply, ToSubmit, ToPoll, ToRecovery, Changing, Change, Cancel, Timeout, Reclaim, Reading, Read, Status, Reports, CountReports, CompletedBytes, HeldCount, HeldBytes}
+use Rattle.calls.specs.Calls.{Call, Open, Placing, Place, Device, Port, Endpoints, Reconcile, Moving, Move, Acquire, Initialize, Close, Beginning, Begin, Submit, SubmitPlan, Poll, Recover, Replying, Reply, ToSubmit, ToPoll, ToRecovery, Changing, Change, Cancel, Timeout, Reclaim, Withdraw, Reading, Read, Status, Reports, CountReports, CompletedBytes, HeldCount, HeldBytes}
 use Rattle.call_words.specs.Parts.{zeros, optionNumberWords, packetWords, optionSetupWords, readingWords, backendCompletionWords, stageWords, statusWord}
 
 -- ---- the arguments of several words
@@ -91,6 +91,7 @@ abbrev pub changingNumber : Changing → ℕ
 changingNumber Cancel = 13
 changingNumber Timeout = 14
 changingNumber Reclaim = 15
+changingNumber Withdraw = 29
 
 abbrev pub readingCallWords : Reading → List ℕ
 readingCallWords (Status id) = 16 ∷ requestIdWords id

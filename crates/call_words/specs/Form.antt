@@ -135,7 +135,7 @@ isRecoveryCall n w =
     isReset w if eqb n 23 else
     isRecoveryReply w
 
--- 13 to 15, the changes of a request, take an id
+-- 13 to 15 and 29, the changes of a request, take an id; 25 to 28 are questions
 unfoldable pub isCall : List ℕ → Bool
 isCall w =
     isPlacing (getD w 0 0) w if leb (getD w 0 0) 4 else
@@ -145,4 +145,5 @@ isCall w =
     has w 4 if leb (getD w 0 0) 15 else
     isReporting (getD w 0 0) w if leb (getD w 0 0) 21 else
     isRecoveryCall (getD w 0 0) w if leb (getD w 0 0) 24 else
+    has w 4 if eqb (getD w 0 0) 29 else
     false

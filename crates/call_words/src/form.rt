@@ -418,5 +418,8 @@ pub fn is_call(w: &[u64]) -> bool
     if number <= 24 {
         return is_recovery_call(number, w);
     }
+    if number == 29 {
+        return has(w, 4);
+    }
     false
 }

@@ -14,7 +14,7 @@ use Rattle.session.specs.declared.lifecycle.Opened.{Opened}
 use Rattle.session.specs.declared.lifecycle.Opened.the-variants as opened
 use Rattle.session.proofs.Said.{open-tabled, acquire-tabled, initialize-tabled, close-tabled, set-device-tabled, set-port-call-tabled, set-endpoints-call-tabled, set-reconcile-tabled}
 use Rattle.reports.specs.Change.{changeOf}
-use Rattle.reports.specs.Said.{reportSaid, nextSaid, tallySaid, partSaid, cancelNumbers, reclaimNumbers}
+use Rattle.reports.specs.Said.{reportSaid, nextSaid, tallySaid, partSaid, cancelNumbers, reclaimNumbers, withdrawNumbers}
 use Rattle.reports.specs.Status.{statusOf, nextOf, shownCount, completedPart, heldCountOf, heldBytesOf}
 use Rattle.reports.specs.declared.NextReport.{NextReport}
 use Rattle.reports.specs.declared.NextReport.the-variants as next
@@ -49,7 +49,7 @@ use Rattle.recovery.specs.declared.RecoveryAnswer.{RecoveryAnswer}
 use Rattle.recovery.specs.declared.RecoveryAnswer.the-variants as recovery
 use Rattle.recovery.proofs.Said.{recover-tabled, recovery-reply-tabled}
 use Rattle.calls.specs.Answers.{ofOpened, ofVerdict, ofSubmit, ofPlan, ofReport, ofPoll, ofNext, ofTally, ofPart, ofBegin, ofRecovery}
-use Rattle.calls.specs.Calls.{Placing, Device, Port, Endpoints, Reconcile, Moving, Acquire, Initialize, Close, Beginning, Submit, SubmitPlan, Poll, Recover, Replying, ToSubmit, ToPoll, ToRecovery, Changing, Cancel, Timeout, Reclaim, Reading, Status, Reports, CountReports, CompletedBytes, HeldCount, HeldBytes, Call, Open, Place, Move, Begin, Reply, Change, Read}
+use Rattle.calls.specs.Calls.{Placing, Device, Port, Endpoints, Reconcile, Moving, Acquire, Initialize, Close, Beginning, Submit, SubmitPlan, Poll, Recover, Replying, ToSubmit, ToPoll, ToRecovery, Changing, Cancel, Timeout, Reclaim, Withdraw, Reading, Status, Reports, CountReports, CompletedBytes, HeldCount, HeldBytes, Call, Open, Place, Move, Begin, Reply, Change, Read}
 use Rattle.calls.specs.Said.{answerSaid, placingNumbers, movingNumbers, beginningNumbers, replyingNumbers, changingNumbers, readingNumbers, callNumbers}
 use Rattle.calls.specs.Step.{World, worldStore, changeBy, placedOf, movedOf, begunOf, repliedOf, readOf, stepOf}
 
@@ -137,6 +137,7 @@ changed-tabled : (c : Changing) (id : RequestId) (w : World) → Tabled (changin
 changed-tabled Cancel id w = change-tabled cancelNumbers _ refl id _ _
 changed-tabled Timeout id w = change-tabled cancelNumbers _ refl id _ _
 changed-tabled Reclaim id w = change-tabled reclaimNumbers _ refl id _ _
+changed-tabled Withdraw id w = change-tabled withdrawNumbers _ refl id _ _
 
 read-tabled : (r : Reading) (w : World) → Tabled (readingNumbers r) (answerSaid (readOf r w))
 unfolding readOf

@@ -51,6 +51,7 @@ pub data Changing : Type 0 where
   Cancel : Changing
   Timeout : Changing
   Reclaim : Changing
+  Withdraw : Changing
 
 -- what leaves all as it is
 pub data Reading : Type 0 where

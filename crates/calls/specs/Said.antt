@@ -4,11 +4,11 @@ use mathlib.Core.List.{List, [], _∷_}
 use Rattle.models.specs.Said.{Said, says, refused}
 use Rattle.rows.specs.Values.{reportValues}
 use Rattle.session.specs.Said.{openNumbers, placeNumbers, setPortNumbers, setEndpointsNumbers, acquireNumbers, initializeNumbers, closeNumbers}
-use Rattle.reports.specs.Said.{partValues, statusNumbers, tallyNumbers, cancelNumbers, reclaimNumbers}
+use Rattle.reports.specs.Said.{partValues, statusNumbers, tallyNumbers, cancelNumbers, reclaimNumbers, withdrawNumbers}
 use Rattle.polls.specs.Said.{pollNumbers, pollReplyNumbers}
 use Rattle.submissions.specs.Said.{begunValues, planValues, submitNumbers, submitPlanNumbers, submitReplyNumbers}
 use Rattle.recovery.specs.Said.{recoveringValues, recoveredValues, recoverNumbers, recoveryReplyNumbers}
-use Rattle.calls.specs.Calls.{Placing, Device, Port, Endpoints, Reconcile, Moving, Acquire, Initialize, Close, Beginning, Submit, SubmitPlan, Poll, Recover, Replying, ToSubmit, ToPoll, ToRecovery, Changing, Cancel, Timeout, Reclaim, Reading, Status, Reports, CountReports, CompletedBytes, HeldCount, HeldBytes, Call, Open, Place, Move, Begin, Reply, Change, Read}
+use Rattle.calls.specs.Calls.{Placing, Device, Port, Endpoints, Reconcile, Moving, Acquire, Initialize, Close, Beginning, Submit, SubmitPlan, Poll, Recover, Replying, ToSubmit, ToPoll, ToRecovery, Changing, Cancel, Timeout, Reclaim, Withdraw, Reading, Status, Reports, CountReports, CompletedBytes, HeldCount, HeldBytes, Call, Open, Place, Move, Begin, Reply, Change, Read}
 use Rattle.calls.specs.declared.Answer.{Answer}
 use Rattle.calls.specs.declared.Answer.the-variants as answer
 
@@ -51,6 +51,7 @@ abbrev pub changingNumbers : Changing → List ℕ
 changingNumbers Cancel = cancelNumbers
 changingNumbers Timeout = cancelNumbers
 changingNumbers Reclaim = reclaimNumbers
+changingNumbers Withdraw = withdrawNumbers
 
 abbrev pub readingNumbers : Reading → List ℕ
 readingNumbers (Status id) = statusNumbers

@@ -5,7 +5,8 @@ use mathlib.Core.List.{List, [], _∷_, _++_, map}
 use Prim.Native.Nat.{ℕ, zero, suc, _+_, _≤_, _<_}
 use native.Mathlib.Omega.{arith}
 use native.Mathlib.Nat.{le-of-suc-le-suc}
-use lib.ListN.{length, getD, set, take}
+use lib.ListN.{length, getD, set, take, length-set}
+use lib.Seq.{getD-set-same}
 use lib.Dec.{eqb}
 use borrow.Author.Tests.{eq-eqb, eqb-true, lt-ltb, le-ltb, ltb-true, ltb-false}
 use Rattle.chain.specs.Lists.{sumBy, only, count, mapAt, find, anyIn, foundIn, isAmong, allIn}
@@ -93,12 +94,6 @@ module _ {A : Type 0} where
   pub find-hit : (p : A → Bool) (l : List A) (d : A) → find p l < length l → p (getD l (find p l) d) ≡ true
   find-hit p [] d = λ h. absurd (omega arith)
   find-hit p (x ∷ xs) d = caseB (p x) (λ e. rw e λ h. e) (λ e. rw e λ h. find-hit p xs d (le-of-suc-le-suc h))
-
-  pub find-set : (p : A → Bool) (l : List A) (i : ℕ) (r : A) → i < length l → count p l ≡ 0 → p r ≡ true → find p (set l i r) ≡ i
-  find-set p [] i r h = λ k e. absurd (omega arith)
-  find-set p (x ∷ xs) zero r h = λ k e. rw e
-  find-set p (x ∷ xs) (suc i) r h =
-      caseB (p x) (λ y. rw y λ k e. absurd (omega arith)) (λ y. rw y λ k e. ap suc (find-set p xs i r (le-of-suc-le-suc h) (omega arith) e))
 
   pub find-some : (p : A → Bool) (l : List A) → 1 ≤ count p l → find p l < length l
   find-some p [] = λ h. absurd (omega arith)
@@ -202,6 +197,19 @@ module _ {A : Type 0} where
       let h : find p l < length l = ltb-true (find p l) (length l) y in
       record { below = omega arith; passes = rw q (find-hit p l d h); index = q })
       (λ y. let z : Nothing ≡ At i = sym (rw y at ef) ∙ e in let n : _≡_ {A = ℕ} 0 1 = cc in absurd (omega arith))
+
+  -- the place stays where what passes is put there
+  find-set : (p : A → Bool) (l : List A) (i : ℕ) (r : A) → i < length l → i ≤ find p l → p r ≡ true → find p (set l i r) ≡ i
+  find-set p [] i r h = λ k e. absurd (omega arith)
+  find-set p (x ∷ xs) zero r h = λ k e. rw e
+  find-set p (x ∷ xs) (suc i) r h =
+      caseB (p x) (λ y. rw y λ k e. absurd (omega arith)) (λ y. rw y λ k e. ap suc (find-set p xs i r (le-of-suc-le-suc h) (omega arith) e))
+
+  pub found-set : (p : A → Bool) (l : List A) (i : ℕ) (r d : A) → foundIn p l ≡ At i → p r ≡ true → foundIn p (set l i r) ≡ At i
+  found-set p l i r d f e =
+      let z = place p l d (At i) i (sym f) refl in
+      let k : find p (set l i r) ≡ i = find-set p l i r (z .below) (omega (arith, z .index)) e in
+      sym (found-at p (set l i r) i d (omega (arith, z .below, length-set l i r)) (omega arith) (rw (getD-set-same l i r d (z .below)) e))
 
 -- ---- numbers in a list
 pub in-cons : (u t : ℕ) (l : List ℕ) → isAmong u (t ∷ l) ≡ (eqb u t || isAmong u l)

@@ -16,7 +16,7 @@ use Rattle.session.specs.Lent.{Memory, Lent, memory, lent}
 use Rattle.session.specs.declared.Session.{Session}
 use Rattle.polls.specs.Poll.{pollOf}
 use Rattle.calls.specs.Answers.{outcome, ofPoll}
-use Rattle.calls.specs.Calls.{Poll, Begin, Call}
+use Rattle.calls.specs.Calls.{Poll, Begin, Change, Withdraw, Call}
 use Rattle.answer_words.specs.Encode.{answerWords, written}
 use Rattle.call_words.specs.Form.{isCall}
 use Rattle.answer_words.specs.Lists.{listsOf}
@@ -121,14 +121,22 @@ module _ (n : ℕ) (w bytes l : List ℕ) (en : n ≡ getD w 0 0) where
 
       module _ (n9 : 9 < n) (r : Outcome) (s : Session) (b : Bus) where
         -- 22 to 24
-        pub recover-said : (next m : Memory) (k : List ℕ) → isByValue (getD w 0 0) ≡ true
+        pub recover-said : (next m : Memory) (k : List ℕ) → isByValue (getD w 0 0) ≡ true → n ≤ 24
             → ((o : Bus) → ran (after r (lent o next)) k ≡ runOf (readRecovering n w bytes) (world s (lent o m)) l)
             → ran (after r (lent b next)) k ≡ runOf (readCall w bytes) (world s (lent b m)) l
         unfolding readCall
-        recover-said next m k v h =
+        recover-said next m k v n24 h =
             let n21 : 21 < n = by-value-late n (rw (← en) at v) n9 in
             let n12 : 12 < n = omega arith in let n15 : 15 < n = omega arith in
             ran-said (readRecovering n w bytes) (readCall w bytes) _ _ l (rw (← en) (search chain depth 20)) (h b)
+
+        -- 29
+        pub withdraw-said : (next store : Store) (area : List ℕ) → 24 < n → StepsRows (Change (readRequestId w 1) Withdraw) r next s store
+            → ran (after r (lent b (memory next area))) l ≡ runOf (readCall w bytes) (world s (lent b (memory store area))) l
+        unfolding readCall listsOf
+        withdraw-said next store area n24 h =
+            let n12 : 12 < n = omega arith in let n15 : 15 < n = omega arith in let n21 : 21 < n = omega arith in
+            unlisted (Change (readRequestId w 1) Withdraw) (readCall w bytes) _ _ l (rw (← en) (search chain depth 20)) refl (h b area)
 
 -- what was lent before is s, a, out and l, and after it s', a', out' and l'
 module _ (s call bytes out l s' out' l' : List ℕ) (a a' : Lent) where

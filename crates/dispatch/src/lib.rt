@@ -46,7 +46,10 @@ fn step(
     if number <= 9 {
         return requests::submit_call(number, session, bus, rows, area, call, bytes);
     }
-    requests::recover_call(number, session, rows, area, call, bytes, lists)
+    if number <= 24 {
+        return requests::recover_call(number, session, rows, area, call, bytes, lists);
+    }
+    requests::withdraw_call(session, rows, call)
 }
 
 // Runs such a call and writes the session, the answer and its lists.

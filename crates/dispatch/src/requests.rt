@@ -1,4 +1,4 @@
-// Calls 8, 9 and 13 to 24: requests, what is reported of them, and recoveries.
+// Calls 8, 9, 13 to 24 and 29: requests, what is reported of them, and recoveries.
 use answer_words::encode;
 use answer_words::lists;
 use call_words::arguments;
@@ -7,6 +7,7 @@ use calls::Outcome;
 use calls::answers;
 use recovery::recover;
 use recovery::recovery_reply;
+use reports::change;
 use reports::status;
 use session::Session;
 use session_words::state;
@@ -18,11 +19,12 @@ ghost use mathlib.Core.Bool.{true};
 ghost use mathlib.Core.Path.{_≡_};
 ghost use Rattle.chain.specs.After.{after};
 ghost use Rattle.session.specs.Lent.{lentOut};
-ghost use Rattle.session_words.specs.State.{isSession};
+ghost use Rattle.session_words.specs.State.{readRequestId, isSession};
 ghost use Rattle.calls.specs.Answers.{outcome};
+ghost use Rattle.calls.specs.Calls.{Change, Withdraw};
 ghost use Rattle.calls.specs.Step.{stepOf};
 ghost use Rattle.call_words.specs.Decode.{readSubmission, readChanging, readReporting, readRecovering};
-ghost use Rattle.dispatch.specs.Slices.{worldIn, ReadsMemory, RunsMemory, WritesRows, WritesAnswer};
+ghost use Rattle.dispatch.specs.Slices.{worldIn, StepsRows, ReadsMemory, RunsMemory, WritesRows, WritesAnswer};
 
 // 8 and 9: submissions.
 pub(crate) fn submit_call(
@@ -78,6 +80,14 @@ pub(crate) fn change_call(
         return direct::timeout_request(session, rows, id, out);
     }
     direct::reclaim_request(session, rows, id, out)
+}
+
+// 29: a cancel is taken back, whatever the bus and the area.
+pub(crate) fn withdraw_call(session: Session, rows: &mut [u64], call: &[u64]) -> Outcome
+    ensures { λ r. ⌜ StepsRows r (Change (readRequestId (now (call .entry)) 1) Withdraw) session rows ⌝ }
+{
+    let id = state::id_at(call, 1);
+    answers::of_reported(change::withdraw_cancel_request(session, rows, id))
 }
 
 // 16 to 21: what leaves all as it is, whatever the bus and the lists.

@@ -41,7 +41,7 @@ use Rattle.scope.specs.Scope.{inScope}
 use Rattle.recovery.specs.Entries.{abortedBy, abortOne, readEntries, applyAll}
 use Rattle.recovery.specs.Recover.{recoverBy, beginRow, recoverOf, begunAs}
 use Rattle.recovery.specs.RecoveryReply.{doneOf, replyBy, replySized, replyIn, replyLists, concludedBy, settledOf, recoveryReplyOf}
-use Rattle.calls.specs.Calls.{Call, Open, Place, Device, Move, Begin, Recover, Reply, ToSubmit, ToPoll, ToRecovery, Change, Cancel, Timeout, Reclaim, Read, Status, Reports, CountReports, CompletedBytes, HeldCount, HeldBytes}
+use Rattle.calls.specs.Calls.{Call, Open, Place, Device, Move, Begin, Recover, Reply, ToSubmit, ToPoll, ToRecovery, Change, Cancel, Timeout, Reclaim, Withdraw, Read, Status, Reports, CountReports, CompletedBytes, HeldCount, HeldBytes}
 use Rattle.calls.specs.Step.{World, placedOf, movedOf, begunOf, repliedOf, stepOf}
 use Rattle.calls.specs.declared.Answer.the-variants as answer
 use Rattle.runs.specs.Run.{Event, own, Stepping, next, FollowsBy, Follows, Fresh}
@@ -112,6 +112,7 @@ only-ways (Reply (ToRecovery q l)) w = refl
 only-ways (Change x Cancel) w = refl
 only-ways (Change x Timeout) w = refl
 only-ways (Change x Reclaim) w = refl
+only-ways (Change x Withdraw) w = refl
 only-ways (Read (Status x)) w = refl
 only-ways (Read (Reports from)) w = refl
 only-ways (Read CountReports) w = refl

@@ -21,6 +21,7 @@ pub mod Watcher
 pub mod Unwritten
 pub mod Grabber
 pub mod Reset
+pub mod Operator
 pub mod Relied
 pub mod Examples
 pub mod Starred

@@ -34,7 +34,7 @@ use Rattle.rows.specs.Store.{Store}
 use Rattle.rows.specs.Table.{rowIn}
 use Rattle.rows.specs.declared.Row.{Row}
 use Rattle.ledger.specs.Apply.{applyBy}
-use Rattle.rules.specs.Rules.{moved, freed, accepted, logicalCancel, timeOut, completed, failed, abortConfirmed, reclaimed, changeRow}
+use Rattle.rules.specs.Rules.{moved, freed, accepted, logicalCancel, cancelWithdrawn, timeOut, completed, failed, abortConfirmed, reclaimed, changeRow}
 use Rattle.rules.specs.declared.Change as rules
 use Rattle.rules.specs.declared.Change.the-variants as change
 use Rattle.rules.specs.declared.Step.{Step}
@@ -138,9 +138,9 @@ abbrev OtherStep : Step → Type 0
 OtherStep (step.Refused r) = eqb (r .number) 3 ≡ false
 OtherStep (step.To q x) = Unit {0}
 
--- the ledger's 41, 42, 43
+-- the ledger's 41, 42, 43 and 59
 other-step : (r : Row) (c : rules.Change) → OtherStep (changeRow r c)
-unfolding changeRow accepted moved freed logicalCancel timeOut completed failed abortConfirmed reclaimed
+unfolding changeRow accepted moved freed logicalCancel cancelWithdrawn timeOut completed failed abortConfirmed reclaimed
 other-step r (change.Accept token) = tt
 other-step r change.Discard = tt
 other-step r change.LogicalCancel = while-all (r .state) _ OtherStep (λ e. refl) (λ cancel late e. tt)
@@ -149,6 +149,7 @@ other-step r (change.Complete actual code) = while-all (r .state) _ OtherStep (�
 other-step r (change.Fail e code quiescent) = while-all (r .state) _ OtherStep (λ e. refl) (λ cancel late e. tt)
 other-step r change.ConfirmAbort = if-all OtherStep _ _ _ refl tt
 other-step r change.Reclaim = if-all OtherStep _ _ _ refl tt
+other-step r change.WithdrawCancel = if-all OtherStep _ _ _ refl (if-all OtherStep _ _ _ refl tt)
 
 -- ---- a port's 29 to 34
 other-number : (o : OptionPorts) (number : ℕ) → OtherVerdict (bus.numberChecked o number)

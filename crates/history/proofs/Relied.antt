@@ -8,15 +8,17 @@ use Rattle.session.specs.declared.lifecycle.Opening.{Opening}
 use Rattle.calls.specs.Calls.{Open}
 use Rattle.calls.specs.Step.{World, stepOf}
 use Rattle.calls.specs.declared.Answer.the-variants as answer
-use Rattle.runs.specs.Run.{Event, next, Follows, Fresh}
-use Rattle.runs.proofs.Run.{lent-rows}
+use Rattle.runs.specs.Run.{Event, next, endOf, Follows, Fresh}
+use Rattle.runs.proofs.Run.{lent-rows, sound-run, fitted-run}
 use Rattle.history.specs.Watcher.{Watched}
 use Rattle.history.specs.Grabber.{BytesSafe}
 use Rattle.history.specs.Reset.{ResetSpares}
+use Rattle.history.specs.Operator.{Withdraws}
 use Rattle.history.proofs.Theorem.{worldOf, history-claim}
 use Rattle.history.proofs.Watcher.{watched}
 use Rattle.history.proofs.Grabber.{bytes-safe}
 use Rattle.history.proofs.Reset.{reset-spares}
+use Rattle.history.proofs.Operator.{withdraws-in}
 
 module _ (o : Opening) (s : Session) (bus rows area : List ℕ) (es : List Event) (pass : stepOf (Open o) (worldOf s bus rows area) .result .answer ≡ answer.Pass)
     (follows : Follows es) (fresh : Fresh (o .session ∷ []) es) where
@@ -31,3 +33,7 @@ module _ (o : Opening) (s : Session) (bus rows area : List ℕ) (es : List Event
 
   pub reset-key : ResetSpares start es
   reset-key = reset-spares start es (history-claim o s bus rows area es pass follows fresh)
+
+  pub operator : Withdraws (endOf start es)
+  operator = withdraws-in (endOf start es) (sound-run o (worldOf s bus rows area) es pass follows)
+      (fitted-run o (worldOf s bus rows area) es pass follows (lent-rows rows))

@@ -1,9 +1,9 @@
 -- Every call keeps the invariant. Assumes nothing.
 use Prim.Native.Nat.{ℕ, _<_}
 use mathlib.Core.Path.{_≡_, ap}
-use mathlib.Core.Bool.{true, false, cond, true≢false}
+use mathlib.Core.Bool.{true, false, not, cond, true≢false}
 use mathlib.Core.List.{List}
-use borrow.Author.Tests.{not-true}
+use borrow.Author.Tests.{not-true, not-false}
 use lib.ListN.{length}
 use Rattle.chain.specs.Lists.{count, isAmong}
 use Rattle.chain.specs.After.{After, after}
@@ -15,10 +15,11 @@ use Rattle.models.specs.declared.OptionError.{OptionError}
 use Rattle.models.specs.declared.OptionError.the-variants as error
 use Rattle.models.specs.declared.RequestId.{RequestId}
 use Rattle.rows.specs.Store.{Store, putIn, emptied}
+use Rattle.rows.specs.InPlace.{lateIn}
 use Rattle.rows.specs.Table.{isHeld, rowIn}
 use Rattle.rows.specs.declared.Row.{Row}
 use Rattle.ledger.specs.Apply.{applyBy}
-use Rattle.rules.specs.Rules.{moved, freed, logicalCancel, timeOut, reclaimed, changeRow}
+use Rattle.rules.specs.Rules.{moved, freed, logicalCancel, cancelWithdrawn, timeOut, reclaimed, changeRow}
 use Rattle.rules.specs.declared.Change as rules
 use Rattle.rules.specs.declared.Step.{Step}
 use Rattle.rules.specs.declared.Step.the-variants as step
@@ -33,7 +34,7 @@ use Rattle.session.specs.declared.lifecycle.AcquireReply.the-variants as acquir
 use Rattle.reports.specs.Change.{reportedBy, changeOf}
 use Rattle.reports.specs.declared.Reported.{Reported}
 use Rattle.calls.specs.Answers.{ofVerdict}
-use Rattle.calls.specs.Calls.{Changing, Cancel, Timeout, Reclaim, Call, Open, Place, Move, Acquire, Initialize, Close, Begin, Submit, SubmitPlan, Poll, Recover, Reply, ToSubmit, ToPoll, ToRecovery, Change, Read}
+use Rattle.calls.specs.Calls.{Changing, Cancel, Timeout, Reclaim, Withdraw, Call, Open, Place, Move, Acquire, Initialize, Close, Begin, Submit, SubmitPlan, Poll, Recover, Reply, ToSubmit, ToPoll, ToRecovery, Change, Read}
 use Rattle.calls.specs.Step.{World, movedOf, begunOf, repliedOf, changeBy, stepOf, worldStore}
 use Rattle.calls.specs.declared.Outcome.{Outcome}
 use Rattle.runs.specs.Run.{isOpening, numberOf, isNew, noted}
@@ -50,17 +51,20 @@ use Rattle.history.proofs.Submits.{submit-kept, plan-kept}
 use Rattle.history.proofs.Replies.{reply-kept, poll-kept, finish-kept}
 use Rattle.history.proofs.Recovery.{begin-kept, recovery-kept}
 
--- ---- cancel, timeout and reclaim: the row they lead to weighs what it did
+-- ---- cancel, its withdrawal, timeout and reclaim: the row they lead to weighs what it did
 abbrev pub Stays : Row → Step → Type 0
 Stays r (step.Refused x) = Unit {0}
 Stays r (step.To next x) = Alike r next
 
 change-stays : (c : Changing) (r : Row) → Stays r (changeRow r (changeBy c))
-unfolding changeRow logicalCancel timeOut reclaimed freed moved
+unfolding changeRow logicalCancel cancelWithdrawn timeOut reclaimed freed moved
 change-stays Cancel r = while-all (r .state) _ (Stays r) (λ e. tt) (λ cancel late e. flag-alike r true late true (r .«timed_out») (ap isPending e))
 change-stays Timeout r = while-all (r .state) _ (Stays r) (λ e. tt) (λ cancel late e. flag-alike r cancel true (r .«logical_cancel») true (ap isPending e))
 -- 42: what is reclaimed is not held
 change-stays Reclaim r = if-by (Stays r) _ (deviceMayAccess (r .state)) _ (λ e. tt) (λ e. empty-alike r (unheld-row r e))
+change-stays Withdraw r =
+    if-by (Stays r) _ (not (isPending (r .state))) _ (λ e. tt)
+    (λ e. if-all (Stays r) _ _ _ tt (flag-alike r false (lateIn (r .state)) false (r .«timed_out») (not-false _ e)))
 
 module _ (s : Session) (j : Journal) (seen : List ℕ) (store : Store) (k : Inv s (store .rows) j seen) where
   abbrev Change-kept : After Reported Store → Type 0

@@ -20,7 +20,7 @@ use Rattle.scope.specs.Returned.{completionWords, broughtAt}
 use Rattle.recovery.specs.RecoveryReply.{ReplyLists, replyLists, ended, doneOf}
 use Rattle.recovery.specs.declared.RecoveryReply.{RecoveryReply}
 use Rattle.recovery.specs.declared.RecoveryReply.the-variants as reply
-use Rattle.calls.specs.Calls.{Open, Place, Move, Begin, Reply, ToSubmit, ToPoll, ToRecovery, Change, Cancel, Timeout, Reclaim, Read, Status, Reports, CountReports, CompletedBytes, HeldCount, HeldBytes}
+use Rattle.calls.specs.Calls.{Open, Place, Move, Begin, Reply, ToSubmit, ToPoll, ToRecovery, Change, Cancel, Timeout, Reclaim, Withdraw, Read, Status, Reports, CountReports, CompletedBytes, HeldCount, HeldBytes}
 use Rattle.calls.specs.Step.{World, worldStore, reports, recovers, reads, readOf, stepOf}
 use Rattle.calls.specs.declared.Answer.{Answer}
 use Rattle.calls.specs.declared.Answer.the-variants as answer
@@ -54,6 +54,7 @@ stepWith f (Reply (ToRecovery q l)) w = f .recovery q l w
 stepWith f (Change id Cancel) w = stepOf (Change id Cancel) w
 stepWith f (Change id Timeout) w = f .timeout id w
 stepWith f (Change id Reclaim) w = stepOf (Change id Reclaim) w
+stepWith f (Change id Withdraw) w = stepOf (Change id Withdraw) w
 stepWith f (Read (Status id)) w = stepOf (Read (Status id)) w
 stepWith f (Read (Reports from)) w = stepOf (Read (Reports from)) w
 stepWith f (Read CountReports) w = stepOf (Read CountReports) w

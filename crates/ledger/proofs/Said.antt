@@ -44,6 +44,7 @@ module _ (c : Change) (store : Store) where
   longer (change.Fail error code quiescent) = refl
   longer change.ConfirmAbort = refl
   longer change.Reclaim = refl
+  longer change.WithdrawCancel = refl
 
   by-found : (f : Found) → Answers (applyAt f c store)
   unfolding applyAt

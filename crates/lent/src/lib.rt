@@ -1,4 +1,5 @@
-// Document 01's lent form: poll, cancel, timeout and reclaim over a session that is lent for change. Each is the call by value.
+// Document 01's lent form: poll, cancel, its withdrawal, timeout and reclaim over a session that is lent for change. Each is the
+// call by value.
 use models::RequestId;
 use polls::PollAnswer;
 use polls::poll;
@@ -11,12 +12,12 @@ ghost use Rattle.models.specs.Said.{Tabled};
 ghost use Rattle.rules.specs.declared.Change.the-variants as Change;
 ghost use Rattle.session.specs.Lent.{storeIn, storeOut};
 ghost use Rattle.reports.specs.Change.{changeOf};
-ghost use Rattle.reports.specs.Said.{reportSaid, cancelNumbers, reclaimNumbers};
+ghost use Rattle.reports.specs.Said.{reportSaid, cancelNumbers, withdrawNumbers, reclaimNumbers};
 ghost use Rattle.polls.specs.Poll.{pollOf};
 ghost use Rattle.polls.specs.Said.{pollSaid, pollNumbers};
 ghost use Rattle.lent.specs.Lent.{polledAs, reportedAs};
 
-// The rows are lent again, as the others lend theirs: one proof serves all four.
+// The rows are lent again, as the others lend theirs: one proof serves all five.
 pub fn poll_request(session: &mut Session, rows: &[u64], id: RequestId) -> PollAnswer
     ensures { λ r. ⌜ (polledAs r (now (session .exit)) ≡ pollOf id (now (session .entry)) (storeIn rows))
         × Tabled pollNumbers (pollSaid r) ⌝ }
@@ -36,6 +37,20 @@ pub fn logical_cancel_request(
         × Tabled cancelNumbers (reportSaid r) ⌝ }
 {
     let done = change::logical_cancel_request(*session, rows, id);
+    *session = done.session;
+    done.answer
+}
+
+pub fn withdraw_cancel_request(
+    session: &mut Session,
+    rows: &mut [u64],
+    id: RequestId,
+) -> ReportAnswer
+    ensures { λ r. ⌜ (after (reportedAs r (now (session .exit))) (storeOut rows)
+        ≡ changeOf id Change.WithdrawCancel (now (session .entry)) (storeIn rows))
+        × Tabled withdrawNumbers (reportSaid r) ⌝ }
+{
+    let done = change::withdraw_cancel_request(*session, rows, id);
     *session = done.session;
     done.answer
 }

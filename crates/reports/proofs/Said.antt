@@ -114,7 +114,7 @@ module _ (id : RequestId) (size : ℕ) (s : Session) (store : Store) where
   pub part-said : (x : PartAnswer) → x ≡ completedPart id size s store → (x ≡ completedPart id size s store) × Tabled statusNumbers (partSaid x)
   part-said x e = said-of Parts _ _ e part-tabled
 
--- ---- cancel, timeout and reclaim: 1, 3, and the ledger's numbers of the change, all in ns
+-- ---- cancel, its withdrawal, timeout and reclaim: 1, 3, and the ledger's numbers of the change, all in ns
 module _ (ns : List ℕ) (c : Change) (all : allIn (1 ∷ 3 ∷ applyNumbers c) ns ≡ true) where
   reported-by : (x : Applied) → Tabled ns (appliedSaid x) → (s : Session) → Tabled ns (reportSaid (reportedBy x s .answer))
   unfolding reportedBy

@@ -1,4 +1,4 @@
--- Cancel, timeout and reclaim (document 01, the place ledger of its table). Assumes nothing.
+-- Cancel, its withdrawal, timeout and reclaim (document 01, the place ledger of its table). Assumes nothing.
 use Rattle.chain.specs.After.{After, after}
 use Rattle.models.specs.declared.RequestId.{RequestId}
 use Rattle.rows.specs.Store.{Store}
@@ -17,7 +17,7 @@ unfoldable pub reportedBy : Applied → Session → Reported
 reportedBy (applied.Refused r) s = reportRefused s r
 reportedBy (applied.Done x) s = record { answer = report.Report x; session = s }
 
--- 1, 3, then the ledger's 40, and 41 or 42
+-- 1, 3, then the ledger's 40, and 41, 42 or 59
 unfoldable pub changeOf : RequestId → Change → Session → Store → After Reported Store
 changeOf id c s store =
     guarded s (storeFits (s .size) store) (λ r. after (reportRefused s r) store)

@@ -50,5 +50,9 @@ tallyNumbers = 3 ∷ []
 abbrev pub cancelNumbers : List ℕ
 cancelNumbers = 1 ∷ 3 ∷ 40 ∷ 41 ∷ []
 
+-- withdraw_cancel_request
+abbrev pub withdrawNumbers : List ℕ
+withdrawNumbers = 1 ∷ 3 ∷ 40 ∷ 41 ∷ 59 ∷ []
+
 abbrev pub reclaimNumbers : List ℕ
 reclaimNumbers = 1 ∷ 3 ∷ 40 ∷ 42 ∷ []

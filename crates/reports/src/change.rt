@@ -1,4 +1,4 @@
-// Cancel, timeout and reclaim: 1, 3, 40, then 41 or 42.
+// Cancel, its withdrawal, timeout and reclaim: 1, 3, 40, then 41, 42 or 59.
 use crate::ReportAnswer;
 use crate::Reported;
 use crate::answers;
@@ -14,7 +14,7 @@ ghost use Rattle.models.specs.Said.{Tabled};
 ghost use Rattle.rules.specs.declared.Change.the-variants as Change;
 ghost use Rattle.session.specs.Lent.{storeIn, storeOut};
 ghost use Rattle.reports.specs.Change.{reportedBy, changeOf};
-ghost use Rattle.reports.specs.Said.{reportSaid, cancelNumbers, reclaimNumbers};
+ghost use Rattle.reports.specs.Said.{reportSaid, cancelNumbers, withdrawNumbers, reclaimNumbers};
 
 fn reported(applied: Applied, session: Session) -> Reported
     ensures { λ r. ⌜ r ≡ reportedBy applied session ⌝ }
@@ -46,6 +46,14 @@ pub fn logical_cancel_request(session: Session, rows: &mut [u64], id: RequestId)
         × Tabled cancelNumbers (reportSaid (r .answer)) ⌝ }
 {
     change_request(session, rows, id, Change::LogicalCancel)
+}
+
+// Takes back a cancel of a request that is Pending. It looks at no controller state.
+pub fn withdraw_cancel_request(session: Session, rows: &mut [u64], id: RequestId) -> Reported
+    ensures { λ r. ⌜ (after r (storeOut rows) ≡ changeOf id Change.WithdrawCancel session (storeIn rows))
+        × Tabled withdrawNumbers (reportSaid (r .answer)) ⌝ }
+{
+    change_request(session, rows, id, Change::WithdrawCancel)
 }
 
 pub fn timeout_request(session: Session, rows: &mut [u64], id: RequestId) -> Reported

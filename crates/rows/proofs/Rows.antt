@@ -6,13 +6,13 @@ use native.Mathlib.Omega.{arith}
 use lib.ListN.{length, getD, set, take, drop, replicate, length-replicate, drop-of-length-le}
 use lib.Seq.{getD-append-add, take-all}
 use Rattle.words.specs.Records.{splice, part}
-use Rattle.words.proofs.Records.{length-tab, getD-tab, set-tab, tab-all, part-getD, part-all, zero-at}
+use Rattle.words.proofs.Records.{length-tab, getD-tab, set-tab, tab-all, part-getD}
 use Rattle.rows.specs.Codec.{readRow, readMetadata, recordOf, statusWords}
 use Rattle.rows.specs.Table.{recordWords, rowWords, rowCount, recordAt, wordsAt, putWords, putRow, readRows, emptyRow, rowAt, wordAt}
 use Rattle.rows.specs.Store.{storeOf, putIn, emptied}
 use Rattle.rows.specs.declared.Row.{Row}
 use Rattle.rows.specs.declared.codec.StatusWords.{StatusWords}
-use Rattle.rows.proofs.Words.{put-length, words-put, words-kept}
+use Rattle.rows.proofs.Words.{put-length, words-put, words-kept, zero-words}
 
 pub length-readRows : (l : List ℕ) → length (readRows l) ≡ rowCount l
 unfolding readRows
@@ -81,7 +81,7 @@ module _ (l : List ℕ) (i s t : ℕ) (p : List ℕ) (r : Row) (h : i < length (
       (set-tab (λ (j : ℕ). readRow (wordsAt many l j)) (λ (j : ℕ). readRow (wordsAt many (putWords many l i s t p) j)) many i r below
       (ap readRow (words-put many l i s t p below fits e) ∙ d) (λ j hj ne. ap readRow (words-kept many l i s t p below fits e j hj ne)))
 
-record-length : (r : Row) → length (recordOf r) ≡ recordWords
+pub record-length : (r : Row) → length (recordOf r) ≡ recordWords
 unfolding recordOf
 record-length r = refl
 
@@ -98,15 +98,14 @@ put-row l m x i at z w r h ea hz d hw em ex =
     let e3 : readRows x ≡ set (readRows l) i r = ap readRows e1 ∙ rows-put l i (r .id .sequence) (z .status) w r h sized d in
     rw (e3, e1 ∙ e2)
 
+-- the free row's words
+pub empty-is : readRow (0 ∷ 0 ∷ replicate recordWords 0) ≡ emptyRow
+unfolding readRow readMetadata emptyRow
+empty-is = refl
+
 -- every word 0: every row free
 free-row : (n w i : ℕ) → i < n → n * rowWords ≤ w → readRow (wordsAt n (replicate w 0) i) ≡ emptyRow
-unfolding readRow readMetadata wordsAt emptyRow
-free-row n w i h room =
-    let z = zero-at w in
-    let zeros : List ℕ = replicate w 0 in
-    let e : part (recordAt n i) recordWords zeros ≡ replicate recordWords 0 =
-    part-all 0 0 (recordAt n i) recordWords zeros (omega (arith, length-replicate {A = ℕ} w 0)) (λ k lo hi. z k) in
-    rw (z i, z (n + i), e)
+free-row n w i h room = ap readRow (zero-words n w i h room) ∙ empty-is
 
 rows-cleared : (l : List ℕ) → readRows (replicate (length l) 0) ≡ replicate (length (readRows l)) emptyRow
 unfolding readRows rowCount
@@ -123,8 +122,3 @@ cleared l m e =
     let past : drop (0 + length zeros) l ≡ [] = drop-of-length-le l whole in
     let all : m ≡ zeros = e ∙ rw past (append-nil zeros) in
     rw (all, rows-cleared l)
-
--- the free row's words
-pub empty-is : readRow (0 ∷ 0 ∷ replicate recordWords 0) ≡ emptyRow
-unfolding readRow readMetadata emptyRow
-empty-is = refl

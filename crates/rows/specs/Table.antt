@@ -34,6 +34,10 @@ recordAt n i = n * columnWords + i * recordWords
 unfoldable pub wordsAt : ℕ → List ℕ → ℕ → List ℕ
 wordsAt n l i = getD l i 0 ∷ getD l (n + i) 0 ∷ part (recordAt n i) recordWords l
 
+-- the words that say a row
+abbrev pub wordsOf : Row → List ℕ
+wordsOf r = r .id .sequence ∷ statusWords (r .used) (r .state) .status ∷ recordOf r
+
 -- word k of row i
 abbrev pub wordAt : List ℕ → ℕ → ℕ → ℕ
 wordAt l i k = getD (wordsAt (rowCount l) l i) k 0

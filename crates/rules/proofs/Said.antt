@@ -9,7 +9,7 @@ use Rattle.models.specs.declared.RequestState.{RequestState}
 use Rattle.models.specs.declared.RequestState.the-variants.{Pending, Completed, Failed, Aborted}
 use Rattle.models.proofs.Said.{tabled-says, tabled-own, said-of}
 use Rattle.rows.specs.declared.Row.{Row}
-use Rattle.rules.specs.Rules.{spendSequence, moved, freed, accepted, whilePending, logicalCancel, timeOut, completed, failed, abortConfirmed, reclaimed, changeRow}
+use Rattle.rules.specs.Rules.{spendSequence, moved, freed, accepted, whilePending, logicalCancel, cancelWithdrawn, timeOut, completed, failed, abortConfirmed, reclaimed, changeRow}
 use Rattle.rules.specs.Said.{stepSaid, spentSaid, spendNumbers, changeNumbers}
 use Rattle.rules.specs.declared.Change.{Change}
 use Rattle.rules.specs.declared.Change.the-variants as change
@@ -28,7 +28,7 @@ pending-tabled (Failed error code quiescent) next = tabled-own _ 41 refl
 pending-tabled Aborted next = tabled-own _ 41 refl
 
 pub change-tabled : (r : Row) (c : Change) → Tabled (changeNumbers c) (stepSaid (changeRow r c))
-unfolding changeRow accepted moved freed logicalCancel timeOut completed failed abortConfirmed reclaimed
+unfolding changeRow accepted moved freed logicalCancel cancelWithdrawn timeOut completed failed abortConfirmed reclaimed
 change-tabled r (change.Accept token) = tabled-says _ _
 change-tabled r change.Discard = tabled-says _ _
 change-tabled r change.LogicalCancel = pending-tabled _ _
@@ -37,6 +37,9 @@ change-tabled r (change.Complete actual code) = pending-tabled _ _
 change-tabled r (change.Fail error code quiescent) = pending-tabled _ _
 change-tabled r change.ConfirmAbort = if-all (λ (x : Step). Tabled (43 ∷ []) (stepSaid x)) _ _ _ (tabled-own _ 43 refl) (tabled-says _ _)
 change-tabled r change.Reclaim = if-all (λ (x : Step). Tabled (42 ∷ []) (stepSaid x)) _ _ _ (tabled-own _ 42 refl) (tabled-says _ _)
+change-tabled r change.WithdrawCancel =
+    if-all (λ (x : Step). Tabled (41 ∷ 59 ∷ []) (stepSaid x)) _ _ _ (tabled-own _ _ refl)
+    (if-all (λ (x : Step). Tabled (41 ∷ 59 ∷ []) (stepSaid x)) _ _ _ (tabled-own _ _ refl) (tabled-says _ _))
 
 pub spend-said : (next : ℕ) (x : Spent) → x ≡ spendSequence next → (x ≡ spendSequence next) × Tabled spendNumbers (spentSaid x)
 spend-said next x e = said-of (λ (y : Spent). Tabled spendNumbers (spentSaid y)) _ _ e (spend-tabled next)

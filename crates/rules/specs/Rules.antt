@@ -5,12 +5,13 @@ use lib.Dec.{eqb}
 use Rattle.chain.specs.Chain.{_if_else_}
 use Rattle.words.specs.declared.OptionU32.{OptionU32}
 use Rattle.models.specs.Refusals.{refusalOf}
-use Rattle.models.specs.Requests.{deviceMayAccess}
+use Rattle.models.specs.Requests.{deviceMayAccess, isPending}
 use Rattle.models.specs.declared.OperationError.{OperationError}
 use Rattle.models.specs.declared.RequestId.{RequestId}
 use Rattle.models.specs.declared.RequestMetadata.{RequestMetadata}
 use Rattle.models.specs.declared.RequestState.{RequestState}
 use Rattle.models.specs.declared.RequestState.the-variants.{Pending, Completed, Failed, Aborted}
+use Rattle.rows.specs.InPlace.{cancelIn, lateIn}
 use Rattle.rows.specs.Table.{emptyRow}
 pub use Rattle.rows.specs.Table.{reportOf, withToken, withState, flagged}
 use Rattle.rows.specs.declared.Row.{Row}
@@ -53,6 +54,13 @@ whilePending Aborted next = refusedBy 41
 unfoldable pub logicalCancel : Row → Step
 logicalCancel r = whilePending (r .state) (λ cancel late. flagged r true late true (r .«timed_out»))
 
+-- document 02, M-120. 41; 59: the state has no cancel. Both copies of the flag are cleared, those of the timeout stay
+unfoldable pub cancelWithdrawn : Row → Step
+cancelWithdrawn r =
+    refusedBy 41 if not (isPending (r .state)) else
+    refusedBy 59 if not (cancelIn (r .state)) else
+    moved (flagged r false (lateIn (r .state)) false (r .«timed_out»))
+
 unfoldable pub timeOut : Row → Step
 timeOut r = whilePending (r .state) (λ cancel late. flagged r cancel true (r .«logical_cancel») true)
 
@@ -79,3 +87,4 @@ changeRow r (change.Complete actual code) = completed r actual code
 changeRow r (change.Fail error code quiescent) = failed r error code quiescent
 changeRow r change.ConfirmAbort = abortConfirmed r
 changeRow r change.Reclaim = reclaimed r
+changeRow r change.WithdrawCancel = cancelWithdrawn r

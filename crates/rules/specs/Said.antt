@@ -22,7 +22,7 @@ spentSaid (spent.Next n) = says (n ∷ [])
 abbrev pub spendNumbers : List ℕ
 spendNumbers = 39 ∷ []
 
--- the place ledger of the table, past 40; 43 is that of an abort
+-- the place ledger of the table, past 40; 43 is that of an abort, 59 of a withdrawal
 abbrev pub changeNumbers : Change → List ℕ
 changeNumbers (change.Accept token) = []
 changeNumbers change.Discard = []
@@ -32,3 +32,4 @@ changeNumbers (change.Complete actual code) = 41 ∷ []
 changeNumbers (change.Fail error code quiescent) = 41 ∷ []
 changeNumbers change.ConfirmAbort = 43 ∷ []
 changeNumbers change.Reclaim = 42 ∷ []
+changeNumbers change.WithdrawCancel = 41 ∷ 59 ∷ []

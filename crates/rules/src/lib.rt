@@ -9,7 +9,7 @@ use rows::Row;
 use words::OptionU32;
 ghost use mathlib.Core.Path.{_≡_};
 ghost use Rattle.models.specs.Said.{Tabled};
-ghost use Rattle.rules.specs.Rules.{reportOf, pendingRow, spendSequence, refusedBy, moved, freed, accepted, logicalCancel, timeOut, completed, failed, abortConfirmed, reclaimed, changeRow};
+ghost use Rattle.rules.specs.Rules.{reportOf, pendingRow, spendSequence, refusedBy, moved, freed, accepted, logicalCancel, cancelWithdrawn, timeOut, completed, failed, abortConfirmed, reclaimed, changeRow};
 ghost use Rattle.rules.specs.Said.{stepSaid, spentSaid, spendNumbers, changeNumbers};
 
 // What a change of a row leaves: the next row, and what is reported of the request.
@@ -28,6 +28,7 @@ pub enum Change {
     Fail(OperationError, OptionU32, bool),
     ConfirmAbort,
     Reclaim,
+    WithdrawCancel,
 }
 
 // The next sequence number once one is spent.
@@ -133,6 +134,34 @@ fn logical_cancel(row: Row) -> Step
     moved_to(cancelled)
 }
 
+// Takes back a cancel. A timeout stays.
+fn withdraw_cancel(row: Row) -> Step
+    ensures { λ r. ⌜ r ≡ cancelWithdrawn row ⌝ }
+{
+    let state = row.state;
+    let RequestState::Pending {
+        logical_cancel,
+        timed_out,
+    } = state
+    else {
+        return refused(41);
+    };
+    if !logical_cancel {
+        return refused(59);
+    }
+    let logical_cancel = false;
+    let state = RequestState::Pending {
+        logical_cancel,
+        timed_out,
+    };
+    let withdrawn = Row {
+        logical_cancel,
+        state,
+        ..row
+    };
+    moved_to(withdrawn)
+}
+
 fn timeout(row: Row) -> Step
     ensures { λ r. ⌜ r ≡ timeOut row ⌝ }
 {
@@ -232,5 +261,6 @@ pub fn change_row(row: Row, change: Change) -> Step
         Change::Fail(error, code, quiescent) => fail(row, error, code, quiescent),
         Change::ConfirmAbort => confirm_abort(row),
         Change::Reclaim => reclaim(row),
+        Change::WithdrawCancel => withdraw_cancel(row),
     }
 }

@@ -195,7 +195,7 @@ module _ {s : Session} {store : Store} (k : Sound s store) (idle : Idle s) where
       flight = k .flight;
       ready = ready-idle (s .«in_flight») idle;
     };
-    fitted = λ f. record { fits = f .fits; whole = f .whole };
+    fitted = λ f. record { fits = f .fits; whole = f .whole; own = f .own };
   }
     where
       ready-idle : (f : InFlight) → Idle (withFlight s f) → FlightReady f Initialized

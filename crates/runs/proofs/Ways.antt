@@ -71,7 +71,7 @@ pub apply-all : (id : RequestId) (c : Change) (store : Store) (P : After Applied
 unfolding applyOf applyAt
 apply-all id c store P none go = found-all id (store .rows) (λ (f : Found). P (applyAt f c store)) none go
 
--- cancel, timeout and reclaim
+-- cancel, its withdrawal, timeout and reclaim
 module _ (id : RequestId) (c : Change) (s : Session) (store : Store) (P : After Reported Store → Type 0) (no : (x : Refusal) → P (after (reportRefused s x) store))
     (go : isBusy (s .«in_flight») ≡ false → (i : ℕ) → i < length (store .rows) → isAt id (rowIn (store .rows) i) ≡ true
     → P (after (reportedBy (applyBy (changeRow (rowIn (store .rows) i) c) i store .result) s) (applyBy (changeRow (rowIn (store .rows) i) c) i store .lent))) where

@@ -7,7 +7,7 @@ major = 1
 
 -- rises where a call or a question is added
 abbrev pub minor : ℕ
-minor = 1
+minor = 2
 
 abbrev pub version : ℕ
 version = major * 2 ^ 32 + minor

@@ -1,9 +1,11 @@
 //! The two sides agree; where one lies, it is found and cut down.
+use std::cell::Cell;
 use std::collections::BTreeMap;
+use std::rc::Rc;
 
 use compare::{Plan, Stop, Tables, compare};
 use generate::{Bounded, Mix};
-use script::{Answer, Call, Category, DeviceId, InItsPlace, Outcome, RowState, Side};
+use script::{Answer, Call, Category, DeviceId, InItsPlace, Outcome, RequestId, RowState, Side};
 
 fn plan(seed: u64, calls: u64) -> Plan {
     Plan {
@@ -52,6 +54,72 @@ fn a_smaller_store_answers_as_the_rust_until_its_limit() {
     assert!(tables.port.times("7 by plan") > 50);
     let session = || Box::new(port::Session::new()) as Box<dyn Side>;
     run(&session, in_small_stores(14, 20_000)).unwrap();
+}
+
+/// A side of the port whose operator hesitates: before each call the request that
+/// was shown last is cancelled and that taken back or, where it is cancelled, the
+/// other way round. It counts how often, by whether it was cancelled.
+struct Hesitant<S> {
+    port: S,
+    last: Option<RequestId>,
+    times: [Rc<Cell<u64>>; 2],
+}
+
+impl<S: Side> Hesitant<S> {
+    fn hesitate(&mut self, id: RequestId) -> Result<(), String> {
+        let shown = self.port.apply(&Call::Report(id))?;
+        let Outcome::Row(row) = &shown.outcome else {
+            return Ok(());
+        };
+        let RowState::Pending { cancelled, .. } = row.state else {
+            return Ok(());
+        };
+        let (first, second) = match cancelled {
+            false => (Call::Cancel(id), Call::Withdraw(id)),
+            true => (Call::Withdraw(id), Call::Cancel(id)),
+        };
+        assert_ne!(self.port.apply(&first)?, shown);
+        assert_eq!(self.port.apply(&second)?, shown);
+        let times = &self.times[usize::from(cancelled)];
+        times.set(times.get() + 1);
+        Ok(())
+    }
+}
+
+impl<S: Side> Side for Hesitant<S> {
+    fn apply(&mut self, call: &Call) -> Result<Answer, String> {
+        if let Some(id) = self.last {
+            self.hesitate(id)?;
+        }
+        let answer = self.port.apply(call)?;
+        match &answer.outcome {
+            Outcome::Row(row) => self.last = Some(row.id),
+            _ if matches!(call, Call::Open(_)) => self.last = None,
+            _ => {}
+        }
+        Ok(answer)
+    }
+}
+
+fn assert_hesitation_leaves_no_trace<S: Side + 'static>(new: fn() -> S, seed: u64) {
+    let times = [(); 2].map(|()| Rc::new(Cell::new(0)));
+    let hesitant = || {
+        Box::new(Hesitant {
+            port: new(),
+            last: None,
+            times: times.clone(),
+        }) as Box<dyn Side>
+    };
+    run(&hesitant, plan(seed, 20_000)).unwrap();
+    for (times, least) in times.iter().zip([2_000, 200]) {
+        assert!(times.get() > least, "{}", times.get());
+    }
+}
+
+#[test]
+fn a_cancel_that_is_taken_back_leaves_no_trace() {
+    assert_hesitation_leaves_no_trace(port::Port::new, 15);
+    assert_hesitation_leaves_no_trace(port::Session::new, 16);
 }
 
 /// The port, but its store has a row more than it should.

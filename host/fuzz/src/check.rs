@@ -98,7 +98,7 @@ fn fits(call: u64, answer: &Answer, sound: bool) -> bool {
         Answer::Passed => call <= 7,
         Answer::Begun { .. } => call == 8,
         Answer::PlanBegun { .. } => call == 9,
-        Answer::Report(_) => matches!(call, 10..=17),
+        Answer::Report(_) => matches!(call, 10..=17 | 29),
         Answer::NoReport => matches!(call, 17 | 26),
         Answer::Ask { .. } => call == 11,
         Answer::Number(_) => matches!(call, 18 | 20 | 21),
@@ -146,6 +146,7 @@ fn may_refuse(call: u64, number: u16) -> bool {
         22 | 23 => matches!(number, 1 | 3 | 40 | 43 | 44),
         25 | 27 | 28 => false,
         26 => number == 3,
+        29 => matches!(number, 1 | 3 | 40 | 41 | 59),
         _ => matches!(number, 2 | 3 | 41 | 45..=49),
     }
 }
@@ -320,7 +321,7 @@ fn changed_later(before: &Slices, answer: &Answer, rows: Records) -> Changes {
             area: Part::One(Records::Areas(before.session[25] as usize), None),
             ..NOTHING
         },
-        (13..=15, _) => Changes {
+        (13..=15 | 29, _) => Changes {
             rows: Part::One(rows, None),
             ..NOTHING
         },

@@ -24,7 +24,7 @@ pub fn status(slices: &Slices) -> u64 {
 fn is_taken(function: Function, words: &[u64]) -> bool {
     let number = words.first().copied().unwrap_or(u64::MAX);
     let taken = match function {
-        Function::Apply => number <= 24,
+        Function::Apply => matches!(number, 0..=24 | 29),
         Function::Read => matches!(number, 16..=21 | 25..=28),
     };
     let mut fields = Fields(words);
@@ -187,7 +187,7 @@ impl Fields<'_> {
             8 => self.submit(),
             9 => self.plan(),
             number @ (10 | 12) => self.reply(number),
-            11 | 13..=16 | 19 | 22 => self.request_id(),
+            11 | 13..=16 | 19 | 22 | 29 => self.request_id(),
             17 => match self.flag()? {
                 true => self.request_id(),
                 false => self.zeros(3),

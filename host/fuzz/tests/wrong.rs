@@ -33,7 +33,7 @@ fn the_library_is_found_right_and_everything_is_met() {
     assert!(tally.reads > CALLS / 5, "{tally}");
     assert_eq!(tally.cases.len(), 9, "{tally}");
     assert_eq!(fuzz.size_rounds(), 1);
-    for number in [1, 2, 3, 31, 33, 41, 45, 46, 47, 48, 49, 58] {
+    for number in [1, 2, 3, 31, 33, 41, 45, 46, 47, 48, 49, 58, 59] {
         assert!(tally.refusals.contains_key(&number), "{number}: {tally}");
     }
 }

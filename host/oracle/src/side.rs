@@ -170,7 +170,9 @@ fn told(usb: &mut Usb, exchange: &RefCell<Exchange>, call: &Call) -> Told {
             usb.session.set_state(convert::to_controller_state(*state));
             Ok(Outcome::Done)
         }
-        Call::Store { .. } => Err("`store` is for the port's side only".into()),
+        Call::Withdraw(_) | Call::Store { .. } => {
+            Err(format!("`{}` is for the port's side only", call.verb()))
+        }
     }
 }
 

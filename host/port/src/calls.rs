@@ -92,6 +92,7 @@ impl Port {
                 reply: reply.map_err(convert::to_error),
             }),
             Call::Cancel(id) => self.of(calls::Call::LogicalCancelRequest, *id),
+            Call::Withdraw(id) => self.of(calls::Call::WithdrawCancelRequest, *id),
             Call::Timeout(id) => self.of(calls::Call::TimeoutRequest, *id),
             Call::Report(id) => self.of(calls::Call::RequestStatus, *id),
             Call::Reclaim(id) => self.reclaim(*id),

@@ -116,6 +116,7 @@ fn told(usb: &mut Usb, exchange: &SharedExchange, call: &Call) -> Told {
             report(usb.poll_request(convert::to_request_id(*id)))
         }
         Call::Cancel(id) => report(usb.logical_cancel_request(convert::to_request_id(*id))),
+        Call::Withdraw(id) => report(usb.withdraw_cancel_request(convert::to_request_id(*id))),
         Call::Timeout(id) => report(usb.timeout_request(convert::to_request_id(*id))),
         Call::Reclaim(id) => report(usb.reclaim_request(convert::to_request_id(*id))),
         Call::Report(id) => report(usb.request_status(convert::to_request_id(*id))),

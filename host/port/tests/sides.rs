@@ -1,4 +1,5 @@
-//! What has no Rust side: stores of other sizes, 53, and calls before the opening.
+//! What has no Rust side: stores of other sizes, 53, a cancel that is taken back, and
+//! calls before the opening.
 use script::Side;
 
 const SETTING: &str = "open session=1 seq=0 rev=0 ports=1
@@ -71,6 +72,27 @@ fn over_30_endpoints_are_refused() {
     let many = vec!["81:bulk"; 31].join(",");
     let line = last(&format!("{SETTING}endpoints slot=2 list={many}"));
     assert!(line.starts_with("refuse 53 V.53.-.- |"), "{line}");
+}
+
+#[test]
+fn a_cancel_is_taken_back() {
+    const STEPS: [(&str, &str); 9] = [
+        ("withdraw id=1.0.0", "refuse 59 V.59.-.- |"),
+        ("timeout id=1.0.0", " state=P(0,1) cancel=0 timeout=1 "),
+        ("cancel id=1.0.0", " state=P(1,1) cancel=1 timeout=1 "),
+        ("withdraw id=1.0.0", " state=P(0,1) cancel=0 timeout=1 "),
+        ("withdraw id=1.0.0", "refuse 59 V.59.-.- |"),
+        ("withdraw id=1.0.1", "refuse 40 V.40.-.- |"),
+        ("poll id=1.0.0 reply=2/13/h:0908/-/1", " state=C(2,13,0) "),
+        ("withdraw id=1.0.0", "refuse 41 V.41.-.- |"),
+        ("report id=1.0.0", " cancel=0 timeout=1 data=2:0908 "),
+    ];
+    let calls = STEPS.map(|(call, _)| call).join("\n");
+    let lines = answers(&format!("{SETTING}{SUBMIT} len=8\n{calls}")).unwrap();
+    let told = &lines[lines.len() - STEPS.len()..];
+    for ((call, part), line) in STEPS.iter().zip(told) {
+        assert!(line.contains(part), "{call}: {line}");
+    }
 }
 
 #[test]

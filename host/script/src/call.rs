@@ -48,6 +48,8 @@ pub enum Call {
     Dump,
     Force(ControllerState),
     /// Only on the port's side.
+    Withdraw(RequestId),
+    /// Only on the port's side.
     Store {
         rows: u64,
         bytes: u64,
@@ -81,6 +83,7 @@ impl Call {
             Self::Close { .. } => "close",
             Self::Dump => "dump",
             Self::Force(_) => "force",
+            Self::Withdraw(_) => "withdraw",
             Self::Store { .. } => "store",
         }
     }

@@ -107,6 +107,7 @@ impl Display for Call {
             Self::Recover { id, kind, reply } => recover(f, *id, *kind, reply),
             Self::Dump => f.write_str("dump"),
             Self::Force(state) => write!(f, "force state={}", state.name()),
+            Self::Withdraw(id) => write!(f, "withdraw id={id}"),
             Self::Store { rows, bytes } => write!(f, "store rows={rows} bytes={bytes}"),
             Self::Acquire(_) | Self::Initialise(_) | Self::Close { .. } => session_call(f, self),
         }

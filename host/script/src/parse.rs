@@ -31,6 +31,7 @@ fn call(f: &mut Fields) -> Parsed<Call> {
             reply: f.take("reply", poll_reply)?,
         }),
         "cancel" => Ok(Call::Cancel(f.take("id", request_id)?)),
+        "withdraw" => Ok(Call::Withdraw(f.take("id", request_id)?)),
         "timeout" => Ok(Call::Timeout(f.take("id", request_id)?)),
         "reclaim" => Ok(Call::Reclaim(f.take("id", request_id)?)),
         "report" => Ok(Call::Report(f.take("id", request_id)?)),

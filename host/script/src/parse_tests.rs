@@ -50,6 +50,7 @@ const CALLS: &[&str] = &[
     "close fresh=3 reply=err:O.1.-.-",
     "dump",
     "force state=Closing",
+    "withdraw id=1.0.0",
     "store rows=2 bytes=16",
 ];
 

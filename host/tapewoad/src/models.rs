@@ -377,7 +377,7 @@ pub struct RequestReport {
     pub metadata: RequestMetadata,
     /// Where it stands.
     pub state: RequestState,
-    /// Whether it was ever cancelled.
+    /// Whether it was cancelled and that was not taken back.
     pub logical_cancel: bool,
     /// Whether it ever timed out.
     pub timed_out: bool,

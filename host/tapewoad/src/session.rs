@@ -9,8 +9,8 @@ use std::fmt::{self, Debug, Formatter};
 use crate::backend::Backend;
 use crate::calls::encode::{
     LOGICAL_CANCEL_REQUEST, NOTHING_CAME, POLL_REQUEST, RECLAIM_REQUEST, REPORT_FROM,
-    REQUEST_STATUS, SUBMIT_CONTROL_PLAN, SUBMIT_REQUEST_PACKETS, TIMEOUT_REQUEST, completed, of,
-    poll_failed, submit_reply,
+    REQUEST_STATUS, SUBMIT_CONTROL_PLAN, SUBMIT_REQUEST_PACKETS, TIMEOUT_REQUEST,
+    WITHDRAW_CANCEL_REQUEST, completed, of, poll_failed, submit_reply,
 };
 use crate::calls::{
     self, Answer, Answered, Call, Plan, Question, Store, Submit, Words, unexpected,
@@ -310,6 +310,15 @@ impl<B: Backend> UsbSession<B> {
     /// 40 for an unknown request, 41 for one that is not Pending.
     pub fn logical_cancel_request(&mut self, id: RequestId) -> Result<RequestReport, Refusal> {
         self.report_of(&of(LOGICAL_CANCEL_REQUEST, id))
+    }
+
+    /// Takes back a Pending request's cancel. A timeout stays.
+    ///
+    /// # Errors
+    /// 40 for an unknown request, 41 for one that is not Pending, 59 for one
+    /// that is not cancelled.
+    pub fn withdraw_cancel_request(&mut self, id: RequestId) -> Result<RequestReport, Refusal> {
+        self.report_of(&of(WITHDRAW_CANCEL_REQUEST, id))
     }
 
     /// Flags a Pending request as timed out; the device goes on.

@@ -67,6 +67,39 @@ fn a_life_from_opening_to_close() {
 }
 
 #[test]
+fn a_cancel_is_taken_back() {
+    let mut usb = ready(4, 64);
+    usb.backend_mut().tokens = [Ok(70)].into();
+    usb.submit_request(bulk(Direction::In, &[], 8)).unwrap();
+    let refused = usb.withdraw_cancel_request(id(0)).unwrap_err();
+    assert_eq!(refused.number, 59);
+    assert_eq!(refused.error.message, "request is not cancelled");
+    let late = usb.timeout_request(id(0)).unwrap();
+    let cancelled = usb.logical_cancel_request(id(0)).unwrap();
+    assert!(cancelled.logical_cancel && cancelled != late);
+    assert_eq!(usb.withdraw_cancel_request(id(0)).unwrap(), late);
+    assert_eq!(usb.logical_cancel_request(id(0)).unwrap(), cancelled);
+    assert_eq!(usb.withdraw_cancel_request(id(0)).unwrap(), late);
+    assert_eq!((usb.held_count(), usb.held_bytes()), (1, 8));
+
+    usb.backend_mut().completions = [Ok(Some(completion(&[9, 8], 13)))].into();
+    let completed = usb.poll_request(id(0)).unwrap();
+    let state = RequestState::Completed {
+        actual_length: 2,
+        completion_code: 13,
+        logical_cancel: false,
+    };
+    assert_eq!(completed.state, state);
+    assert!(!completed.logical_cancel && completed.timed_out);
+    for (of, number) in [(id(0), 41), (id(1), 40)] {
+        let refused = usb.withdraw_cancel_request(of).unwrap_err();
+        assert_eq!(refused.number, number);
+    }
+    // The backend was asked for nothing but its own.
+    assert_eq!(asked(&usb).last().unwrap(), "poll 70");
+}
+
+#[test]
 fn plans_and_packets_reach_the_backend() {
     let mut usb = ready(2, 64);
     usb.backend_mut().tokens = [Ok(1), Ok(2)].into();

@@ -483,6 +483,7 @@ fn lists_are_left_alone_but_by_a_recovery() {
         (abort, 0, untouched),
         (Call::PollReply(Ok(None)), 4, untouched),
         (Call::LogicalCancelRequest(id(0)), 4, untouched),
+        (Call::WithdrawCancelRequest(id(0)), 4, untouched),
         (Call::TimeoutRequest(id(0)), 4, untouched),
         (Call::RequestStatus(id(0)), 4, untouched),
         (Call::RequestReports { after: None }, 4, untouched),

@@ -1,4 +1,4 @@
--- One law for each change of a request, calls 13 to 15: its premises are the facts in hand there. Assumes nothing.
+-- One law for each change of a request, calls 13 to 15 and 29: its premises are the facts in hand there. Assumes nothing.
 use Prim.Native.Nat.{ℕ}
 use mathlib.Core.Bool.{true}
 use mathlib.Core.List.{List}
@@ -19,15 +19,16 @@ use Rattle.session.specs.declared.Session.{Session}
 use Rattle.reports.specs.Change.{reportedBy, changeOf}
 use Rattle.reports.specs.declared.Reported.{Reported}
 use Rattle.calls.specs.Answers.{outcome, ofReport}
-use Rattle.calls.specs.Calls.{Changing, Cancel, Timeout, Reclaim, Change}
+use Rattle.calls.specs.Calls.{Changing, Cancel, Timeout, Reclaim, Withdraw, Change}
 use Rattle.session_words.specs.State.{readRequestId, readSession, isSession, keptOf, keptAs}
 use Rattle.session_words.proofs.Own.{written-same}
-use Rattle.calls.specs.Step.{changeBy, stepOf}
+use Rattle.calls.specs.Step.{World, world, reports, changeBy, stepOf}
+use Rattle.calls.specs.declared.Outcome.{Outcome}
 use Rattle.call_words.specs.Decode.{readChanging}
 use Rattle.answer_words.specs.Lists.{listsOf}
 use Rattle.direct.specs.Direct.{reportedTold}
 use Rattle.dispatch.specs.Apply.{buffers, ranOn}
-use Rattle.dispatch.proofs.Steps.{ran-kept}
+use Rattle.dispatch.proofs.Steps.{said, ran-kept}
 
 -- a change leaves the session
 module _ (s : Session) where
@@ -76,3 +77,15 @@ module _ (n : ℕ) (s w out after-out : List ℕ) (store next : Store) (id : Req
     pub reclaim-writes : (n ≡ 14 → ⊥) → Told change.Reclaim → Writes
     unfolding readChanging
     reclaim-writes n14 = writes Reclaim (search chain depth 20)
+
+-- by value; x is what it answers
+module _ (s : Session) (w : List ℕ) (store next : Store) (id : RequestId) (x : Reported) (r : Outcome) where
+  abbrev handed : Bus → List ℕ → World
+  handed b area = world s (lent b (memory store area))
+
+  pub withdraw-steps : id ≡ readRequestId w 1 → after x next ≡ changeOf id change.WithdrawCancel s store → r ≡ outcome (ofReport (x .answer)) (x .session)
+      → (b : Bus) (area : List ℕ) → after r (lent b (memory next area)) ≡ stepOf (Change (readRequestId w 1) Withdraw) (handed b area)
+  unfolding stepOf
+  withdraw-steps ei h er b area =
+      said (Change id Withdraw) (Change (readRequestId w 1) Withdraw) (handed b area) _ (ap (λ (z : RequestId). Change z Withdraw) ei)
+      (ap (λ (z : Outcome). after z (lent b (memory next area))) er ∙ ap (λ (z : After Reported Store). reports z (handed b area)) h)

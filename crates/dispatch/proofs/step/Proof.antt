@@ -1,4 +1,4 @@
-use Rattle.dispatch.proofs.Dispatch.{place-said, move-said, submit-said, recover-said}
+use Rattle.dispatch.proofs.Dispatch.{place-said, move-said, submit-said, recover-said, withdraw-said}
 use borrow.Author.Needs.{needs}
 use Rattle.dispatch.proofs.step.Statement.{statement}
 use Rattle.dispatch.proofs.step.Tie as tie
@@ -14,6 +14,9 @@ returns-3 c = search submit-said
 
 returns-4 : tie.Need-returns-4
 returns-4 c = search recover-said
+
+returns-5 : tie.Need-returns-5
+returns-5 c = search withdraw-said
 
 pub step-spec : {M : Type 1} → statement M
 step-spec =
@@ -37,4 +40,7 @@ step-spec =
     (λ c. search needs)
     (λ c. search needs)
     (λ c. search needs)
-    returns-4)
+    returns-4
+    (λ c κs. search needs)
+    (λ c. search needs)
+    returns-5)

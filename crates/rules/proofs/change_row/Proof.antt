@@ -36,10 +36,16 @@ returns-8 : tie.Need-returns-8
 unfolding changeRow
 returns-8 c = change-said (c .before .before .before .args .row) (c .before .before .before .args .change) _ (rw (c .before .enum-told5 .given .1) (search needs))
 
+returns-9 : tie.Need-returns-9
+unfolding changeRow
+returns-9 c = change-said (c .before .before .before .args .row) (c .before .before .before .args .change) _ (rw (c .before .enum-told6 .given .1) (search needs))
+
 pub change-row-spec : {M : Type 1} → statement M
 change-row-spec =
     tie.close
     (tie.spec
+    (λ c. search needs)
+    (λ c κs. search needs)
     (λ c. search needs)
     (λ c κs. search needs)
     (λ c. search needs)
@@ -63,4 +69,5 @@ change-row-spec =
     returns-5
     returns-6
     returns-7
-    returns-8)
+    returns-8
+    returns-9)

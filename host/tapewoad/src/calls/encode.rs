@@ -13,6 +13,7 @@ pub const RECLAIM_REQUEST: u64 = 15;
 pub const REQUEST_STATUS: u64 = 16;
 pub const COMPLETED_BYTES: u64 = 19;
 pub const ABORT_REQUEST: u64 = 22;
+pub const WITHDRAW_CANCEL_REQUEST: u64 = 29;
 
 /// The numbers of submissions, as calls.
 pub const SUBMIT_REQUEST_PACKETS: u64 = 8;
@@ -167,6 +168,7 @@ impl Call<'_> {
             Self::PollRequest(id) => w.of(POLL_REQUEST, *id),
             Self::PollReply(reply) => w.poll_reply(reply),
             Self::LogicalCancelRequest(id) => w.of(LOGICAL_CANCEL_REQUEST, *id),
+            Self::WithdrawCancelRequest(id) => w.of(WITHDRAW_CANCEL_REQUEST, *id),
             Self::TimeoutRequest(id) => w.of(TIMEOUT_REQUEST, *id),
             Self::ReclaimRequest(id) => w.of(RECLAIM_REQUEST, *id),
             Self::RequestStatus(id) => w.of(REQUEST_STATUS, *id),

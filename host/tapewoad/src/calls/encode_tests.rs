@@ -214,6 +214,7 @@ fn calls_of_one_request_and_counts() {
         (Call::RequestStatus(ID), 16),
         (Call::CompletedBytes(ID), 19),
         (Call::AbortRequest(ID), 22),
+        (Call::WithdrawCancelRequest(ID), 29),
     ] {
         assert_eq!(call.words(), [number, 7, 8, 9]);
     }

@@ -38,7 +38,7 @@ pub(crate) use words::Words;
 
 /// The version of the words that this crate writes and reads: the major number
 /// times 2^32, and the minor number.
-pub const VERSION: u64 = (1 << 32) + 1;
+pub const VERSION: u64 = (1 << 32) + 2;
 /// How many words a session has.
 pub const SESSION_WORDS: usize = 26;
 /// How many words the bus has.
@@ -277,6 +277,8 @@ pub enum Call<'a> {
     PollReply(Result<Option<Completion<'a>>, Error>),
     /// Flags a Pending request as cancelled.
     LogicalCancelRequest(RequestId),
+    /// Takes back a Pending request's cancel.
+    WithdrawCancelRequest(RequestId),
     /// Flags a Pending request as timed out.
     TimeoutRequest(RequestId),
     /// Frees the row of a request that is not held.

@@ -373,7 +373,7 @@ mod tests {
             assert_eq!(check(version), Err(Status::Version(version)));
         }
         let text = check((2 << 32) + 3).unwrap_err().to_string();
-        let expected = "the library has version 2.3 of the words, this crate wants 1.1";
+        let expected = "the library has version 2.3 of the words, this crate wants 1.2";
         assert_eq!(text, expected);
     }
 }

@@ -77,6 +77,7 @@ pub fn others() -> Vec<Call<'static>> {
         submit(),
         Call::PollRequest(id(0)),
         Call::LogicalCancelRequest(id(0)),
+        Call::WithdrawCancelRequest(id(0)),
         Call::TimeoutRequest(id(0)),
         Call::ReclaimRequest(id(0)),
         Call::AbortRequest(id(0)),

@@ -24,4 +24,6 @@ is-call-spec =
     (λ c. rw (← c .before .before .before .before .before .before .before .word-at .ensures) (search chain depth 20))
     (λ c κs. search needs)
     (λ c. rw (← c .before .before .before .before .before .before .before .before .word-at .ensures) (search chain depth 20))
-    (λ c. rw (← c .before .before .before .before .before .before .before .word-at .ensures) (search chain depth 20)))
+    (λ c κs. search needs)
+    (λ c. rw (← c .before .before .before .before .before .before .before .before .before .word-at .ensures) (search chain depth 20))
+    (λ c. rw (← c .before .before .before .before .before .before .before .before .word-at .ensures) (search chain depth 20)))
