@@ -188,10 +188,10 @@ impl Host {
     fn any(&mut self) -> Words {
         let idle = self.known.is_empty() && self.rng.chance(80);
         match self.rng.below(40) {
-            15..33 if idle => self.submit(),
-            0..11 => self.submit(),
-            11..15 => self.plan(),
-            15..22 => Words::from(&Call::PollRequest(self.id())),
+            16..33 if idle => self.submit(),
+            0..12 => self.submit(),
+            12..16 => self.plan(),
+            16..22 => Words::from(&Call::PollRequest(self.id())),
             22 => Words::from(&Call::LogicalCancelRequest(self.id())),
             23 => Words::from(&Call::WithdrawCancelRequest(self.id())),
             24 => Words::from(&Call::TimeoutRequest(self.id())),
