@@ -9,8 +9,10 @@ use rows::Row;
 use words::OptionU32;
 ghost use mathlib.Core.Path.{_≡_};
 ghost use Rattle.models.specs.Said.{Tabled};
-ghost use Rattle.rules.specs.Rules.{reportOf, pendingRow, spendSequence, refusedBy, moved, freed, accepted, logicalCancel, cancelWithdrawn, timeOut, completed, failed, abortConfirmed, reclaimed, changeRow};
+ghost use Rattle.rules.specs.Rules.{reportOf, pendingRow, spendSequence, refusedBy, moved, freed, accepted, completed, failed, abortConfirmed, reclaimed, changeRow};
 ghost use Rattle.rules.specs.Said.{stepSaid, spentSaid, spendNumbers, changeNumbers};
+
+mod flags;
 
 // What a change of a row leaves: the next row, and what is reported of the request.
 pub enum Step {
@@ -83,14 +85,14 @@ pub fn spend_sequence(next: u64) -> Spent
     Spent::Next(next + 1)
 }
 
-fn refused(number: u16) -> Step
+pub(crate) fn refused(number: u16) -> Step
     ensures { λ r. ⌜ r ≡ refusedBy number ⌝ }
 {
     Step::Refused(models::refuse(number))
 }
 
 // The step to a row that is reported as it then is.
-fn moved_to(next: Row) -> Step
+pub(crate) fn moved_to(next: Row) -> Step
     ensures { λ r. ⌜ r ≡ moved next ⌝ }
 {
     Step::To(next, report_of(next))
@@ -108,82 +110,6 @@ fn accept(row: Row, token: u64) -> Step
     ensures { λ r. ⌜ r ≡ accepted row token ⌝ }
 {
     moved_to(Row { token, ..row })
-}
-
-fn logical_cancel(row: Row) -> Step
-    ensures { λ r. ⌜ r ≡ logicalCancel row ⌝ }
-{
-    let state = row.state;
-    let RequestState::Pending {
-        logical_cancel: _,
-        timed_out,
-    } = state
-    else {
-        return refused(41);
-    };
-    let logical_cancel = true;
-    let state = RequestState::Pending {
-        logical_cancel,
-        timed_out,
-    };
-    let cancelled = Row {
-        logical_cancel,
-        state,
-        ..row
-    };
-    moved_to(cancelled)
-}
-
-// Takes back a cancel. A timeout stays.
-fn withdraw_cancel(row: Row) -> Step
-    ensures { λ r. ⌜ r ≡ cancelWithdrawn row ⌝ }
-{
-    let state = row.state;
-    let RequestState::Pending {
-        logical_cancel,
-        timed_out,
-    } = state
-    else {
-        return refused(41);
-    };
-    if !logical_cancel {
-        return refused(59);
-    }
-    let logical_cancel = false;
-    let state = RequestState::Pending {
-        logical_cancel,
-        timed_out,
-    };
-    let withdrawn = Row {
-        logical_cancel,
-        state,
-        ..row
-    };
-    moved_to(withdrawn)
-}
-
-fn timeout(row: Row) -> Step
-    ensures { λ r. ⌜ r ≡ timeOut row ⌝ }
-{
-    let state = row.state;
-    let RequestState::Pending {
-        logical_cancel,
-        timed_out: _,
-    } = state
-    else {
-        return refused(41);
-    };
-    let timed_out = true;
-    let state = RequestState::Pending {
-        logical_cancel,
-        timed_out,
-    };
-    let late = Row {
-        timed_out,
-        state,
-        ..row
-    };
-    moved_to(late)
 }
 
 // A completion that was found valid.
@@ -255,12 +181,12 @@ pub fn change_row(row: Row, change: Change) -> Step
     match change {
         Change::Accept(token) => accept(row, token),
         Change::Discard => free(row),
-        Change::LogicalCancel => logical_cancel(row),
-        Change::Timeout => timeout(row),
+        Change::LogicalCancel => flags::logical_cancel(row),
+        Change::Timeout => flags::timeout(row),
         Change::Complete(length, code) => complete(row, length, code),
         Change::Fail(error, code, quiescent) => fail(row, error, code, quiescent),
         Change::ConfirmAbort => confirm_abort(row),
         Change::Reclaim => reclaim(row),
-        Change::WithdrawCancel => withdraw_cancel(row),
+        Change::WithdrawCancel => flags::withdraw_cancel(row),
     }
 }

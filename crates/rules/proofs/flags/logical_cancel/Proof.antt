@@ -1,8 +1,8 @@
 use Rattle.rules.proofs.Rules.{settled, pending}
 use Rattle.rules.specs.Rules.{logicalCancel}
 use borrow.Author.Needs.{needs}
-use Rattle.rules.proofs.logical_cancel.Statement.{statement}
-use Rattle.rules.proofs.logical_cancel.Tie as tie
+use Rattle.rules.proofs.flags.logical_cancel.Statement.{statement}
+use Rattle.rules.proofs.flags.logical_cancel.Tie as tie
 
 returns : tie.Need-returns
 unfolding logicalCancel

@@ -1,8 +1,8 @@
 use Rattle.rules.proofs.Rules.{withdrawal}
 use Rattle.rules.specs.Rules.{cancelWithdrawn}
 use borrow.Author.Needs.{needs}
-use Rattle.rules.proofs.withdraw_cancel.Statement.{statement}
-use Rattle.rules.proofs.withdraw_cancel.Tie as tie
+use Rattle.rules.proofs.flags.withdraw_cancel.Statement.{statement}
+use Rattle.rules.proofs.flags.withdraw_cancel.Tie as tie
 
 returns : tie.Need-returns
 unfolding cancelWithdrawn

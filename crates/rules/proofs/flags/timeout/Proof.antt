@@ -1,8 +1,8 @@
 use Rattle.rules.proofs.Rules.{settled, pending}
 use Rattle.rules.specs.Rules.{timeOut}
 use borrow.Author.Needs.{needs}
-use Rattle.rules.proofs.timeout.Statement.{statement}
-use Rattle.rules.proofs.timeout.Tie as tie
+use Rattle.rules.proofs.flags.timeout.Statement.{statement}
+use Rattle.rules.proofs.flags.timeout.Tie as tie
 
 returns : tie.Need-returns
 unfolding timeOut
