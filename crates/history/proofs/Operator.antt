@@ -4,8 +4,7 @@ use mathlib.Core.Bool.{Bool, true, false, true≢false}
 use mathlib.Core.List.{List}
 use mathlib.Core.Path.{_≡_, refl, sym, ap, subst, _∙_}
 use native.Mathlib.Omega.{arith}
-use lib.ListN.{length}
-use Rattle.chain.specs.After.{After, after}
+use Rattle.chain.specs.After.{after}
 use Rattle.chain.specs.Chain.{_if_else_}
 use Rattle.chain.specs.Lists.{foundIn}
 use Rattle.chain.specs.declared.Found.{Found}
@@ -22,7 +21,6 @@ use Rattle.rules.specs.Rules.{reportOf, moved, changeRow}
 use Rattle.rules.proofs.Restored.{cancelAs, cancels, withdraws, withdraw-restores, cancel-restores}
 use Rattle.ledger.specs.Apply.{applyOf}
 use Rattle.ledger.specs.Search.{isAt}
-use Rattle.ledger.specs.declared.Applied.{Applied}
 use Rattle.ledger.specs.declared.Applied.the-variants as applied
 use Rattle.ledger.proofs.Found.{found-row}
 use Rattle.ledger.proofs.Restored.{apply-moved, apply-back}
@@ -34,14 +32,12 @@ use Rattle.session.specs.declared.InFlight.the-variants as flight
 use Rattle.session.specs.declared.Size.{Size}
 use Rattle.reports.specs.Change.{reportedBy, changeOf}
 use Rattle.reports.specs.Status.{shownAt, statusBy, statusOf}
-use Rattle.reports.specs.declared.ReportAnswer.the-variants as report
 use Rattle.calls.specs.Answers.{ofReport, outcome}
 use Rattle.calls.specs.Calls.{Changing, Cancel, Withdraw, Change, Read, Status}
 use Rattle.calls.specs.Step.{World, world, worldStore, changeBy, readOf, stepOf}
 use Rattle.calls.specs.declared.Answer.the-variants as answer
-use Rattle.calls.specs.declared.Outcome.{Outcome}
 use Rattle.runs.specs.Run.{next}
-use Rattle.runs.specs.Sound.{Sound, Fitted, StateSound}
+use Rattle.runs.specs.Sound.{StateSound}
 use Rattle.runs.proofs.Ids.{at-used}
 use Rattle.runs.proofs.Rows.{below-words}
 use Rattle.runs.proofs.Run.{SoundIn, FittedIn}

@@ -2,7 +2,6 @@
 use Prim.Native.Nat.{ℕ, _<_}
 use mathlib.Core.Bool.{true}
 use mathlib.Core.Path.{_≡_, refl, sym, ap, _∙_}
-use lib.ListN.{length}
 use lib.Seq.{getD-set-same}
 use Rattle.chain.specs.After.{after}
 use Rattle.chain.specs.Lists.{foundIn}
