@@ -65,7 +65,7 @@ readRecovering n w bytes =
     Begin (Recover (readRequestId w 1) (kind.Reset (readFlag (getD w 4 0)))) if eqb n 23 else
     Reply (ToRecovery (readRecoveryReply w) (readLists w bytes))
 
--- and 29
+-- past 24 there is 29 alone: with another number words are no call
 unfoldable pub readCall : List ℕ → List ℕ → Call
 readCall w bytes =
     readPlacing (getD w 0 0) w if leb (getD w 0 0) 4 else

@@ -87,7 +87,7 @@ module _ (w : World) (sound : SoundIn w) (fitted : FittedIn w) (id : RequestId) 
       ∙ sym (tells id w idle (fitted .fits) i at)
 
   -- the row of the id; its own copy of the flag is the state's
-  record Flagged (cancel late : Bool) : Type 0 where
+  record RowFound (cancel late : Bool) : Type 0 where
     index : ℕ
     at : foundIn (isAt id) rows ≡ found.At index
     hit : isAt id (rowIn rows index) ≡ true
@@ -95,7 +95,7 @@ module _ (w : World) (sound : SoundIn w) (fitted : FittedIn w) (id : RequestId) 
     copy : cancel ≡ rowIn rows index .«logical_cancel»
 
   by-found : (cancel late : Bool) (x : RequestReport) (f : Found) → foundIn (isAt id) rows ≡ f → ofReport (statusBy f rows) ≡ answer.Report x
-      → x .state ≡ Pending cancel late → Flagged cancel late
+      → x .state ≡ Pending cancel late → RowFound cancel late
   unfolding statusBy
   by-found cancel late x found.Nothing e h p = let z : _≡_ {A = ℕ} 0 1 = cc in absurd (omega arith)
   by-found cancel late x (found.At i) e h p =
@@ -110,16 +110,16 @@ module _ (w : World) (sound : SoundIn w) (fitted : FittedIn w) (id : RequestId) 
         copy = subst (λ (y : RequestState). StateSound y (rowIn rows i)) is (sound .rows i (here .0) (at-used id (rowIn rows i) (here .1)) .state) .0;
       }
 
-  flagged : (cancel : Bool) (x : Shows w id cancel) → Flagged cancel (x .late)
+  row-found : (cancel : Bool) (x : Shows w id cancel) → RowFound cancel (x .late)
   unfolding stepOf readOf statusOf _if_else_
-  flagged cancel x =
+  row-found cancel x =
       by-found cancel (x .late) (x .report) (foundIn (isAt id) rows) refl
       (rw (fitted .fits, shown-idle (w .session .«in_flight») id rows (x .idle)) at (x .shown)) (x .state)
 
   cancelled-back : Shows w id false → TakesBack w id Cancel Withdraw
   unfolding isAt
   cancelled-back x =
-      let r = flagged false x in
+      let r = row-found false x in
       let row = rowIn rows (r .index) in
       takes-back Cancel Withdraw (r .index) (cancelAs row (x .late) true) (x .idle) (r .at) (r .hit) (cancels row (x .late) false (r .state))
       (withdraw-restores row (x .late) (r .state) (r .copy))
@@ -127,7 +127,7 @@ module _ (w : World) (sound : SoundIn w) (fitted : FittedIn w) (id : RequestId) 
   withdrawn-back : Shows w id true → TakesBack w id Withdraw Cancel
   unfolding isAt
   withdrawn-back x =
-      let r = flagged true x in
+      let r = row-found true x in
       let row = rowIn rows (r .index) in
       takes-back Withdraw Cancel (r .index) (cancelAs row (x .late) false) (x .idle) (r .at) (r .hit) (withdraws row (x .late) (r .state))
       (cancel-restores row (x .late) (r .state) (r .copy))
