@@ -75,6 +75,10 @@ fn calls_without_a_rust_side_stop_the_run() {
             "refusal 53 has no Rust side",
         ),
         (
+            "withdraw id=1.0.0".into(),
+            "`withdraw` is for the port's side only",
+        ),
+        (
             "store rows=1 bytes=1".into(),
             "`store` is for the port's side only",
         ),
