@@ -15,7 +15,7 @@ use Rattle.session.specs.declared.lifecycle.Opened.the-variants as opened
 use Rattle.session.proofs.Said.{open-tabled, acquire-tabled, initialize-tabled, close-tabled, set-device-tabled, set-port-call-tabled, set-endpoints-call-tabled, set-reconcile-tabled}
 use Rattle.reports.specs.Change.{changeOf}
 use Rattle.reports.specs.Said.{reportSaid, nextSaid, tallySaid, partSaid, cancelNumbers, reclaimNumbers, withdrawNumbers}
-use Rattle.reports.specs.Status.{statusOf, nextOf, shownCount, completedPart, heldCountOf, heldBytesOf}
+use Rattle.reports.specs.Status.{statusOf, nextOf, shownCount, completedPart, heldCountOf, tallyOf, heldBytesOf}
 use Rattle.reports.specs.declared.NextReport.{NextReport}
 use Rattle.reports.specs.declared.NextReport.the-variants as next
 use Rattle.reports.specs.declared.PartAnswer.{PartAnswer}
@@ -146,7 +146,7 @@ read-tabled (Reports from) w = same _ (next-same (nextOf from (w .session) (worl
 read-tabled CountReports w = same _ (tally-same (shownCount (w .session) (worldStore w))) (shown-tabled _ _)
 read-tabled (CompletedBytes id) w =
     same _ (part-same (completedPart id (length (w .lent .memory .area)) (w .session) (worldStore w))) (part-tabled id _ _ _)
-read-tabled HeldCount w = same _ (tally-same (heldCountOf (w .session) (worldStore w))) (held-count-tabled _ _)
+read-tabled HeldCount w = same _ (tally-same (tallyOf (heldCountOf (w .session) (worldStore w)))) (held-count-tabled _ _)
 read-tabled HeldBytes w = same _ (tally-same (heldBytesOf (w .session) (worldStore w))) (held-bytes-tabled _ _)
 
 pub step-tabled : (c : Call) (w : World) → Tabled (callNumbers c) (answerSaid (stepOf c w .result .answer))

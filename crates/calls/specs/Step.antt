@@ -23,7 +23,7 @@ use Rattle.polls.specs.Poll.{pollOf}
 use Rattle.polls.specs.PollReply.{pollReplyOf}
 use Rattle.polls.specs.declared.Polled.{Polled}
 use Rattle.reports.specs.Change.{changeOf}
-use Rattle.reports.specs.Status.{statusOf, nextOf, shownCount, completedPart, heldCountOf, heldBytesOf}
+use Rattle.reports.specs.Status.{statusOf, nextOf, shownCount, completedPart, heldCountOf, tallyOf, heldBytesOf}
 use Rattle.reports.specs.declared.Reported.{Reported}
 use Rattle.recovery.specs.Recover.{recoverOf}
 use Rattle.recovery.specs.RecoveryReply.{recoveryReplyOf}
@@ -124,7 +124,7 @@ readOf (Status id) w = ofReport (statusOf id (w .session) (worldStore w))
 readOf (Reports from) w = ofNext (nextOf from (w .session) (worldStore w))
 readOf CountReports w = ofTally (shownCount (w .session) (worldStore w))
 readOf (CompletedBytes id) w = ofPart (completedPart id (length (w .lent .memory .area)) (w .session) (worldStore w))
-readOf HeldCount w = ofTally (heldCountOf (w .session) (worldStore w))
+readOf HeldCount w = ofTally (tallyOf (heldCountOf (w .session) (worldStore w)))
 readOf HeldBytes w = ofTally (heldBytesOf (w .session) (worldStore w))
 
 unfoldable pub stepOf : Call → World → After Outcome Lent

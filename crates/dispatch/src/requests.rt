@@ -127,7 +127,8 @@ fn report_answer(number: u64, session: Session, rows: &[u64], area: &[u8], call:
         return answers::of_part(status::completed_part(session, rows, area.len(), id));
     }
     if number == 20 {
-        return answers::of_tally(status::held_count(session, rows));
+        let count = status::held_count(session, rows);
+        return answers::of_tally(status::tally_of(count));
     }
     answers::of_tally(status::held_bytes(session, rows))
 }

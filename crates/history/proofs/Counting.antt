@@ -33,7 +33,7 @@ use Rattle.reports.specs.declared.PartAnswer.the-variants as part
 use Rattle.reports.specs.declared.Tally.{Tally}
 use Rattle.reports.specs.declared.Tally.the-variants as tally
 use Rattle.reports.specs.Change.{changeOf}
-use Rattle.reports.specs.Status.{statusOf, nextOf, shownCount, completedPart, heldCountOf, heldBytesOf}
+use Rattle.reports.specs.Status.{statusOf, nextOf, shownCount, completedPart, heldCountOf, tallyOf, heldBytesOf}
 use Rattle.reports.specs.declared.OptionId.{OptionId}
 use Rattle.reports.specs.declared.OptionId.the-variants as option
 use Rattle.polls.specs.PollReply.{pollReplyOf}
@@ -210,7 +210,7 @@ module _ (x : RequestId) where
   read-still (Reports from) w n = nextReport-still (nextOf from (w .session) (worldStore w)) n n refl
   read-still CountReports w n = tally-still (shownCount (w .session) (worldStore w)) n n refl
   read-still (CompletedBytes id) w n = part-still (completedPart id (length (w .lent .memory .area)) (w .session) (worldStore w)) n n refl
-  read-still HeldCount w n = tally-still (heldCountOf (w .session) (worldStore w)) n n refl
+  read-still HeldCount w n = tally-still (tallyOf (heldCountOf (w .session) (worldStore w))) n n refl
   read-still HeldBytes w n = tally-still (heldBytesOf (w .session) (worldStore w)) n n refl
 
   step-ids : (c : Call) (w : World) (j : Journal) → isOpening c ≡ false

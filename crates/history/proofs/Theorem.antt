@@ -35,6 +35,8 @@ use Rattle.session.specs.declared.lifecycle.Opening.{Opening}
 use Rattle.session.specs.declared.Recovery.{Recovery}
 use Rattle.session.specs.declared.lifecycle.Opened.{Opened}
 use Rattle.reports.specs.Change.{reportedBy, changeOf}
+use Rattle.reports.specs.Status.{tallyOf}
+use Rattle.reports.specs.declared.HeldAnswer.{HeldAnswer}
 use Rattle.reports.specs.declared.Reported.{Reported}
 use Rattle.recovery.specs.RecoveryReply.{ReplyLists}
 use Rattle.recovery.specs.declared.AbortReport.{AbortReport}
@@ -264,7 +266,7 @@ module _ (o : Opening) (w : World) (es : List Event) (pass : stepOf (Open o) w .
       let k = run-kept es start blank seen (sound-open o w pass) (opened-holds o w pass) follows fresh .1 .led in
       record {
         agrees = agreed _ _ k (sound .held);
-        count-is = ap ofTally (count-answer sound fitted) ∙ ap (λ (n : ℕ). answer.Number n) (k .same each);
+        count-is = ap (λ (a : HeldAnswer). ofTally (tallyOf a)) (count-answer sound fitted) ∙ ap (λ (n : ℕ). answer.Number n) (k .same each);
         bytes-is = ap ofTally (bytes-answer sound fitted) ∙ ap (λ (n : ℕ). answer.Number n) (k .same lengthOf);
         one-entry = k .once;
         one-release = release-once _ _ k;

@@ -6,19 +6,19 @@ ghost use lib.ListN.{length};
 ghost use Rattle.rows.specs.Table.{readRows, rowAt};
 ghost use Rattle.ledger.specs.Tally.{saturate, heldLength, heldCount, heldBytes};
 
-// The greatest numbers of 16 and of 64 bits.
-const MOST_ROWS: u16 = 65535;
+// The greatest numbers of 8 and of 64 bits.
+const MOST_ROWS: u8 = 255;
 
 const MOST_BYTES: u64 = 18446744073709551615;
 
-// The number in 16 bits, or their greatest.
-fn cut(total: u64) -> u16
-    ensures { λ r. ⌜ r ≡ saturate 16 total ⌝ }
+// The number in 8 bits, or their greatest.
+fn cut(total: u64) -> u8
+    ensures { λ r. ⌜ r ≡ saturate 8 total ⌝ }
 {
     if total > MOST_ROWS as u64 {
         return MOST_ROWS;
     }
-    total as u16
+    total as u8
 }
 
 fn add_saturating(total: u64, length: u64) -> u64
@@ -42,8 +42,8 @@ fn add_held(rows: &[u64], i: usize, total: u64) -> u64
     add_saturating(total, length)
 }
 
-pub fn held_count(rows: &[u64]) -> u16
-    ensures { λ r. ⌜ r ≡ heldCount 16 (readRows (now (rows .entry))) ⌝ }
+pub fn held_count(rows: &[u64]) -> u8
+    ensures { λ r. ⌜ r ≡ heldCount 8 (readRows (now (rows .entry))) ⌝ }
 {
     let n = rows::count(rows);
     let mut total: u64 = 0;

@@ -331,7 +331,7 @@ fn fill(s: Session, bus: &mut [u64], rows: &mut [u64], area: &mut [u8]) -> Sessi
 }
 
 fn show_held(s: Session, rows: &[u64]) {
-    show::tally(b"held", status::held_count(s, rows));
+    show::tally(b"held", status::tally_of(status::held_count(s, rows)));
 }
 
 // Reports in the order of ids, and one by its id.

@@ -12,7 +12,7 @@ pub struct Line {
     pub index: u64,
     pub refusal: u16,
     pub letter: u8,
-    pub held: u64,
+    pub held: u8,
 }
 
 // A number's digits at `at`; answers where they end.
@@ -52,7 +52,7 @@ pub fn put_line(out: &mut [u8], at: usize, line: Line) -> usize
     let refusal = put_field(out, index, line.refusal as u64, b' ');
     let letter = put_byte(out, refusal, line.letter);
     let space = put_byte(out, letter, b' ');
-    put_field(out, space, line.held, b'\n')
+    put_field(out, space, line.held as u64, b'\n')
 }
 
 // The only line of a paper that is refused by its size.

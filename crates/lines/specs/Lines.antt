@@ -10,12 +10,12 @@ use Rattle.models.specs.declared.RequestState.the-variants.{Pending, Completed,
 use Rattle.rows.specs.Store.{Store}
 use Rattle.session.specs.Lent.{Lent}
 use Rattle.session.specs.declared.Session.{Session}
+use Rattle.reports.specs.declared.HeldAnswer.{HeldAnswer}
+use Rattle.reports.specs.declared.HeldAnswer.the-variants as held
 use Rattle.reports.specs.declared.OptionId.{OptionId}
 use Rattle.reports.specs.declared.OptionId.the-variants as option
 use Rattle.reports.specs.declared.ReportAnswer.{ReportAnswer}
 use Rattle.reports.specs.declared.ReportAnswer.the-variants as report
-use Rattle.reports.specs.declared.Tally.{Tally}
-use Rattle.reports.specs.declared.Tally.the-variants as tally
 use Rattle.reports.specs.Status.{statusOf, heldCountOf}
 use Rattle.calls.specs.Step.{World, world, worldStore}
 use Rattle.paper.specs.Form.{isRefusedSize, isDamaged}
@@ -47,13 +47,13 @@ abbrev pub letterOf : OptionId → Session → Store → ℕ
 letterOf option.None s store = noLetter
 letterOf (option.Some id) s store = letterBy (statusOf id s store)
 
-abbrev pub tallied : Tally → ℕ
-tallied (tally.Refused r) = 0
-tallied (tally.Number n) = n
+abbrev pub heldNumber : HeldAnswer → ℕ
+heldNumber (held.Refused r) = 0
+heldNumber (held.Count n) = n
 
 -- how many rows are held
 abbrev pub heldIn : Session → Store → ℕ
-heldIn s store = tallied (heldCountOf s store)
+heldIn s store = heldNumber (heldCountOf s store)
 
 abbrev pub markedWorld : After Marked Lent → World
 markedWorld o = world (o .result .session) (o .lent)

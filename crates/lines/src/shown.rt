@@ -2,14 +2,14 @@
 use line_text::Line;
 use marking::Marked;
 use models::RequestState;
+use reports::HeldAnswer;
 use reports::OptionId;
 use reports::ReportAnswer;
-use reports::Tally;
 use reports::status;
 use session::Session;
 ghost use mathlib.Core.Path.{_≡_};
 ghost use Rattle.session.specs.Lent.{storeIn};
-ghost use Rattle.lines.specs.Lines.{stateLetter, letterBy, letterOf, tallied, heldIn, damagedLine, eventLine};
+ghost use Rattle.lines.specs.Lines.{stateLetter, letterBy, letterOf, heldNumber, heldIn, damagedLine, eventLine};
 
 fn state_letter(s: RequestState) -> u8
     ensures { λ r. ⌜ r ≡ stateLetter s ⌝ }
@@ -54,19 +54,19 @@ fn letter_of(session: Session, rows: &[u64], id: OptionId) -> u8
     }
 }
 
-fn tally_number(t: Tally) -> u64
-    ensures { λ r. ⌜ r ≡ tallied t ⌝ }
+fn held_number(answer: HeldAnswer) -> u8
+    ensures { λ r. ⌜ r ≡ heldNumber answer ⌝ }
 {
-    match t {
-        Tally::Refused(_) => 0,
-        Tally::Number(n) => n,
+    match answer {
+        HeldAnswer::Refused(_) => 0,
+        HeldAnswer::Count(n) => n,
     }
 }
 
-fn held_in(session: Session, rows: &[u64]) -> u64
+fn held_in(session: Session, rows: &[u64]) -> u8
     ensures { λ r. ⌜ r ≡ heldIn session (storeIn rows) ⌝ }
 {
-    tally_number(status::held_count(session, rows))
+    held_number(status::held_count(session, rows))
 }
 
 pub(crate) fn damaged_line(index: u64, session: Session, rows: &[u64]) -> Line

@@ -139,7 +139,7 @@ fn show_after(s: Session, rows: &[u64]) {
     print::text(b" ");
     show::letter(status::request_status(s, rows, id_of(1)));
     print::text(b"; held");
-    show::tally(status::held_count(s, rows));
+    show::held(status::held_count(s, rows));
     print::text(b"; ");
     show::controller(controller);
     print::text(b"\n");

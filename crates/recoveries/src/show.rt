@@ -3,8 +3,8 @@ use models::ControllerState;
 use models::Refusal;
 use models::RequestState;
 use recovery::RecoveryAnswer;
+use reports::HeldAnswer;
 use reports::ReportAnswer;
-use reports::Tally;
 use texts::print::number;
 use texts::print::text;
 
@@ -44,10 +44,10 @@ pub fn letter(a: ReportAnswer) {
     }
 }
 
-pub fn tally(a: Tally) {
+pub fn held(a: HeldAnswer) {
     match a {
-        Tally::Refused(_) => text(b" -"),
-        Tally::Number(n) => number(n),
+        HeldAnswer::Refused(_) => text(b" -"),
+        HeldAnswer::Count(n) => number(n as u64),
     }
 }
 

@@ -24,7 +24,8 @@ use Rattle.session.specs.declared.Session.{Session}
 use Rattle.session.proofs.Said.{guarded-all}
 use Rattle.reports.specs.Change.{reportedBy, changeOf}
 use Rattle.reports.specs.Said.{reportSaid, nextSaid, tallySaid, partSaid, statusNumbers, tallyNumbers}
-use Rattle.reports.specs.Status.{shownAt, statusBy, statusOf, better, bestFrom, nextOf, shownCount, partBy, completedPart, heldCountOf, heldBytesOf}
+use Rattle.reports.specs.Status.{shownAt, statusBy, statusOf, better, bestFrom, nextOf, shownCount, partBy, completedPart, heldCountOf, tallyOf, heldBytesOf}
+use Rattle.reports.specs.declared.HeldAnswer.{HeldAnswer}
 use Rattle.reports.specs.declared.NextReport.{NextReport}
 use Rattle.reports.specs.declared.NextReport.the-variants as next
 use Rattle.reports.specs.declared.OptionId.{OptionId}
@@ -75,14 +76,17 @@ module _ (o : OptionId) (s : Session) (store : Store) where
 abbrev Tallies : Tally → Type 0
 Tallies x = Tabled tallyNumbers (tallySaid x)
 
+abbrev Counts : HeldAnswer → Type 0
+Counts x = Tallies (tallyOf x)
+
 module _ (s : Session) (store : Store) where
   pub shown-tabled : Tabled tallyNumbers (tallySaid (shownCount s store))
   unfolding shownCount
   shown-tabled = if-all Tallies _ _ _ (tabled-own _ 3 refl) (tabled-says _ _)
 
-  pub held-count-tabled : Tabled tallyNumbers (tallySaid (heldCountOf s store))
+  pub held-count-tabled : Tabled tallyNumbers (tallySaid (tallyOf (heldCountOf s store)))
   unfolding heldCountOf
-  held-count-tabled = if-all Tallies _ _ _ (tabled-own _ 3 refl) (tabled-says _ _)
+  held-count-tabled = if-all Counts _ _ _ (tabled-own _ 3 refl) (tabled-says _ _)
 
   pub held-bytes-tabled : Tabled tallyNumbers (tallySaid (heldBytesOf s store))
   unfolding heldBytesOf
@@ -91,8 +95,8 @@ module _ (s : Session) (store : Store) where
   pub shown-said : (x : Tally) → x ≡ shownCount s store → (x ≡ shownCount s store) × Tabled tallyNumbers (tallySaid x)
   shown-said x e = said-of Tallies _ _ e shown-tabled
 
-  pub held-count-said : (x : Tally) → x ≡ heldCountOf s store → (x ≡ heldCountOf s store) × Tabled tallyNumbers (tallySaid x)
-  held-count-said x e = said-of Tallies _ _ e held-count-tabled
+  pub held-count-said : (x : HeldAnswer) → x ≡ heldCountOf s store → (x ≡ heldCountOf s store) × Tabled tallyNumbers (tallySaid (tallyOf x))
+  held-count-said x e = said-of Counts _ _ e held-count-tabled
 
   pub held-bytes-said : (x : Tally) → x ≡ heldBytesOf s store → (x ≡ heldBytesOf s store) × Tabled tallyNumbers (tallySaid x)
   held-bytes-said x e = said-of Tallies _ _ e held-bytes-tabled

@@ -32,6 +32,8 @@ use Rattle.reports.specs.declared.ReportAnswer.{ReportAnswer}
 use Rattle.reports.specs.declared.ReportAnswer.the-variants as report
 use Rattle.reports.specs.declared.NextReport.{NextReport}
 use Rattle.reports.specs.declared.NextReport.the-variants as next
+use Rattle.reports.specs.declared.HeldAnswer.{HeldAnswer}
+use Rattle.reports.specs.declared.HeldAnswer.the-variants as held
 use Rattle.reports.specs.declared.Tally.{Tally}
 use Rattle.reports.specs.declared.Tally.the-variants as tally
 
@@ -131,8 +133,14 @@ partOf (bytes.Part p) = p
 unfoldable pub bytesOf : PartAnswer → List ℕ → List ℕ
 bytesOf a area = take (partOf a .length) (drop (partOf a .start) area)
 
-unfoldable pub heldCountOf : Session → Store → Tally
-heldCountOf s store = tally.Refused (refusalOf 3) if not (storeFits (s .size) store) else tally.Number (heldCount 16 (store .rows))
+-- in eight bits (document 02, M-130)
+unfoldable pub heldCountOf : Session → Store → HeldAnswer
+heldCountOf s store = held.Refused (refusalOf 3) if not (storeFits (s .size) store) else held.Count (heldCount 8 (store .rows))
+
+-- the held count as any number of the store's
+abbrev pub tallyOf : HeldAnswer → Tally
+tallyOf (held.Refused r) = tally.Refused r
+tallyOf (held.Count n) = tally.Number n
 
 unfoldable pub heldBytesOf : Session → Store → Tally
 heldBytesOf s store = tally.Refused (refusalOf 3) if not (storeFits (s .size) store) else tally.Number (heldBytes 64 (store .rows))

@@ -45,6 +45,12 @@ pub enum Tally {
     Number(u64),
 }
 
+// How many rows are held, or the refusal.
+pub enum HeldAnswer {
+    Refused(Refusal),
+    Count(u8),
+}
+
 // Bytes of the lent area, by where they start and how many they are.
 pub struct Part {
     pub start: u64,

@@ -1,4 +1,5 @@
 // Reports, completed bytes and tallies. All are allowed while something is in flight; a submission in flight has no report yet.
+use crate::HeldAnswer;
 use crate::NextReport;
 use crate::OptionId;
 use crate::Part;
@@ -22,7 +23,7 @@ ghost use Rattle.rows.specs.Table.{readRows, rowIn};
 ghost use Rattle.session.specs.Lent.{rowsIn, storeIn};
 ghost use Rattle.reports.specs.declared.NextReport.the-variants as NextReport;
 ghost use Prim.Native.Nat.{_+_, _<_, min};
-ghost use Rattle.reports.specs.Status.{isSubmitting, shownAt, statusOf, isShown, comesAfter, beats, reportAt, betterAt, bestFrom, nextOf, shownCount, completedLength, completedPart, partOf, bytesOf, heldCountOf, heldBytesOf};
+ghost use Rattle.reports.specs.Status.{isSubmitting, shownAt, statusOf, isShown, comesAfter, beats, reportAt, betterAt, bestFrom, nextOf, shownCount, completedLength, completedPart, partOf, bytesOf, heldCountOf, tallyOf, heldBytesOf};
 ghost use Rattle.models.specs.Said.{Tabled};
 ghost use Rattle.reports.specs.Said.{reportSaid, nextSaid, tallySaid, partSaid, statusNumbers, tallyNumbers, partNumber};
 
@@ -267,14 +268,24 @@ pub fn completed_bytes<'a>(
 }
 
 // 3; how many rows the device holds.
-pub fn held_count(session: Session, rows: &[u64]) -> Tally
-    ensures { λ r. ⌜ (r ≡ heldCountOf session (storeIn rows)) × Tabled tallyNumbers (tallySaid r) ⌝ }
+pub fn held_count(session: Session, rows: &[u64]) -> HeldAnswer
+    ensures { λ r. ⌜ (r ≡ heldCountOf session (storeIn rows)) × Tabled tallyNumbers (tallySaid (tallyOf r)) ⌝ }
 {
     let size = session.size;
     if !sizes::rows_fit(size, rows.len()) {
-        return Tally::Refused(models::refuse(3));
+        return HeldAnswer::Refused(models::refuse(3));
     }
-    Tally::Number(tally::held_count(rows) as u64)
+    HeldAnswer::Count(tally::held_count(rows))
+}
+
+// The held count as any number of the store's.
+pub fn tally_of(answer: HeldAnswer) -> Tally
+    ensures { λ r. ⌜ r ≡ tallyOf answer ⌝ }
+{
+    match answer {
+        HeldAnswer::Refused(refusal) => Tally::Refused(refusal),
+        HeldAnswer::Count(n) => Tally::Number(n as u64),
+    }
 }
 
 // 3; the sum of their requested lengths.

@@ -48,7 +48,7 @@ impl Side for Session {
         };
         let exchange = self.exchange.take();
         let (state, held, held_bytes) = match &self.usb {
-            Some(usb) => (usb.state(), usb.held_count(), usb.held_bytes()),
+            Some(usb) => (usb.state(), usb.held_count().into(), usb.held_bytes()),
             None => (ControllerState::Closed, 0, 0),
         };
         Ok(Answer {

@@ -381,9 +381,10 @@ impl<B: Backend> UsbSession<B> {
         Ok(reports)
     }
 
-    /// How many requests are held.
-    pub fn held_count(&self) -> u64 {
-        self.number(&Call::HeldCount)
+    /// How many requests are held: at most 128.
+    pub fn held_count(&self) -> u8 {
+        let count = self.number(&Call::HeldCount);
+        u8::try_from(count).expect("the held count has eight bits")
     }
 
     /// The sum of the held requests' lengths.

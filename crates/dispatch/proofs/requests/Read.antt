@@ -11,10 +11,11 @@ use Rattle.rows.specs.Store.{Store}
 use Rattle.bus.specs.Tables.{Bus}
 use Rattle.session.specs.Lent.{memory, lent}
 use Rattle.session.specs.declared.Session.{Session}
-use Rattle.reports.specs.Status.{statusOf, nextOf, shownCount, completedPart, heldCountOf, heldBytesOf}
+use Rattle.reports.specs.Status.{statusOf, nextOf, shownCount, completedPart, heldCountOf, tallyOf, heldBytesOf}
 use Rattle.reports.specs.declared.NextReport.{NextReport}
 use Rattle.reports.specs.declared.OptionId.{OptionId}
 use Rattle.reports.specs.declared.PartAnswer.{PartAnswer}
+use Rattle.reports.specs.declared.HeldAnswer.{HeldAnswer}
 use Rattle.reports.specs.declared.Tally.{Tally}
 use Rattle.calls.specs.Answers.{outcome, ofReport, ofNext, ofTally, ofPart}
 use Rattle.call_words.specs.Arguments.{readOptionId}
@@ -61,9 +62,9 @@ module _ (n : ℕ) (s : Session) (store : Store) (area w : List ℕ) where
             by (CompletedBytes id) r (search (chain, ap (λ (z : RequestId). Read (CompletedBytes z)) ei) depth 20) (λ b. er ∙ ap ofPart h)
 
         module _ (n19 : n ≡ 19 → ⊥) (r : Answer) (x : Tally) (er : r ≡ ofTally x) where
-          pub held-count-step : n ≡ 20 → x ≡ heldCountOf s store → Steps r
+          pub held-count-step : (y : HeldAnswer) → n ≡ 20 → y ≡ heldCountOf s store → x ≡ tallyOf y → Steps r
           unfolding readOf readReporting
-          held-count-step e h = by HeldCount r (search chain depth 20) (λ b. er ∙ ap ofTally h)
+          held-count-step y e h hx = by HeldCount r (search chain depth 20) (λ b. er ∙ ap ofTally (hx ∙ ap tallyOf h))
 
           pub held-bytes-step : (n ≡ 20 → ⊥) → x ≡ heldBytesOf s store → Steps r
           unfolding readOf readReporting

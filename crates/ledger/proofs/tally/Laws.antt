@@ -37,6 +37,10 @@ module _ (w : ℕ) where
   pub saturate-le : (n : ℕ) → saturate w n ≤ n
   saturate-le n = by-size n (λ h e. omega arith) (λ h e. omega arith)
 
+  -- under a bound that has w bits it is the number itself
+  pub saturate-under : (n m : ℕ) → m < 2 ^ w → saturate w n < m → n < m
+  saturate-under n m k l = by-size n (λ h e. omega arith) (λ h e. omega arith)
+
   pub saturate-below : (n : ℕ) → saturate w n < 2 ^ w
   saturate-below n = let z = pow-pos w in by-size n (λ h e. omega arith) (λ h e. omega arith)
 

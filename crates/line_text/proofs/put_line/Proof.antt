@@ -14,6 +14,7 @@ put-line-spec =
     (λ c κs. search needs)
     (λ c κs. search needs)
     (λ c κs. omega (arith, appended-end))
+    (λ c. search needs)
     (λ c κs. omega (arith, appended-end))
     (λ c. search needs)
     (λ c. (search line-put, omega (arith, appended-end))))

@@ -5,13 +5,13 @@ use Rattle.models.specs.declared.RequestId.{RequestId}
 use Rattle.models.specs.declared.RequestReport.{RequestReport}
 use Rattle.rows.specs.Store.{Store}
 use Rattle.session.specs.declared.Session.{Session}
+use Rattle.reports.specs.declared.HeldAnswer.{HeldAnswer}
 use Rattle.reports.specs.declared.OptionId.{OptionId}
 use Rattle.reports.specs.declared.OptionId.the-variants as option
 use Rattle.reports.specs.declared.ReportAnswer.{ReportAnswer}
 use Rattle.reports.specs.declared.ReportAnswer.the-variants as report
-use Rattle.reports.specs.declared.Tally.{Tally}
 use Rattle.reports.specs.Status.{statusOf, heldCountOf}
-use Rattle.lines.specs.Lines.{stateLetter, noLetter, letterBy, letterOf, tallied, heldIn, damagedLine, eventLine}
+use Rattle.lines.specs.Lines.{stateLetter, noLetter, letterBy, letterOf, heldNumber, heldIn, damagedLine, eventLine}
 use Rattle.line_text.specs.declared.Line.{Line}
 use Rattle.marking.specs.declared.Marked.{Marked}
 
@@ -29,8 +29,8 @@ module _ (id : OptionId) (s : Session) (store : Store) where
   letter-some own a r e ea h = rw e (h ∙ ap letterBy ea)
 
 module _ (s : Session) (store : Store) (n : ℕ) where
-  pub held-told : (t : Tally) → t ≡ heldCountOf s store → n ≡ tallied t → n ≡ heldIn s store
-  held-told t e h = h ∙ ap tallied e
+  pub held-told : (a : HeldAnswer) → a ≡ heldCountOf s store → n ≡ heldNumber a → n ≡ heldIn s store
+  held-told a e h = h ∙ ap heldNumber e
 
   abbrev lineAs : ℕ → ℕ → ℕ → Line
   lineAs i refusal letter = record { index = i; refusal = refusal; letter = letter; held = n }

@@ -37,6 +37,8 @@ use Rattle.session.specs.declared.Session.{Session}
 use Rattle.session.proofs.sizes.Laws.{place-in}
 use Rattle.reports.specs.Status.{isSubmitting, shownAt, statusBy, statusOf, isShown, comesAfter, beats, isBetter, better, bestFrom, reportAt, betterAt, nextOf, shownCount, completedLength, bytesPart, partBy, completedPart, partOf, bytesOf, heldCountOf, heldBytesOf}
 use Rattle.reports.specs.Said.{partNumber}
+use Rattle.reports.specs.declared.HeldAnswer.{HeldAnswer}
+use Rattle.reports.specs.declared.HeldAnswer.the-variants as held
 use Rattle.reports.specs.declared.OptionId.{OptionId}
 use Rattle.reports.specs.declared.OptionId.the-variants as option
 use Rattle.reports.specs.declared.Part.{Part}
@@ -210,9 +212,9 @@ module _ (s : Session) (store : Store) (f : Bool) (ef : f ≡ storeFits (s .size
     unfolding shownCount
     shown-unfit = takes Tally _ _ _ _ (not-through f _ true ef t) (rw er)
 
-    pub held-unfit : tally.Refused r ≡ heldCountOf s store
+    pub held-unfit : held.Refused r ≡ heldCountOf s store
     unfolding heldCountOf
-    held-unfit = takes Tally _ _ _ _ (not-through f _ true ef t) (rw er)
+    held-unfit = takes HeldAnswer _ _ _ _ (not-through f _ true ef t) (rw er)
 
     pub bytes-unfit : tally.Refused r ≡ heldBytesOf s store
     unfolding heldBytesOf
@@ -227,9 +229,9 @@ module _ (s : Session) (store : Store) (f : Bool) (ef : f ≡ storeFits (s .size
     unfolding shownCount
     shown-on n e = passes Tally _ _ _ _ (not-through f _ false ef t) (ap tally.Number e)
 
-    pub held-on : (n : ℕ) → n ≡ heldCount 16 (store .rows) → tally.Number n ≡ heldCountOf s store
+    pub held-on : (n : ℕ) → n ≡ heldCount 8 (store .rows) → held.Count n ≡ heldCountOf s store
     unfolding heldCountOf
-    held-on n e = passes Tally _ _ _ _ (not-through f _ false ef t) (ap tally.Number e)
+    held-on n e = passes HeldAnswer _ _ _ _ (not-through f _ false ef t) (ap held.Count e)
 
     pub bytes-on : (n : ℕ) → n ≡ heldBytes 64 (store .rows) → tally.Number n ≡ heldBytesOf s store
     unfolding heldBytesOf

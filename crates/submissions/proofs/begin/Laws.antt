@@ -1,11 +1,11 @@
 -- One law for each way out of the end of a submission: its premises are the facts in hand there. Assumes nothing.
-use Prim.Native.Nat.{ℕ, _^_, _<_, _≤_}
+use Prim.Native.Nat.{ℕ, _<_, _≤_}
 use mathlib.Core.Bool.{Bool, true, false}
 use mathlib.Core.List.{List}
 use mathlib.Core.Path.{_≡_, refl, sym, ap, _∙_}
 use native.Mathlib.Omega.{arith}
-use borrow.Author.Tests.{le-leb, lt-leb, ltb-true, ltb-false}
-use lib.Dec.{ltb, leb}
+use borrow.Author.Tests.{le-leb, lt-leb}
+use lib.Dec.{leb}
 use lib.ListN.{length, take, replicate}
 use lib.Seq.{take-length}
 use Rattle.chain.specs.After.{after}
@@ -30,7 +30,7 @@ use Rattle.rules.specs.Rules.{pendingRow, spendSequence}
 use Rattle.rules.specs.declared.Spent.{Spent}
 use Rattle.rules.specs.declared.Spent.the-variants as spent
 use Rattle.ledger.proofs.Found.{found-in}
-use Rattle.ledger.proofs.tally.Laws.{saturate-plain, saturate-top, saturate-le}
+use Rattle.ledger.proofs.tally.Laws.{saturate-le, saturate-under}
 use Rattle.bus.specs.Tables.{Bus}
 use Rattle.targets.specs.Target.{checkTarget}
 use Rattle.targets.specs.declared.Readings.{Readings}
@@ -43,31 +43,20 @@ use Rattle.submissions.specs.Begin.{roomIn, newId, startRefused, writeOf
 use Rattle.submissions.specs.declared.begin.Start.the-variants as start
 use Rattle.submissions.specs.declared.begin.Started.{Started}
 
--- a tally of 16 bits that is below 128 is the number itself
-below-128 : (n : ℕ) → saturate 16 n < 128 → n < 128
-below-128 n h =
-    caseB (ltb n (2 ^ 16))
-    (λ e. let p : saturate 16 n ≡ n = saturate-plain 16 n (ltb-true n (2 ^ 16) e) in omega arith)
-    (λ e.
-    let k : 65536 ≤ n = ltb-false n (2 ^ 16) e in
-    let g : 65535 ≤ n = omega arith in
-    let p : saturate 16 n ≡ 65535 = saturate-top 16 n g in
-    omega arith)
-
 -- the row for a new request
-module _ (rows : List Row) (n : ℕ) (e : n ≡ heldCount 16 rows) where
+module _ (rows : List Row) (n : ℕ) (e : n ≡ heldCount 8 rows) where
   pub room-full : 128 ≤ n → found.Nothing ≡ roomIn rows
   unfolding roomIn heldCount
   room-full h =
-      let z : n ≡ saturate 16 (count isHeld rows) = e in
-      let l = saturate-le 16 (count isHeld rows) in
+      let z : n ≡ saturate 8 (count isHeld rows) = e in
+      let l = saturate-le 8 (count isHeld rows) in
       takes Found _ _ _ _ (le-leb 128 (count isHeld rows) (omega arith)) refl
 
   pub room-first : (f : Found) → n < 128 → f ≡ foundIn isFree rows → f ≡ roomIn rows
   unfolding roomIn heldCount
   room-first f h ef =
-      let z : n ≡ saturate 16 (count isHeld rows) = e in
-      passes Found _ _ _ _ (lt-leb 128 (count isHeld rows) (below-128 (count isHeld rows) (omega arith))) ef
+      let z : n ≡ saturate 8 (count isHeld rows) = e in
+      passes Found _ _ _ _ (lt-leb 128 (count isHeld rows) (saturate-under 8 (count isHeld rows) 128 (omega arith) (omega arith))) ef
 
 found-free : (rows : List Row) (i : ℕ) → roomIn rows ≡ found.At i → foundIn isFree rows ≡ found.At i
 unfolding roomIn _if_else_

@@ -1,5 +1,6 @@
 //! Values that several tests share.
 #![allow(dead_code)]
+pub mod raw;
 pub mod scripted;
 pub mod store;
 

@@ -12,24 +12,33 @@ pub fn ready() -> Store {
 
 pub fn ready_with(rows: usize) -> Store {
     let mut store = Store::new(rows, 16);
-    for answer in [
-        store.open(Opening::new(1, Some(1))),
-        store.apply(&Call::SetDevice(snapshot())),
-        store.apply(&Call::SetPort {
+    assert_eq!(store.open(opened()), Answer::Passed);
+    for call in initialized() {
+        assert_eq!(store.apply(&call), Answer::Passed);
+    }
+    store
+}
+
+pub fn opened() -> Opening {
+    Opening::new(1, Some(1))
+}
+
+/// What follows the opening.
+pub fn initialized() -> [Call<'static>; 5] {
+    [
+        Call::SetDevice(snapshot()),
+        Call::SetPort {
             number: 1,
             generation: 1,
             reading: Some(WORD),
-        }),
-        store.apply(&Call::SetEndpoints {
+        },
+        Call::SetEndpoints {
             slot: 2,
             endpoints: &ENDPOINTS,
-        }),
-        store.apply(&Call::Acquire(Ok(()))),
-        store.apply(&Call::Initialize(Ok(()))),
-    ] {
-        assert_eq!(answer, Answer::Passed);
-    }
-    store
+        },
+        Call::Acquire(Ok(())),
+        Call::Initialize(Ok(())),
+    ]
 }
 
 pub fn submit() -> Call<'static> {

@@ -6,10 +6,10 @@ use Rattle.ledger.proofs.tally.cut.Statement.{statement}
 use Rattle.ledger.proofs.tally.cut.Tie as tie
 
 returns : tie.Need-returns
-returns c = sym (saturate-top 16 _ (omega arith))
+returns c = sym (saturate-top 8 _ (omega arith))
 
 returns-2 : tie.Need-returns-2
-returns-2 c = sym (saturate-plain 16 _ (omega arith))
+returns-2 c = sym (saturate-plain 8 _ (omega arith))
 
 pub cut-spec : {M : Type 1} → statement M
 cut-spec = tie.close (tie.spec (λ c. search needs) returns (λ c. search needs) returns-2)
