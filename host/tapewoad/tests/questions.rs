@@ -1,13 +1,13 @@
 //! Questions, and reports by the function that only reads.
 mod common;
 
-use common::store::{ERROR, completion, others, ready, ready_with, refusal, submit, words};
+use common::store::{
+    DESCRIPTOR, ERROR, completion, others, plan, ready, ready_with, refusal, submit, words,
+};
 use common::{DEVICE, WORD, id};
 use tapewoad::calls::*;
 use tapewoad::library::{self, View};
-use tapewoad::{
-    ControlProfile, ControllerState, DeviceId, Direction, RequestId, SetupPacket, TransferType,
-};
+use tapewoad::{ControllerState, DeviceId, Direction, RequestId, TransferType};
 
 fn reports() -> [Call<'static>; 8] {
     [
@@ -187,39 +187,22 @@ fn a_submission_wants_each_reading_after_the_checks_before_it() {
 
 #[test]
 fn a_control_transfer_and_a_plan_want_one_reading() {
-    let setup = SetupPacket {
-        request_type: 0x80,
-        request: 6,
-        value: 0x100,
-        index: 0,
-        length: 3,
-    };
     let control = |readings| Submit {
         endpoint: 0,
         transfer_type: TransferType::Control,
-        setup: Some(setup),
+        setup: Some(DESCRIPTOR),
         readings,
         ..SPEC
     };
     let store = ready();
     assert_eq!(wants(&store, control([Err(ERROR); 2])), Some(0));
     assert_eq!(wants(&store, control([Ok(WORD), Err(ERROR)])), None);
-    let plan = |reading| {
-        store.ask(&Question::PlanWants(Plan {
-            device: DEVICE,
-            profile: ControlProfile::Compliant,
-            setup,
-            data_stage: Some((Direction::In, 3)),
-            status_direction: Some(Direction::Out),
-            data: &[],
-            reading,
-        }))
-    };
-    let Answer::Wants(Some(wanted)) = plan(Err(ERROR)) else {
+    let plan_wants = |reading| store.ask(&Question::PlanWants(plan(reading)));
+    let Answer::Wants(Some(wanted)) = plan_wants(Err(ERROR)) else {
         panic!("no reading is wanted")
     };
     assert_eq!((wanted.reading, wanted.port), (0, 1));
-    assert_eq!(plan(Ok(WORD)), Answer::Wants(None));
+    assert_eq!(plan_wants(Ok(WORD)), Answer::Wants(None));
 }
 
 /// What is refused before a reading wants none.

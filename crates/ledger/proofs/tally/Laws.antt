@@ -18,12 +18,12 @@ use Rattle.rows.specs.declared.Row.{Row}
 use Rattle.ledger.specs.Tally.{saturate, heldLength, heldCount, heldBytes}
 
 module _ (w : ℕ) where
-  pub saturate-plain : (n : ℕ) → n < 2 ^ w → saturate w n ≡ n
+  saturate-plain : (n : ℕ) → n < 2 ^ w → saturate w n ≡ n
   unfolding saturate
   saturate-plain n h = rw (lt-ltb n (2 ^ w) h)
 
   -- from the maximum on
-  pub saturate-top : (n : ℕ) → 2 ^ w - 1 ≤ n → saturate w n ≡ 2 ^ w - 1
+  saturate-top : (n : ℕ) → 2 ^ w - 1 ≤ n → saturate w n ≡ 2 ^ w - 1
   unfolding saturate
   saturate-top n h =
       caseB (ltb n (2 ^ w)) (λ e. let g : n < 2 ^ w = ltb-true n (2 ^ w) e in rw e (omega arith)) (λ e. rw e)
@@ -34,15 +34,16 @@ module _ (w : ℕ) where
       caseB (ltb n (2 ^ w)) (λ e. let h = ltb-true n (2 ^ w) e in a h (saturate-plain n h))
       (λ e. let h = ltb-false n (2 ^ w) e in b h (saturate-top n (omega arith)))
 
+  -- the number itself where it has w bits, else their maximum
+  pub saturate-is : (n r : ℕ) → (n < 2 ^ w → r ≡ n) → (2 ^ w ≤ n → r ≡ 2 ^ w - 1) → r ≡ saturate w n
+  saturate-is n r a b = by-size n (λ h e. a h ∙ sym e) (λ h e. b h ∙ sym e)
+
   pub saturate-le : (n : ℕ) → saturate w n ≤ n
   saturate-le n = by-size n (λ h e. omega arith) (λ h e. omega arith)
 
-  -- under a bound that has w bits it is the number itself
+  -- below a bound that has w bits, so is the number itself
   pub saturate-under : (n m : ℕ) → m < 2 ^ w → saturate w n < m → n < m
   saturate-under n m k l = by-size n (λ h e. omega arith) (λ h e. omega arith)
-
-  pub saturate-below : (n : ℕ) → saturate w n < 2 ^ w
-  saturate-below n = let z = pow-pos w in by-size n (λ h e. omega arith) (λ h e. omega arith)
 
   pub saturate-add : (a b : ℕ) → saturate w (saturate w a + b) ≡ saturate w (a + b)
   saturate-add a b =

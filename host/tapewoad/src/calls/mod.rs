@@ -294,7 +294,7 @@ pub enum Call<'a> {
     CountReports,
     /// Where a Completed request's bytes are.
     CompletedBytes(RequestId),
-    /// How many requests are held.
+    /// How many requests are held; 255 says as many or more.
     HeldCount,
     /// The sum of their lengths.
     HeldBytes,

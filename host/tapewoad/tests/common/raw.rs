@@ -1,8 +1,9 @@
 //! Memory whose words a test may set by hand, with its answers as words.
-use super::store::{initialized, opened};
+use super::store::{first_calls, opening};
 use tapewoad::calls::*;
 use tapewoad::library::{self, Memory, View};
 
+#[derive(Debug, Clone, PartialEq, Eq)]
 pub struct Raw {
     pub session: [u64; SESSION_WORDS],
     pub bus: [u64; BUS_WORDS],
@@ -20,11 +21,11 @@ impl Raw {
             area: vec![0; rows * 16],
         };
         let open = Call::Open {
-            opening: opened(),
+            opening: opening(),
             rows: rows as u64,
             row_bytes: 16,
         };
-        for call in [open].into_iter().chain(initialized()) {
+        for call in [open].into_iter().chain(first_calls()) {
             assert_eq!(raw.apply(&call)[0], 1, "{call:?}");
         }
         raw

@@ -1,7 +1,7 @@
 //! Calls over a store.
 use super::{DEVICE, ENDPOINTS, WORD, id, snapshot};
 use tapewoad::calls::*;
-use tapewoad::{Direction, ErrorCategory, Opening, TransferType};
+use tapewoad::{ControlProfile, Direction, ErrorCategory, Opening, SetupPacket, TransferType};
 
 pub const ERROR: Error = Error::new(ErrorCategory::Timeout, 77);
 
@@ -12,19 +12,19 @@ pub fn ready() -> Store {
 
 pub fn ready_with(rows: usize) -> Store {
     let mut store = Store::new(rows, 16);
-    assert_eq!(store.open(opened()), Answer::Passed);
-    for call in initialized() {
+    assert_eq!(store.open(opening()), Answer::Passed);
+    for call in first_calls() {
         assert_eq!(store.apply(&call), Answer::Passed);
     }
     store
 }
 
-pub fn opened() -> Opening {
+pub fn opening() -> Opening {
     Opening::new(1, Some(1))
 }
 
-/// What follows the opening.
-pub fn initialized() -> [Call<'static>; 5] {
+/// What follows the opening, up to Initialized.
+pub fn first_calls() -> [Call<'static>; 5] {
     [
         Call::SetDevice(snapshot()),
         Call::SetPort {
@@ -53,6 +53,27 @@ pub fn submit() -> Call<'static> {
         packets: None,
         readings: [Ok(WORD), Ok(WORD)],
     })
+}
+
+/// GET_DESCRIPTOR of 3 bytes.
+pub const DESCRIPTOR: SetupPacket = SetupPacket {
+    request_type: 0x80,
+    request: 6,
+    value: 0x100,
+    index: 0,
+    length: 3,
+};
+
+pub fn plan(reading: Reading) -> Plan<'static> {
+    Plan {
+        device: DEVICE,
+        profile: ControlProfile::Compliant,
+        setup: DESCRIPTOR,
+        data_stage: Some((Direction::In, 3)),
+        status_direction: Some(Direction::Out),
+        data: &[],
+        reading,
+    }
 }
 
 pub fn refusal(answer: Answer) -> u16 {
