@@ -10,36 +10,22 @@ use lib.ListN.{length, take, length-take, length-append, length-map}
 use borrow.Author.Tests.{ltb-true}
 use Rattle.chain.specs.After.{After}
 use Rattle.chain.specs.Chain.{_if_else_}
-use Rattle.chain.specs.declared.Found.{Found}
-use Rattle.chain.specs.declared.Found.the-variants as found
+use Rattle.chain.specs.declared.{Found.Found}
 use Rattle.chain.proofs.Chain.{caseB, both, if-all, if-by}
 use Rattle.words.specs.Records.{splice}
-use Rattle.models.specs.declared.DeviceId.{DeviceId}
-use Rattle.models.specs.declared.Refusal.{Refusal}
-use Rattle.models.specs.declared.RequestId.{RequestId}
-use Rattle.models.specs.declared.Verdict.{Verdict}
-use Rattle.models.specs.declared.Verdict.the-variants as verdict
+use Rattle.models.specs.declared.{DeviceId.DeviceId, Refusal.Refusal, RequestId.RequestId, Verdict.Verdict}
 use Rattle.rows.specs.Table.{rowIn, idIn, tokenIn}
 use Rattle.rows.specs.Store.{Store}
-use Rattle.rows.specs.declared.Row.{Row}
+use Rattle.rows.specs.declared.{Row.Row}
 use Rattle.session.specs.Lent.{Memory}
 use Rattle.session.specs.Start.{guarded}
-use Rattle.session.specs.declared.InFlight.{InFlight}
-use Rattle.session.specs.declared.InFlight.the-variants as flight
-use Rattle.session.specs.declared.Recovery.{Recovery}
-use Rattle.session.specs.declared.RecoveryKind.{RecoveryKind}
-use Rattle.session.specs.declared.Session.{Session}
+use Rattle.session.specs.declared.{InFlight.InFlight, Recovery.Recovery, RecoveryKind.RecoveryKind, Session.Session}
 use Rattle.scope.specs.Affected.{affectedOf, tokensOf}
 use Rattle.scope.proofs.affected.Laws.{affected-most}
 use Rattle.recovery.specs.Recover.{beginRefused, begunAs, beginRow, recoverBy, recoverOf}
 use Rattle.recovery.specs.RecoveryReply.{ReplyLists, recoveryRefused, isWhole, concludedBy, abortReport, settledOf, doneOf, replyBy, replySized, replyIn, recoveryReplyOf}
 use Rattle.scope.specs.Scope.{meant, inScope}
-use Rattle.recovery.specs.declared.Begun.{Begun}
-use Rattle.recovery.specs.declared.Ids.{Ids}
-use Rattle.recovery.specs.declared.Recovered.{Recovered}
-use Rattle.recovery.specs.declared.RecoveryReply.{RecoveryReply}
-use Rattle.recovery.specs.declared.RecoveryReply.the-variants as reply
-use Rattle.recovery.specs.declared.recovery_reply.Ended.{Ended}
+use Rattle.recovery.specs.declared.{Begun.Begun, Ids.Ids, Recovered.Recovered, RecoveryReply.RecoveryReply, recovery_reply.Ended.Ended}
 use Rattle.scope.proofs.tokens.Laws.{scope-few}
 use Rattle.calls.specs.Calls.{Beginning, Submit, SubmitPlan, Poll, Recover, Replying, ToSubmit, ToPoll, ToRecovery, Call, Open, Place, Move, Begin, Reply, Change, Read}
 use Rattle.answer_words.specs.Lists.{listSize, idList, begunLists, recoveredLists, begunIn, repliedIn, listsOf, putLists}
@@ -67,8 +53,8 @@ module _ (id : RequestId) (k : RecoveryKind) (s : Session) (rows : List Row) whe
 
   found-begun : (f : Found) → ShortBegun (recoverBy f id k s rows)
   unfolding recoverBy
-  found-begun found.Nothing = refused-begun _
-  found-begun (found.At i) = row-begun _
+  found-begun Found.Nothing = refused-begun _
+  found-begun (Found.At i) = row-begun _
 
 begin-short : (id : RequestId) (k : RecoveryKind) (s : Session) (store : Store) → ShortBegun (recoverOf id k s store)
 unfolding recoverOf guarded
@@ -87,8 +73,8 @@ refused-short s r = omega arith
 concluded-short : (v : Verdict) (e : Ended) (n m : ℕ) (ids : Ids) (rows : List Row) → n + m ≤ 128
     → length (recoveredLists (concludedBy v e (abortReport e n m) ids rows)) ≤ listSize
 unfolding recoveredLists concludedBy
-concluded-short (verdict.Refused r) e n m ids rows h = omega arith
-concluded-short verdict.Pass e n m ids rows h =
+concluded-short (Verdict.Refused r) e n m ids rows h = omega arith
+concluded-short Verdict.Pass e n m ids rows h =
     omega (
       arith,
       length-append (idList (take n (ids .completed))) (idList (take m (ids .aborted))),
@@ -113,18 +99,18 @@ module _ (l : ReplyLists) (m : Memory) where
 
   by-short : (r : RecoveryReply) (x : Recovery) (s : Session) → Short (replyBy r x l s m)
   unfolding replyBy
-  by-short (reply.Error e) x s = refused-short _ _
-  by-short (reply.Done o) x s =
+  by-short (RecoveryReply.Error e) x s = refused-short _ _
+  by-short (RecoveryReply.Done o) x s =
       let rows = m .store .rows in
       let a = affectedOf (x .device) (x .endpoint) rows in
       done-short _ a (tokensOf rows a) (omega (arith, length-map a (tokenIn rows), affected-most (x .device) (x .endpoint) rows))
 
   in-short : (f : InFlight) (r : RecoveryReply) (s : Session) → Short (replyIn f r l s m)
   unfolding replyIn replySized
-  in-short flight.Nothing r s = refused-short _ _
-  in-short (flight.Submission id) r s = refused-short _ _
-  in-short (flight.Poll id) r s = refused-short _ _
-  in-short (flight.Recovery x) r s = if-all Short _ _ _ (refused-short _ _) (if-all Short _ _ _ (refused-short _ _) (by-short r x _))
+  in-short InFlight.Nothing r s = refused-short _ _
+  in-short (InFlight.Submission id) r s = refused-short _ _
+  in-short (InFlight.Poll id) r s = refused-short _ _
+  in-short (InFlight.Recovery x) r s = if-all Short _ _ _ (refused-short _ _) (if-all Short _ _ _ (refused-short _ _) (by-short r x _))
 
 -- ---- of every call
 begins-short : (b : Beginning) (w : World) → length (begunIn b w) ≤ listSize

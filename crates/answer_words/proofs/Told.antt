@@ -15,40 +15,26 @@ use Rattle.words.specs.Words.{flagWord, readFlag}
 use Rattle.words.proofs.Options.{low, flag-back}
 use Rattle.words.proofs.Records.{tab-same, le-or-lt}
 use Rattle.models.specs.Values.{optionErrorWords, metadataTail}
-use Rattle.models.specs.declared.ControlProfile.{ControlProfile}
-use Rattle.models.specs.declared.DeviceId.{DeviceId}
-use Rattle.models.specs.declared.Direction.{Direction}
-use Rattle.models.specs.declared.OperationError.{OperationError}
-use Rattle.models.specs.declared.OptionError.{OptionError}
-use Rattle.models.specs.declared.OptionError.the-variants as error
-use Rattle.models.specs.declared.RequestMetadata.{RequestMetadata}
-use Rattle.models.specs.declared.RequestReport.{RequestReport}
-use Rattle.models.specs.declared.RequestState.{RequestState}
-use Rattle.models.specs.declared.RequestState.the-variants as state
-use Rattle.models.specs.declared.Refusal.{Refusal}
+use Rattle.models.specs.declared.{ControlProfile.ControlProfile, DeviceId.DeviceId, Direction.Direction, OperationError.OperationError, OptionError.OptionError, Refusal.Refusal, RequestMetadata.RequestMetadata, RequestReport.RequestReport, RequestState.RequestState}
 use Rattle.models.proofs.Enums.{transfer-back, direction-back, profile-back}
 use Rattle.standards.specs.Setup.{setupBytes}
 use Rattle.rows.specs.Codec.{readMetadata, readStateWords, stateWords}
 use Rattle.session.specs.Said.{recoveryWord}
-use Rattle.session.specs.declared.Recovery.{Recovery}
-use Rattle.session.specs.declared.RecoveryKind.{RecoveryKind}
-use Rattle.session.specs.declared.RecoveryKind.the-variants as kind
+use Rattle.session.specs.declared.{Recovery.Recovery, RecoveryKind.RecoveryKind}
 use Rattle.session_words.specs.State.{readDeviceWords, readKind}
-use Rattle.submissions.specs.declared.PlanSubmission.{PlanSubmission}
-use Rattle.submissions.specs.declared.Submission.{Submission}
-use Rattle.recovery.specs.declared.AbortReport.{AbortReport}
+use Rattle.submissions.specs.declared.{PlanSubmission.PlanSubmission, Submission.Submission}
+use Rattle.recovery.specs.declared.{AbortReport.AbortReport}
 use Rattle.calls.specs.Fits.{ErrorFits, OptionErrorFits, DeviceFits}
-use Rattle.calls.specs.declared.Answer.{Answer}
-use Rattle.calls.specs.declared.Answer.the-variants as answer
+use Rattle.calls.specs.declared.{Answer.Answer}
 use Rattle.calls.proofs.Fits.{u32-back, error-back, option-error-back, setup-back}
 use Rattle.answer_words.specs.Encode.{answerSize, refusalWords, begunWords, planWords, reportWords, recoveringWords, recoveredWords, answerWords, written}
 use Rattle.answer_words.specs.Read.{readAnswer, MetadataFits, StateFits, AnswerFits}
 
 -- ---- what a value's word says is the value
 kind-back : (k : RecoveryKind) → readKind (recoveryWord k) ≡ k
-kind-back kind.Abort = refl
-kind-back (kind.Reset true) = refl
-kind-back (kind.Reset false) = refl
+kind-back RecoveryKind.Abort = refl
+kind-back (RecoveryKind.Reset true) = refl
+kind-back (RecoveryKind.Reset false) = refl
 
 device-back : (d : DeviceId) → DeviceFits d → readDeviceWords (d .session) (d .generation) (d .slot) ≡ d
 device-back d h = rw (low 8 h)
@@ -59,29 +45,29 @@ metadata-back m (d, e, s) =
     rw (low 8 d, low 8 e, transfer-back (m .«transfer_type»), direction-back (m .direction), setup-back (m .setup) s)
 
 state-back : (s : RequestState) → StateFits s → readStateWords (stateWords s) ≡ s
-state-back (state.Pending cancel late) h = rw (flag-back cancel, flag-back late)
-state-back (state.Completed actual code cancel) h = rw (low 32 h, flag-back cancel)
-state-back (state.Failed e code quiescent) (h, k) = rw (error-back e h, u32-back code k, flag-back quiescent)
-state-back state.Aborted h = refl
+state-back (RequestState.Pending cancel late) h = rw (flag-back cancel, flag-back late)
+state-back (RequestState.Completed actual code cancel) h = rw (low 32 h, flag-back cancel)
+state-back (RequestState.Failed e code quiescent) (h, k) = rw (error-back e h, u32-back code k, flag-back quiescent)
+state-back RequestState.Aborted h = refl
 
 -- ---- and what an answer's words say is the answer
-refused-back : (r : Refusal) → ErrorFits (r .error) → readAnswer (refusalWords r) ≡ answer.Refused r
+refused-back : (r : Refusal) → ErrorFits (r .error) → readAnswer (refusalWords r) ≡ Answer.Refused r
 unfolding readAnswer refusalWords _if_else_
-refused-back r h = ap (λ (e : OperationError). answer.Refused (record { number = r .number; error = e })) (error-back (r .error) h)
+refused-back r h = ap (λ (e : OperationError). Answer.Refused (record { number = r .number; error = e })) (error-back (r .error) h)
 
-begun-back : (x : Submission) → MetadataFits (x .metadata) → readAnswer (begunWords x) ≡ answer.Begun x
+begun-back : (x : Submission) → MetadataFits (x .metadata) → readAnswer (begunWords x) ≡ Answer.Begun x
 unfolding readAnswer begunWords _if_else_
 begun-back x h =
-    let f : RequestMetadata → Bool → Answer = λ m p. answer.Begun (record { id = x .id; row = x .row; metadata = m; «has_packets» = p }) in
+    let f : RequestMetadata → Bool → Answer = λ m p. Answer.Begun (record { id = x .id; row = x .row; metadata = m; «has_packets» = p }) in
     ap (λ (m : RequestMetadata). f m (readFlag (flagWord (x .«has_packets»)))) (metadata-back (x .metadata) h) ∙ ap (f (x .metadata)) (flag-back (x .«has_packets»))
 
-plan-back : (x : PlanSubmission) → MetadataFits (x .plan .metadata) → readAnswer (planWords x) ≡ answer.PlanBegun x
+plan-back : (x : PlanSubmission) → MetadataFits (x .plan .metadata) → readAnswer (planWords x) ≡ Answer.PlanBegun x
 unfolding readAnswer planWords _if_else_
 plan-back x h =
     let p = x .plan in
     let f : RequestMetadata → Bool → Direction → Direction → ControlProfile → Answer =
     λ m d a b g.
-    answer.PlanBegun (record { id = x .id; row = x .row; plan = record { metadata = m; «has_data» = d; «data_direction» = a; «status_direction» = b; profile = g } }) in
+    Answer.PlanBegun (record { id = x .id; row = x .row; plan = record { metadata = m; «has_data» = d; «data_direction» = a; «status_direction» = b; profile = g } }) in
     let e1 = metadata-back (p .metadata) h in
     let e2 = flag-back (p .«has_data») in
     let e3 = direction-back (p .«data_direction») in
@@ -89,29 +75,29 @@ plan-back x h =
     let e5 = profile-back (p .profile) in
     λ i. f (e1 i) (e2 i) (e3 i) (e4 i) (e5 i)
 
-report-back : (x : RequestReport) → MetadataFits (x .metadata) → StateFits (x .state) → readAnswer (reportWords x) ≡ answer.Report x
+report-back : (x : RequestReport) → MetadataFits (x .metadata) → StateFits (x .state) → readAnswer (reportWords x) ≡ Answer.Report x
 unfolding readAnswer reportWords _if_else_
 report-back x h k =
     let e1 = metadata-back (x .metadata) h in
     let e2 = state-back (x .state) k in
     let e3 = flag-back (x .«logical_cancel») in
     let e4 = flag-back (x .«timed_out») in
-    λ i. answer.Report (record { id = x .id; metadata = e1 i; state = e2 i; «logical_cancel» = e3 i; «timed_out» = e4 i })
+    λ i. Answer.Report (record { id = x .id; metadata = e1 i; state = e2 i; «logical_cancel» = e3 i; «timed_out» = e4 i })
 
-recovering-back : (x : Recovery) → DeviceFits (x .device) → readAnswer (recoveringWords x) ≡ answer.Recovering x
+recovering-back : (x : Recovery) → DeviceFits (x .device) → readAnswer (recoveringWords x) ≡ Answer.Recovering x
 unfolding readAnswer recoveringWords _if_else_
 recovering-back x h =
     let e1 = device-back (x .device) h in
     let e2 = kind-back (x .kind) in
-    λ i. answer.Recovering (record { target = x .target; device = e1 i; endpoint = x .endpoint; kind = e2 i })
+    λ i. Answer.Recovering (record { target = x .target; device = e1 i; endpoint = x .endpoint; kind = e2 i })
 
-recovered-back : (x : AbortReport) → DeviceFits (x .device) → OptionErrorFits (x .error) → readAnswer (recoveredWords x) ≡ answer.Recovered x
+recovered-back : (x : AbortReport) → DeviceFits (x .device) → OptionErrorFits (x .error) → readAnswer (recoveredWords x) ≡ Answer.Recovered x
 unfolding readAnswer recoveredWords _if_else_
 recovered-back x h k =
     let e1 = device-back (x .device) h in
     let e2 = flag-back (x .«restart_ready») in
     let e3 = option-error-back (x .error) k in
-    λ i. answer.Recovered (record {
+    λ i. Answer.Recovered (record {
       target = x .target;
       device = e1 i;
       endpoint = x .endpoint;
@@ -123,17 +109,17 @@ recovered-back x h k =
 
 pub answer-back : (a : Answer) → AnswerFits a → readAnswer (answerWords a) ≡ a
 unfolding readAnswer _if_else_
-answer-back (answer.Refused r) h = refused-back r h
-answer-back answer.Pass h = refl
-answer-back (answer.Begun x) h = begun-back x h
-answer-back (answer.PlanBegun x) h = plan-back x h
-answer-back (answer.Report x) (h, k) = report-back x h k
-answer-back answer.NoReport h = refl
-answer-back (answer.Asked token) h = refl
-answer-back (answer.Number n) h = refl
-answer-back (answer.Bytes p) h = refl
-answer-back (answer.Recovering x) h = recovering-back x h
-answer-back (answer.Recovered x) (h, k) = recovered-back x h k
+answer-back (Answer.Refused r) h = refused-back r h
+answer-back Answer.Pass h = refl
+answer-back (Answer.Begun x) h = begun-back x h
+answer-back (Answer.PlanBegun x) h = plan-back x h
+answer-back (Answer.Report x) (h, k) = report-back x h k
+answer-back Answer.NoReport h = refl
+answer-back (Answer.Asked token) h = refl
+answer-back (Answer.Number n) h = refl
+answer-back (Answer.Bytes p) h = refl
+answer-back (Answer.Recovering x) h = recovering-back x h
+answer-back (Answer.Recovered x) (h, k) = recovered-back x h k
 
 -- two answers of the same words are the same
 pub answer-told : (a b : Answer) → AnswerFits a → AnswerFits b → answerWords a ≡ answerWords b → a ≡ b
@@ -141,22 +127,22 @@ answer-told a b h k e = sym (answer-back a h) ∙ ap readAnswer e ∙ answer-bac
 
 -- ---- in `out`
 option-error-many : (o : OptionError) → length (optionErrorWords o) ≡ 5
-option-error-many error.None = refl
-option-error-many (error.Some e) = refl
+option-error-many OptionError.None = refl
+option-error-many (OptionError.Some e) = refl
 
 words-few : (a : Answer) → length (answerWords a) ≤ answerSize
 unfolding refusalWords begunWords planWords reportWords recoveringWords recoveredWords setupBytes
-words-few (answer.Refused r) = omega arith
-words-few answer.Pass = omega arith
-words-few (answer.Begun x) = omega arith
-words-few (answer.PlanBegun x) = omega arith
-words-few (answer.Report x) = omega arith
-words-few answer.NoReport = omega arith
-words-few (answer.Asked token) = omega arith
-words-few (answer.Number n) = omega arith
-words-few (answer.Bytes p) = omega arith
-words-few (answer.Recovering x) = omega arith
-words-few (answer.Recovered x) = omega (arith, option-error-many (x .error))
+words-few (Answer.Refused r) = omega arith
+words-few Answer.Pass = omega arith
+words-few (Answer.Begun x) = omega arith
+words-few (Answer.PlanBegun x) = omega arith
+words-few (Answer.Report x) = omega arith
+words-few Answer.NoReport = omega arith
+words-few (Answer.Asked token) = omega arith
+words-few (Answer.Number n) = omega arith
+words-few (Answer.Bytes p) = omega arith
+words-few (Answer.Recovering x) = omega arith
+words-few (Answer.Recovered x) = omega (arith, option-error-many (x .error))
 
 -- word i of the first 32: the answer's, and then zeros
 module _ (w out : List ℕ) (few : length w ≤ answerSize) (room : answerSize ≤ length out) (i : ℕ) (below : i < answerSize) where

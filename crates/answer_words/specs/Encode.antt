@@ -6,18 +6,15 @@ use lib.Dec.{ltb}
 use Rattle.chain.specs.Chain.{_if_else_}
 use Rattle.words.specs.Records.{splice}
 use Rattle.models.specs.Values.{errorWords}
-use Rattle.models.specs.declared.Refusal.{Refusal}
-use Rattle.models.specs.declared.RequestReport.{RequestReport}
+use Rattle.models.specs.declared.{Refusal.Refusal, RequestReport.RequestReport}
 use Rattle.rows.specs.Values.{reportValues}
-use Rattle.session.specs.declared.Recovery.{Recovery}
+use Rattle.session.specs.declared.{Recovery.Recovery}
 use Rattle.reports.specs.Said.{partValues}
 use Rattle.submissions.specs.Said.{begunValues, planValues}
-use Rattle.submissions.specs.declared.PlanSubmission.{PlanSubmission}
-use Rattle.submissions.specs.declared.Submission.{Submission}
+use Rattle.submissions.specs.declared.{PlanSubmission.PlanSubmission, Submission.Submission}
 use Rattle.recovery.specs.Said.{recoveringValues, recoveredValues}
-use Rattle.recovery.specs.declared.AbortReport.{AbortReport}
-use Rattle.calls.specs.declared.Answer.{Answer}
-use Rattle.calls.specs.declared.Answer.the-variants as answer
+use Rattle.recovery.specs.declared.{AbortReport.AbortReport}
+use Rattle.calls.specs.declared.{Answer.Answer}
 
 -- how many words an answer has
 abbrev pub answerSize : ℕ
@@ -42,17 +39,17 @@ unfoldable pub recoveredWords : AbortReport → List ℕ
 recoveredWords x = 10 ∷ recoveredValues x
 
 abbrev pub answerWords : Answer → List ℕ
-answerWords (answer.Refused r) = refusalWords r
-answerWords answer.Pass = 1 ∷ []
-answerWords (answer.Begun x) = begunWords x
-answerWords (answer.PlanBegun x) = planWords x
-answerWords (answer.Report x) = reportWords x
-answerWords answer.NoReport = 5 ∷ []
-answerWords (answer.Asked token) = 6 ∷ token ∷ []
-answerWords (answer.Number n) = 7 ∷ n ∷ []
-answerWords (answer.Bytes p) = 8 ∷ partValues p
-answerWords (answer.Recovering x) = recoveringWords x
-answerWords (answer.Recovered x) = recoveredWords x
+answerWords (Answer.Refused r) = refusalWords r
+answerWords Answer.Pass = 1 ∷ []
+answerWords (Answer.Begun x) = begunWords x
+answerWords (Answer.PlanBegun x) = planWords x
+answerWords (Answer.Report x) = reportWords x
+answerWords Answer.NoReport = 5 ∷ []
+answerWords (Answer.Asked token) = 6 ∷ token ∷ []
+answerWords (Answer.Number n) = 7 ∷ n ∷ []
+answerWords (Answer.Bytes p) = 8 ∷ partValues p
+answerWords (Answer.Recovering x) = recoveringWords x
+answerWords (Answer.Recovered x) = recoveredWords x
 
 -- the words w and then zeros, as an answer's; a slice that is too short, or words that are too many, change nothing
 unfoldable pub written : List ℕ → List ℕ → List ℕ

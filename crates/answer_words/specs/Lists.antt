@@ -6,18 +6,12 @@ use lib.Dec.{ltb}
 use Rattle.chain.specs.Chain.{_if_else_}
 use Rattle.words.specs.Records.{splice}
 use Rattle.models.specs.Values.{requestIdWords}
-use Rattle.models.specs.declared.RequestId.{RequestId}
-use Rattle.rows.specs.declared.Row.{Row}
+use Rattle.models.specs.declared.{RequestId.RequestId}
+use Rattle.rows.specs.declared.{Row.Row}
 use Rattle.recovery.specs.Recover.{recoverOf}
 use Rattle.recovery.specs.RecoveryReply.{recoveryReplyOf}
 use Rattle.recovery.specs.Reports.{idLists}
-use Rattle.recovery.specs.declared.BeginAnswer.{BeginAnswer}
-use Rattle.recovery.specs.declared.BeginAnswer.the-variants as begin
-use Rattle.recovery.specs.declared.Begun.{Begun}
-use Rattle.recovery.specs.declared.Ids.{Ids}
-use Rattle.recovery.specs.declared.Recovered.{Recovered}
-use Rattle.recovery.specs.declared.RecoveryAnswer.{RecoveryAnswer}
-use Rattle.recovery.specs.declared.RecoveryAnswer.the-variants as recovery
+use Rattle.recovery.specs.declared.{BeginAnswer.BeginAnswer, Begun.Begun, Ids.Ids, Recovered.Recovered, RecoveryAnswer.RecoveryAnswer}
 use Rattle.calls.specs.Calls.{Beginning, Submit, SubmitPlan, Poll, Recover, Replying, ToSubmit, ToPoll, ToRecovery, Call, Open, Place, Move, Begin, Reply, Change, Read}
 use Rattle.calls.specs.Step.{World, worldStore}
 
@@ -37,16 +31,16 @@ idList ids = length ids ∷ idWords ids
 
 -- the tokens of the affected requests
 abbrev pub begunList : BeginAnswer → ℕ → List ℕ → List ℕ
-begunList (begin.Refused r) n tokens = []
-begunList (begin.Recover x) n tokens = tokenList (take n tokens)
+begunList (BeginAnswer.Refused r) n tokens = []
+begunList (BeginAnswer.Recover x) n tokens = tokenList (take n tokens)
 
 unfoldable pub begunLists : Begun → List ℕ
 begunLists o = begunList (o .answer) (o .count) (o .tokens)
 
 -- the ids of the completed requests, and those of the aborted
 abbrev pub recoveredBy : RecoveryAnswer → Ids → List ℕ
-recoveredBy (recovery.Refused r) ids = []
-recoveredBy (recovery.Report x) ids = idList (take (x .completed) (ids .completed)) ++ idList (take (x .aborted) (ids .aborted))
+recoveredBy (RecoveryAnswer.Refused r) ids = []
+recoveredBy (RecoveryAnswer.Report x) ids = idList (take (x .completed) (ids .completed)) ++ idList (take (x .aborted) (ids .aborted))
 
 unfoldable pub recoveredLists : Recovered → List ℕ
 recoveredLists o = recoveredBy (o .answer) (o .ids)

@@ -10,7 +10,7 @@ use lib.ListN.{length, getD, set, take, drop, replicate, length-append, length-s
 use lib.Seq.{take-at, drop-at, drop-drop, getD-append-add, length-take-le}
 use Rattle.words.specs.Records.{splice, part, chunks}
 use Rattle.words.proofs.Records.{splice-set, tab-all, chunks-all, zero-at}
-use Rattle.models.specs.declared.OptionDevice.the-variants as device
+use Rattle.models.specs.declared.{OptionDevice.OptionDevice}
 use Rattle.bus.specs.Layout.{devicesAt, listsAt, marksAt, busWords, readPort, readDevice, readEndpoints, readMark}
 use Rattle.bus.specs.Tables.{Bus, busOf, newPort, newPorts, cleared}
 use Rattle.bus.proofs.Tables.{store-copy}
@@ -60,7 +60,7 @@ abbrev openedBus : List ℕ → Bus
 openedBus l = record {
   words = l;
   ports = replicate 255 newPort;
-  devices = replicate 256 device.None;
+  devices = replicate 256 OptionDevice.None;
   lists = replicate 256 [];
   marks = replicate 256 false;
 }
@@ -78,7 +78,7 @@ module _ (p z : List ℕ) (np : length p ≡ devicesAt) (nz : length z ≡ 10240
   unfolding busOf chunks
   opened-ports = tab-all (λ (j : ℕ). readPort (part (0 + j * 2) 2 (p ++ z))) 255 newPort (λ j h. let e : 0 + j * 2 ≡ j * 2 = omega arith in rw (e, ports j h))
 
-  opened-devices : busOf (p ++ z) .devices ≡ replicate 256 device.None
+  opened-devices : busOf (p ++ z) .devices ≡ replicate 256 OptionDevice.None
   unfolding busOf readDevice
   opened-devices = let n = whole in chunks-all devicesAt 8 readDevice 256 (p ++ z) (omega arith) (λ k lo hi. past k lo)
 

@@ -4,32 +4,22 @@ use mathlib.Core.List.{List, [], _∷_}
 use mathlib.Core.Path.{_≡_, refl}
 use Rattle.chain.specs.After.{After, after}
 use Rattle.chain.proofs.Chain.{if-all}
-use Rattle.words.specs.declared.OptionU32.{OptionU32}
-use Rattle.words.specs.declared.OptionU32.the-variants as u32
+use Rattle.words.specs.declared.{OptionU32.OptionU32}
 use Rattle.models.specs.Said.{Tabled, verdictSaid}
-use Rattle.models.specs.declared.OptionPorts.{OptionPorts}
-use Rattle.models.specs.declared.OptionPorts.the-variants as ports
-use Rattle.models.specs.declared.PortId.{PortId}
-use Rattle.models.specs.declared.PortReading.{PortReading}
+use Rattle.models.specs.declared.{OptionPorts.OptionPorts, PortId.PortId, PortReading.PortReading, Verdict.Verdict}
 use Rattle.models.specs.declared.PortReading.the-variants.{Word, Error}
-use Rattle.models.specs.declared.Verdict.{Verdict}
-use Rattle.models.specs.declared.Verdict.the-variants as verdict
 use Rattle.models.proofs.Said.{tabled-says, tabled-own, tabled-backend, tabled-in, said-of}
 use Rattle.bus.specs.Endpoints.{setEndpoints}
 use Rattle.bus.specs.Ports.{numberChecked, setPortBy, setPort, readingChecked, validatedRow, validatedBy, validated, raisedRow, observedBy, observedRow, observePortBy, observePort, freshObserved, freshWord, freshReading, freshPortBy, freshPort}
 use Rattle.bus.specs.Said.{portSaid, observedSaid, placedPortNumbers, placedListNumbers, freshPortNumbers}
 use Rattle.bus.specs.Tables.{Bus, portAt}
-use Rattle.bus.specs.declared.PortRow.{PortRow}
-use Rattle.bus.specs.declared.ports.Observed.{Observed}
-use Rattle.bus.specs.declared.ports.Observed.the-variants as observed
-use Rattle.bus.specs.declared.ports.PortChecked.{PortChecked}
-use Rattle.bus.specs.declared.ports.PortChecked.the-variants as checked
+use Rattle.bus.specs.declared.{PortRow.PortRow, ports.Observed.Observed, ports.PortChecked.PortChecked}
 
 -- ---- placing
 number-tabled : (o : OptionPorts) (number : ℕ) → Tabled placedPortNumbers (verdictSaid (numberChecked o number))
 unfolding numberChecked
-number-tabled ports.None number = tabled-own _ 29 refl
-number-tabled (ports.Some p) number =
+number-tabled OptionPorts.None number = tabled-own _ 29 refl
+number-tabled (OptionPorts.Some p) number =
     if-all (λ (v : Verdict). Tabled placedPortNumbers (verdictSaid v)) _ _ _ (tabled-own _ 30 refl) (tabled-says _ _)
 
 abbrev Places : List ℕ → After Verdict Bus → Type 0
@@ -38,8 +28,8 @@ Places ns o = Tabled ns (verdictSaid (o .result))
 module _ (number : ℕ) (row : PortRow) (b : Bus) where
   set-by : (v : Verdict) → Tabled placedPortNumbers (verdictSaid v) → Places placedPortNumbers (setPortBy v number row b)
   unfolding setPortBy
-  set-by (verdict.Refused r) h = h
-  set-by verdict.Pass h = h
+  set-by (Verdict.Refused r) h = h
+  set-by Verdict.Pass h = h
 
   pub set-port-tabled : (o : OptionPorts) → Tabled placedPortNumbers (verdictSaid (setPort o number row b .result))
   unfolding setPort
@@ -70,8 +60,8 @@ Reads o = Checks (o .result)
 
 reading-tabled : (o : OptionU32) → Checks (readingChecked o)
 unfolding readingChecked
-reading-tabled u32.None = tabled-own _ 32 refl
-reading-tabled (u32.Some raw) = tabled-says _ _
+reading-tabled OptionU32.None = tabled-own _ 32 refl
+reading-tabled (OptionU32.Some raw) = tabled-says _ _
 
 raised-tabled : (row : PortRow) (raw : ℕ) → Observes (raisedRow row raw)
 unfolding raisedRow
@@ -79,8 +69,8 @@ raised-tabled row raw = if-all Observes _ _ _ (tabled-own _ 34 refl) (tabled-say
 
 observed-by : (o : OptionU32) (row : PortRow) (raw : ℕ) → Observes (observedBy o row raw)
 unfolding observedBy
-observed-by u32.None row raw = tabled-says _ _
-observed-by (u32.Some old) row raw = if-all Observes _ _ _ (raised-tabled row raw) (tabled-says _ _)
+observed-by OptionU32.None row raw = tabled-says _ _
+observed-by (OptionU32.Some old) row raw = if-all Observes _ _ _ (raised-tabled row raw) (tabled-says _ _)
 
 module _ (o : OptionPorts) (id : PortId) where
   row-tabled : (row : PortRow) → Checks (validatedRow o id row)
@@ -89,13 +79,13 @@ module _ (o : OptionPorts) (id : PortId) where
 
   validated-by : (v : Verdict) → Tabled placedPortNumbers (verdictSaid v) → (b : Bus) → Checks (validatedBy v o id b)
   unfolding validatedBy
-  validated-by (verdict.Refused r) h b = tabled-in freshPortNumbers placedPortNumbers refl _ h
-  validated-by verdict.Pass h b = row-tabled _
+  validated-by (Verdict.Refused r) h b = tabled-in freshPortNumbers placedPortNumbers refl _ h
+  validated-by Verdict.Pass h b = row-tabled _
 
   written-by : (x : Observed) → Observes x → (number : ℕ) (b : Bus) → Checks (freshObserved (observePortBy x number b .result) o id)
   unfolding freshObserved observePortBy
-  written-by (observed.Refused r) h number b = h
-  written-by (observed.To row) h number b = row-tabled row
+  written-by (Observed.Refused r) h number b = h
+  written-by (Observed.To row) h number b = row-tabled row
 
   reading-by : (x : PortReading) (b : Bus) → Reads (freshReading x o id b)
   unfolding freshReading freshWord observePort observedRow
@@ -105,8 +95,8 @@ module _ (o : OptionPorts) (id : PortId) where
 
   fresh-by : (x : PortChecked) → Checks x → (reading : PortReading) (b : Bus) → Reads (freshPortBy x reading o id b)
   unfolding freshPortBy
-  fresh-by (checked.Refused r) h reading b = h
-  fresh-by (checked.Read raw) h reading b = reading-by reading b
+  fresh-by (PortChecked.Refused r) h reading b = h
+  fresh-by (PortChecked.Read raw) h reading b = reading-by reading b
 
   pub fresh-tabled : (reading : PortReading) (b : Bus) → Tabled freshPortNumbers (portSaid (freshPort o id reading b .result))
   unfolding freshPort validated

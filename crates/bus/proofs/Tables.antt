@@ -11,15 +11,13 @@ use lib.Seq.{take-all, take-at, take-take, take-suc-set, drop-set-lt, drop-drop,
 use borrow.Author.Tests.{ne-eqb}
 use Rattle.words.specs.Words.{readFlag, flagWord, readOptionU32, optionU32Word}
 use Rattle.words.specs.Records.{splice, part, chunks}
-use Rattle.words.specs.declared.OptionU32.{OptionU32}
+use Rattle.words.specs.declared.{OptionU32.OptionU32}
 use Rattle.words.proofs.Records.{part-getD, part-first, part-length, splice-set, chunks-at, chunks-put, chunks-kept}
 use Rattle.models.specs.Codes.{readDeviceState}
-use Rattle.models.specs.declared.DeviceSnapshot.{DeviceSnapshot}
-use Rattle.models.specs.declared.DeviceState.{DeviceState}
-use Rattle.models.specs.declared.OptionDevice.the-variants as device
+use Rattle.models.specs.declared.{DeviceSnapshot.DeviceSnapshot, DeviceState.DeviceState, OptionDevice.OptionDevice}
 use Rattle.bus.specs.Layout.{devicesAt, listsAt, marksAt, busWords, readPort, portRecord, readDevice, deviceRecord, readEndpoints, readMark}
 use Rattle.bus.specs.Tables.{Bus, busOf, newPort, portIndex, portAt, deviceAt, markAt, putPort, putDevice, putEndpoints, putMark}
-use Rattle.bus.specs.declared.PortRow.{PortRow}
+use Rattle.bus.specs.declared.{PortRow.PortRow}
 
 -- words put inside one table keep each other table
 module _ (l : List ℕ) (at : ℕ) (p : List ℕ) (sized : length l ≡ busWords) (fits : at + length p ≤ busWords) where
@@ -74,17 +72,17 @@ module _ (l : List ℕ) (slot : ℕ) (h : slot < 256) where
 
   device-row : deviceAt (busOf l) slot ≡ readDevice (part at 8 l)
   unfolding busOf
-  device-row = chunks-at devicesAt 8 readDevice 256 l slot device.None h
+  device-row = chunks-at devicesAt 8 readDevice 256 l slot OptionDevice.None h
 
   word : (k : ℕ) → k < 8 → getD (part at 8 l) k 0 ≡ getD l (at + k) 0
   word k g = part-getD 0 at 8 l k g
 
-  pub device-none : getD l at 0 ≡ 0 → device.None ≡ deviceAt (busOf l) slot
+  pub device-none : getD l at 0 ≡ 0 → OptionDevice.None ≡ deviceAt (busOf l) slot
   unfolding readDevice
   device-none e = rw (device-row, part-first 0 at 8 l (omega arith), e)
 
   pub device-some : (s : DeviceState) → (getD l at 0 ≡ 0 → ⊥) → s ≡ readDeviceState (getD l (at + 7) 0)
-      → device.Some (record {
+      → OptionDevice.Some (record {
         id = record { session = getD l (at + 1) 0; generation = getD l (at + 2) 0; slot = getD l (at + 3) 0 % 256 };
         port = record { session = getD l (at + 4) 0; generation = getD l (at + 5) 0; number = getD l (at + 6) 0 % 256 };
         state = s;
@@ -109,7 +107,7 @@ record-length : (d : DeviceSnapshot) → length (deviceRecord d) ≡ 8
 unfolding deviceRecord
 record-length d = refl
 
-pub put-device : (l x w : List ℕ) (d : DeviceSnapshot) → length l ≡ busWords → d .id .slot < 256 → readDevice w ≡ device.Some d → w ≡ deviceRecord d
+pub put-device : (l x w : List ℕ) (d : DeviceSnapshot) → length l ≡ busWords → d .id .slot < 256 → readDevice w ≡ OptionDevice.Some d → w ≡ deviceRecord d
     → x ≡ splice (devicesAt + d .id .slot * 8) (take 8 w) l → busOf x ≡ putDevice (busOf l) d
 unfolding busOf putDevice
 put-device l x w d sized h e f ex =

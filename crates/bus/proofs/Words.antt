@@ -5,9 +5,7 @@ use mathlib.Core.List.{List, [], _∷_}
 use native.Mathlib.Omega.{arith}
 use Rattle.words.proofs.Options.{low}
 use Rattle.models.specs.Codes.{readDeviceState, deviceStateWord, transferWord}
-use Rattle.models.specs.declared.DeviceSnapshot.{DeviceSnapshot}
-use Rattle.models.specs.declared.OptionDevice.the-variants as device
-use Rattle.models.specs.declared.TransferType.{TransferType}
+use Rattle.models.specs.declared.{DeviceSnapshot.DeviceSnapshot, OptionDevice.OptionDevice, TransferType.TransferType}
 use Rattle.models.specs.declared.TransferType.the-variants.{Control, Bulk, Interrupt, Isochronous}
 use Rattle.bus.specs.Layout.{readDevice, deviceRecord}
 
@@ -16,7 +14,7 @@ abbrev recordWith : DeviceSnapshot → ℕ → List ℕ
 recordWith d w = 1 ∷ d .id .session ∷ d .id .generation ∷ d .id .slot ∷ d .port .session ∷ d .port .generation ∷ d .port .number ∷ w ∷ []
 
 pub device-encoded : (d : DeviceSnapshot) (w : ℕ) → d .id .slot < 256 → d .port .number < 256 → readDeviceState w ≡ d .state → w ≡ deviceStateWord (d .state)
-    → (readDevice (recordWith d w) ≡ device.Some d) × (recordWith d w ≡ deviceRecord d)
+    → (readDevice (recordWith d w) ≡ OptionDevice.Some d) × (recordWith d w ≡ deviceRecord d)
 unfolding readDevice deviceRecord
 device-encoded d w h g e f = (rw (low 8 h, low 8 g, e), rw f)
 

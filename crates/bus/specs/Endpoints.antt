@@ -8,9 +8,7 @@ use Rattle.chain.specs.Chain.{_if_else_}
 use Rattle.chain.specs.After.{After, after}
 use Rattle.chain.specs.Lists.{anyIn}
 use Rattle.models.specs.Refusals.{refusalOf}
-use Rattle.models.specs.declared.TransferType.{TransferType}
-use Rattle.models.specs.declared.Verdict.{Verdict}
-use Rattle.models.specs.declared.Verdict.the-variants as verdict
+use Rattle.models.specs.declared.{TransferType.TransferType, Verdict.Verdict}
 use Rattle.bus.specs.Layout.{endpointWord}
 use Rattle.bus.specs.Tables.{Bus, endpointsAt, putEndpoints}
 
@@ -21,5 +19,5 @@ hasEndpoint slot address type b = anyIn (eqb (endpointWord address type)) (endpo
 -- 53: more than 30
 unfoldable pub setEndpoints : ℕ → List ℕ → Bus → After Verdict Bus
 setEndpoints slot l b =
-    after (verdict.Refused (refusalOf 53)) b if ltb 30 (length l) else
-    after verdict.Pass (putEndpoints b slot l)
+    after (Verdict.Refused (refusalOf 53)) b if ltb 30 (length l) else
+    after Verdict.Pass (putEndpoints b slot l)

@@ -7,11 +7,8 @@ use lib.ListN.{getD, take, drop}
 use lib.Dec.{eqb}
 use Rattle.words.specs.Words.{readFlag, flagWord, readOptionU32, optionU32Word}
 use Rattle.models.specs.Codes.{readDeviceState, deviceStateWord, transferWord}
-use Rattle.models.specs.declared.DeviceSnapshot.{DeviceSnapshot}
-use Rattle.models.specs.declared.OptionDevice.{OptionDevice}
-use Rattle.models.specs.declared.OptionDevice.the-variants as device
-use Rattle.models.specs.declared.TransferType.{TransferType}
-use Rattle.bus.specs.declared.PortRow.{PortRow}
+use Rattle.models.specs.declared.{DeviceSnapshot.DeviceSnapshot, OptionDevice.OptionDevice, TransferType.TransferType}
+use Rattle.bus.specs.declared.{PortRow.PortRow}
 
 -- the words of a record of each table, and where the table starts
 abbrev pub portWords : ℕ
@@ -46,8 +43,8 @@ portRecord r = r .generation ∷ optionU32Word (r .reading) ∷ []
 -- a device row: absent, or the device
 unfoldable pub readDevice : List ℕ → OptionDevice
 readDevice w =
-    cond (eqb (getD w 0 0) 0) device.None
-    (device.Some (record {
+    cond (eqb (getD w 0 0) 0) OptionDevice.None
+    (OptionDevice.Some (record {
       id = record { session = getD w 1 0; generation = getD w 2 0; slot = getD w 3 0 % 2 ^ 8 };
       port = record { session = getD w 4 0; generation = getD w 5 0; number = getD w 6 0 % 2 ^ 8 };
       state = readDeviceState (getD w 7 0);

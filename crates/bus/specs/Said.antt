@@ -3,19 +3,16 @@ use Prim.Native.Nat.{ℕ}
 use mathlib.Core.List.{List, [], _∷_}
 use Rattle.models.specs.Said.{Said, says, refused}
 use Rattle.bus.specs.Layout.{portRecord}
-use Rattle.bus.specs.declared.ports.Observed.{Observed}
-use Rattle.bus.specs.declared.ports.Observed.the-variants as observed
-use Rattle.bus.specs.declared.ports.PortChecked.{PortChecked}
-use Rattle.bus.specs.declared.ports.PortChecked.the-variants as checked
+use Rattle.bus.specs.declared.{ports.Observed.Observed, ports.PortChecked.PortChecked}
 
 abbrev pub portSaid : PortChecked → Said
-portSaid (checked.Refused r) = refused r
-portSaid (checked.Read raw) = says (raw ∷ [])
+portSaid (PortChecked.Refused r) = refused r
+portSaid (PortChecked.Read raw) = says (raw ∷ [])
 
 -- the row as it is then
 abbrev pub observedSaid : Observed → Said
-observedSaid (observed.Refused r) = refused r
-observedSaid (observed.To row) = says (portRecord row)
+observedSaid (Observed.Refused r) = refused r
+observedSaid (Observed.To row) = says (portRecord row)
 
 -- a port row that is placed, and an endpoint list
 abbrev pub placedPortNumbers : List ℕ

@@ -5,12 +5,10 @@ use mathlib.Core.List.{List, [], _∷_, _++_}
 use lib.ListN.{length, getD, set, replicate}
 use Rattle.words.specs.Words.{flagWord}
 use Rattle.words.specs.Records.{splice, chunks}
-use Rattle.words.specs.declared.OptionU32.the-variants as u32
-use Rattle.models.specs.declared.DeviceSnapshot.{DeviceSnapshot}
-use Rattle.models.specs.declared.OptionDevice.{OptionDevice}
-use Rattle.models.specs.declared.OptionDevice.the-variants as device
+use Rattle.words.specs.declared.{OptionU32.OptionU32}
+use Rattle.models.specs.declared.{DeviceSnapshot.DeviceSnapshot, OptionDevice.OptionDevice}
 use Rattle.bus.specs.Layout.{portWords, deviceWords, listWords, devicesAt, listsAt, marksAt, busWords, readPort, portRecord, readDevice, deviceRecord, readEndpoints, readMark}
-use Rattle.bus.specs.declared.PortRow.{PortRow}
+use Rattle.bus.specs.declared.{PortRow.PortRow}
 
 pub record Bus : Type 0 where
   pub words : List ℕ
@@ -30,7 +28,7 @@ busOf l = record {
 
 -- a port at opening
 abbrev pub newPort : PortRow
-newPort = record { generation = 1; reading = u32.None }
+newPort = record { generation = 1; reading = OptionU32.None }
 
 -- ports are numbered from 1
 abbrev pub portIndex : ℕ → ℕ
@@ -41,7 +39,7 @@ abbrev pub portAt : Bus → ℕ → PortRow
 portAt b number = getD (b .ports) (portIndex number) newPort
 
 abbrev pub deviceAt : Bus → ℕ → OptionDevice
-deviceAt b slot = getD (b .devices) slot device.None
+deviceAt b slot = getD (b .devices) slot OptionDevice.None
 
 abbrev pub endpointsAt : Bus → ℕ → List ℕ
 endpointsAt b slot = getD (b .lists) slot []
@@ -63,7 +61,7 @@ unfoldable pub putDevice : Bus → DeviceSnapshot → Bus
 putDevice b d = record {
   words = splice (devicesAt + d .id .slot * deviceWords) (deviceRecord d) (b .words);
   ports = b .ports;
-  devices = set (b .devices) (d .id .slot) (device.Some d);
+  devices = set (b .devices) (d .id .slot) (OptionDevice.Some d);
   lists = b .lists;
   marks = b .marks;
 }
@@ -97,7 +95,7 @@ unfoldable pub cleared : Bus
 cleared = record {
   words = newPorts 255 ++ replicate (busWords - devicesAt) 0;
   ports = replicate 255 newPort;
-  devices = replicate 256 device.None;
+  devices = replicate 256 OptionDevice.None;
   lists = replicate 256 [];
   marks = replicate 256 false;
 }

@@ -16,7 +16,7 @@ use Rattle.words.proofs.Records.{part-length}
 use Rattle.models.specs.Values.{requestIdWords}
 use Rattle.scope.specs.Returned.{completionWords, readOptionError, readCompletion}
 use Rattle.session_words.specs.State.{readRequestId}
-use Rattle.session.specs.declared.RecoveryKind.the-variants as kind
+use Rattle.session.specs.declared.{RecoveryKind.RecoveryKind}
 use Rattle.calls.specs.Calls.{Call, Open, Place, Device, Port, Endpoints, Reconcile, Move, Acquire, Initialize, Close, Begin, Submit, SubmitPlan, Recover, Reply, ToSubmit, ToPoll, ToRecovery, Change, Cancel, Timeout, Read, Reports, HeldCount, HeldBytes}
 use Rattle.call_words.specs.Parts.{isZero, isFlag, isByte, areZero, byFlag, zeros, backendCompletionWords, isError, isOptionError, readReading, isCompletion}
 use Rattle.call_words.specs.Form.{has, isOpenCall, isSetDevice, isSetPort, isSetEndpoints, isSetReconcile, isAcquire, isInitialize, isClose, isSubmit, isPlan, isSubmitReply, isPollReply, isReports, isReset, isRecovered, isRecoveryReply, isPlacing, isMoving, isSubmission, isReplying, isReporting, isRecoveryCall, isCall}
@@ -188,7 +188,7 @@ module _ (w : List ℕ) where
       let h = all 4 17 (p .0) e in
       by-flag (getD w 1 0) (areZero w 2 3) true (p .1) (λ k z. rw k (rw (k, zeros-words (after 2) 3 z) at h)) (λ k z. rw k (rw k at h))
 
-  reset-says : getD w 0 0 ≡ 23 → isReset w ≡ true → Says (Begin (Recover (readRequestId w 1) (kind.Reset (readFlag (getD w 4 0)))))
+  reset-says : getD w 0 0 ≡ 23 → isReset w ≡ true → Says (Begin (Recover (readRequestId w 1) (RecoveryKind.Reset (readFlag (getD w 4 0)))))
   unfolding callWords
   reset-says e t = let p = reset-told w t in rw (flag-word (getD w 4 0) (p .1)) (all 4 23 (p .0) e)
 

@@ -12,13 +12,13 @@ use borrow.Author.Tests.{eqb-true, eqb-false, leb-true}
 use Rattle.chain.proofs.Chain.{caseB, both}
 use Rattle.words.specs.Records.{tab}
 use Rattle.words.specs.Words.{readFlag, flagWord, optionU64Words, readOptionU32, optionU32Word, readOptionU64}
-use Rattle.words.specs.declared.OptionWords.{OptionWords}
+use Rattle.words.specs.declared.{OptionWords.OptionWords}
 use Rattle.words.proofs.Options.{low}
 use Rattle.words.proofs.Signed.{option-i32-word}
 use Rattle.words.proofs.Records.{getD-tab, tab-all, tab-same, tab-list}
 use Rattle.models.specs.Codes.{readCategory, categoryWord, readTransfer, transferWord, readDirection, directionWord, readProfile, profileWord, readDeviceState, deviceStateWord}
 use Rattle.models.specs.Values.{setupWords, errorWords, optionErrorWords}
-use Rattle.models.specs.declared.SetupWords.{SetupWords}
+use Rattle.models.specs.declared.{SetupWords.SetupWords}
 use Rattle.scope.specs.Returned.{readError, readOptionError, readCompletion}
 use Rattle.call_words.proofs.Told.{and4, and5}
 use Rattle.call_words.specs.Parts.{areZero, byFlag, zeros, isOptionNumber, isError, isOptionError, isSetup, isOptionSetup, readOptionSetup, isReading, readReading, readingWords, isCompletion, backendCompletionWords, isStage, readStage, stageWords, readStatus, statusWord}

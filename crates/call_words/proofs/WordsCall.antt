@@ -8,29 +8,17 @@ use lib.Seq.{drop-drop, take-at, drop-at}
 use Rattle.chain.specs.Chain.{_if_else_}
 use Rattle.words.specs.Records.{tab, part}
 use Rattle.words.specs.Words.{flagWord, readOptionU64, optionU64Words}
-use Rattle.words.specs.declared.OptionU64.{OptionU64}
-use Rattle.words.specs.declared.OptionU64.the-variants as u64
+use Rattle.words.specs.declared.{OptionU64.OptionU64}
 use Rattle.words.proofs.Options.{low, flag-back}
 use Rattle.models.specs.Values.{optionErrorWords}
-use Rattle.models.specs.declared.Direction.the-variants as direction
-use Rattle.models.specs.declared.OptionDirection.{OptionDirection}
-use Rattle.models.specs.declared.OptionDirection.the-variants as status
-use Rattle.models.specs.declared.OptionError.{OptionError}
-use Rattle.models.specs.declared.OptionError.the-variants as error
-use Rattle.models.specs.declared.OptionStage.{OptionStage}
-use Rattle.models.specs.declared.OptionStage.the-variants as stage
-use Rattle.models.specs.declared.PortReading.{PortReading}
-use Rattle.models.specs.declared.PortReading.the-variants as reading
-use Rattle.models.specs.declared.RequestId.{RequestId}
+use Rattle.models.specs.declared.{Direction.Direction, OptionDirection.OptionDirection, OptionError.OptionError, OptionStage.OptionStage, PortReading.PortReading, RequestId.RequestId}
 use Rattle.models.proofs.Enums.{transfer-back, direction-back, profile-back, device-state-back}
 use Rattle.scope.specs.Returned.{completionWords}
-use Rattle.session.specs.declared.RecoveryKind.the-variants as kind
-use Rattle.session.specs.declared.lifecycle.AcquireReply.the-variants as acquire
-use Rattle.reports.specs.declared.OptionId.the-variants as option
-use Rattle.polls.specs.declared.PollReply.the-variants as poll
-use Rattle.submissions.specs.declared.SubmitReply.the-variants as submit
-use Rattle.recovery.specs.declared.RecoveryReply.{RecoveryReply}
-use Rattle.recovery.specs.declared.RecoveryReply.the-variants as recovery
+use Rattle.session.specs.declared.{RecoveryKind.RecoveryKind, lifecycle.AcquireReply.AcquireReply}
+use Rattle.reports.specs.declared.{OptionId.OptionId}
+use Rattle.polls.specs.declared.{PollReply.PollReply}
+use Rattle.submissions.specs.declared.{SubmitReply.SubmitReply}
+use Rattle.recovery.specs.declared.{RecoveryReply.RecoveryReply}
 use Rattle.calls.specs.Calls.{Call, Open, Placing, Place, Device, Port, Endpoints, Reconcile, Moving, Move, Acquire, Initialize, Close, Beginning, Begin, Submit, SubmitPlan, Poll, Recover, Replying, Reply, ToSubmit, ToPoll, ToRecovery, Changing, Change, Cancel, Timeout, Reclaim, Withdraw, Reading, Read, Status, Reports, CountReports, CompletedBytes, HeldCount, HeldBytes}
 use Rattle.calls.proofs.Fits.{u32-back, error-back, option-error-back, setup-back}
 use Rattle.call_words.specs.Parts.{readReading, readingWords, readStage, stageWords, readStatus, statusWord}
@@ -41,42 +29,42 @@ use Rattle.call_words.specs.Fits.{ReadingFits, ReplyFits, PlacingFits, M
 
 -- ---- parts; a `..-shape` says how many words there are
 number-back : (o : OptionU64) → readOptionU64 (optionU64Words o .present) (optionU64Words o .value) ≡ o
-number-back u64.None = refl
-number-back (u64.Some v) = refl
+number-back OptionU64.None = refl
+number-back (OptionU64.Some v) = refl
 
 reading-back : (r : PortReading) → ReadingFits r → readReading (readingWords r) 0 ≡ r
-reading-back (reading.Word v) h = rw (low 32 h)
-reading-back (reading.Error e) h = ap reading.Error (error-back e h)
+reading-back (PortReading.Word v) h = rw (low 32 h)
+reading-back (PortReading.Error e) h = ap PortReading.Error (error-back e h)
 
 reading-shape : (r : PortReading) → readingWords r ≡ tab (λ (k : ℕ). getD (readingWords r) k 0) 6
-reading-shape (reading.Word v) = refl
-reading-shape (reading.Error e) = refl
+reading-shape (PortReading.Word v) = refl
+reading-shape (PortReading.Error e) = refl
 
 status-back : (x : OptionDirection) → readStatus (statusWord x) ≡ x
-status-back status.None = refl
-status-back (status.Some direction.In) = refl
-status-back (status.Some direction.Out) = refl
+status-back OptionDirection.None = refl
+status-back (OptionDirection.Some Direction.In) = refl
+status-back (OptionDirection.Some Direction.Out) = refl
 
 stage-back : (o : OptionStage) → readStage (stageWords o) 0 ≡ o
-stage-back stage.None = refl
-stage-back (stage.Some x) = rw (direction-back (x .direction))
+stage-back OptionStage.None = refl
+stage-back (OptionStage.Some x) = rw (direction-back (x .direction))
 
 stage-shape : (o : OptionStage) → stageWords o ≡ tab (λ (k : ℕ). getD (stageWords o) k 0) 3
-stage-shape stage.None = refl
-stage-shape (stage.Some x) = refl
+stage-shape OptionStage.None = refl
+stage-shape (OptionStage.Some x) = refl
 
 option-error-shape : (o : OptionError) → optionErrorWords o ≡ tab (λ (k : ℕ). getD (optionErrorWords o) k 0) 5
-option-error-shape error.None = refl
-option-error-shape (error.Some e) = refl
+option-error-shape OptionError.None = refl
+option-error-shape (OptionError.Some e) = refl
 
 recovery-back : (r : RecoveryReply) → ReplyFits r → readRecoveryReply (24 ∷ recoveryReplyWords r) ≡ r
 unfolding readRecoveryReply
-recovery-back (recovery.Done x) h = rw (flag-back (x .«restart_ready»), option-error-back (x .error) h)
-recovery-back (recovery.Error e) h = ap recovery.Error (error-back e h)
+recovery-back (RecoveryReply.Done x) h = rw (flag-back (x .«restart_ready»), option-error-back (x .error) h)
+recovery-back (RecoveryReply.Error e) h = ap RecoveryReply.Error (error-back e h)
 
 recovery-shape : (r : RecoveryReply) → recoveryReplyWords r ≡ tab (λ (k : ℕ). getD (recoveryReplyWords r) k 0) 7
-recovery-shape (recovery.Done x) = ap (λ (l : List ℕ). 0 ∷ flagWord (x .«restart_ready») ∷ l) (option-error-shape (x .error))
-recovery-shape (recovery.Error e) = refl
+recovery-shape (RecoveryReply.Done x) = ap (λ (l : List ℕ). 0 ∷ flagWord (x .«restart_ready») ∷ l) (option-error-shape (x .error))
+recovery-shape (RecoveryReply.Error e) = refl
 
 -- the lists of a recovery's reply
 module _ (w a b c : List ℕ) (d : drop 10 w ≡ (a ++ b) ++ c) (m : ℕ) (em : m * completionWords ≡ length b) where
@@ -107,8 +95,8 @@ place-back (Reconcile slot mark) h = rw (low 8 h, flag-back mark)
 
 move-back : (m : Moving) → MovingFits m → Back (Move m)
 unfolding readCall readMoving readAcquireReply callWords _if_else_
-move-back (Acquire acquire.Acquired) h = refl
-move-back (Acquire (acquire.Failed e retained)) h = rw (error-back e h, flag-back retained)
+move-back (Acquire AcquireReply.Acquired) h = refl
+move-back (Acquire (AcquireReply.Failed e retained)) h = rw (error-back e h, flag-back retained)
 move-back (Initialize e) h = rw (option-error-back e h)
 move-back (Close fresh e) h = rw (number-back fresh, option-error-back e h)
 
@@ -145,16 +133,16 @@ begin-back (SubmitPlan x bytes r) (p, f) =
       reading-back r f,
     ))
 begin-back (Poll id) h = refl
-begin-back (Recover id kind.Abort) h = refl
-begin-back (Recover id (kind.Reset preserve)) h = rw (flag-back preserve)
+begin-back (Recover id RecoveryKind.Abort) h = refl
+begin-back (Recover id (RecoveryKind.Reset preserve)) h = rw (flag-back preserve)
 
 reply-back : (r : Replying) → ReplyingFits r → Back (Reply r)
 unfolding readCall readReplying readRecovering readSubmitReply readPollReply readRecoveryReply readCompleted readCompletions readAborted callWords _if_else_
-reply-back (ToSubmit (submit.Token x)) h = refl
-reply-back (ToSubmit (submit.Error e)) h = rw (error-back e h)
-reply-back (ToPoll poll.Nothing bytes) h = refl
-reply-back (ToPoll (poll.Error e) bytes) h = rw (error-back e h)
-reply-back (ToPoll (poll.Completion x) bytes) (h, k) =
+reply-back (ToSubmit (SubmitReply.Token x)) h = refl
+reply-back (ToSubmit (SubmitReply.Error e)) h = rw (error-back e h)
+reply-back (ToPoll PollReply.Nothing bytes) h = refl
+reply-back (ToPoll (PollReply.Error e) bytes) h = rw (error-back e h)
+reply-back (ToPoll (PollReply.Completion x) bytes) (h, k) =
     rw (option-error-shape (x .error))
     (rw (
       number-back (x .«actual_length»),
@@ -184,8 +172,8 @@ change-back id Withdraw = refl
 read-back : (r : Reading) → Back (Read r)
 unfolding readCall readReporting readOptionId callWords _if_else_
 read-back (Status id) = refl
-read-back (Reports option.None) = refl
-read-back (Reports (option.Some id)) = refl
+read-back (Reports OptionId.None) = refl
+read-back (Reports (OptionId.Some id)) = refl
 read-back CountReports = refl
 read-back (CompletedBytes id) = refl
 read-back HeldCount = refl

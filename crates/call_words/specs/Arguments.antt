@@ -7,25 +7,17 @@ use lib.Dec.{eqb}
 use Rattle.words.specs.Words.{readFlag, readOptionU32, readOptionU64}
 use Rattle.words.specs.Records.{part}
 use Rattle.models.specs.Codes.{readTransfer, readDirection, readProfile, readDeviceState}
-use Rattle.models.specs.declared.ControlPlan.{ControlPlan}
-use Rattle.models.specs.declared.DeviceSnapshot.{DeviceSnapshot}
-use Rattle.models.specs.declared.RequestSpec.{RequestSpec}
-use Rattle.bus.specs.declared.PortRow.{PortRow}
-use Rattle.targets.specs.declared.Readings.{Readings}
-use Rattle.session.specs.declared.lifecycle.AcquireReply.{AcquireReply}
-use Rattle.session.specs.declared.lifecycle.AcquireReply.the-variants as acquire
-use Rattle.session.specs.declared.lifecycle.Opening.{Opening}
-use Rattle.reports.specs.declared.OptionId.{OptionId}
-use Rattle.reports.specs.declared.OptionId.the-variants as option
-use Rattle.polls.specs.declared.PollReply.{PollReply}
-use Rattle.polls.specs.declared.PollReply.the-variants as poll
+use Rattle.models.specs.declared.{ControlPlan.ControlPlan, DeviceSnapshot.DeviceSnapshot, RequestSpec.RequestSpec}
+use Rattle.bus.specs.declared.{PortRow.PortRow}
+use Rattle.targets.specs.declared.{Readings.Readings}
+use Rattle.session.specs.declared.{lifecycle.AcquireReply.AcquireReply, lifecycle.Opening.Opening}
+use Rattle.reports.specs.declared.{OptionId.OptionId}
+use Rattle.polls.specs.declared.{PollReply.PollReply}
 use Rattle.submissions.specs.Submit.{Request, request}
-use Rattle.submissions.specs.declared.SubmitReply.{SubmitReply}
-use Rattle.submissions.specs.declared.SubmitReply.the-variants as submit
+use Rattle.submissions.specs.declared.{SubmitReply.SubmitReply}
 use Rattle.scope.specs.Returned.{completionWords, readError, readOptionError, readCompletion}
 use Rattle.recovery.specs.RecoveryReply.{ReplyLists, replyLists}
-use Rattle.recovery.specs.declared.RecoveryReply.{RecoveryReply}
-use Rattle.recovery.specs.declared.RecoveryReply.the-variants as recovery
+use Rattle.recovery.specs.declared.{RecoveryReply.RecoveryReply}
 use Rattle.session_words.specs.State.{readDeviceId, readRequestId}
 use Rattle.call_words.specs.Parts.{readPortId, readSetup, readOptionSetup, readReading, readStage, readStatus}
 
@@ -46,7 +38,7 @@ unfoldable pub readPortRow : List ℕ → PortRow
 readPortRow w = record { generation = getD w 2 0; reading = readOptionU32 (getD w 3 0) }
 
 unfoldable pub readAcquireReply : List ℕ → AcquireReply
-readAcquireReply w = cond (eqb (getD w 1 0) 0) acquire.Acquired (acquire.Failed (readError w 3) (readFlag (getD w 2 0)))
+readAcquireReply w = cond (eqb (getD w 1 0) 0) AcquireReply.Acquired (AcquireReply.Failed (readError w 3) (readFlag (getD w 2 0)))
 
 unfoldable pub readSpec : List ℕ → RequestSpec
 readSpec w = record {
@@ -74,22 +66,22 @@ readPlan w = record {
 }
 
 unfoldable pub readSubmitReply : List ℕ → SubmitReply
-readSubmitReply w = cond (eqb (getD w 1 0) 0) (submit.Token (getD w 2 0)) (submit.Error (readError w 3))
+readSubmitReply w = cond (eqb (getD w 1 0) 0) (SubmitReply.Token (getD w 2 0)) (SubmitReply.Error (readError w 3))
 
 -- 0 nothing came, 1 an error, 2 a completion
 unfoldable pub readPollReply : List ℕ → PollReply
 readPollReply w =
-    cond (eqb (getD w 1 0) 0) poll.Nothing
-    (cond (eqb (getD w 1 0) 1) (poll.Error (readError w 3))
-    (poll.Completion (readCompletion (drop 2 w))))
+    cond (eqb (getD w 1 0) 0) PollReply.Nothing
+    (cond (eqb (getD w 1 0) 1) (PollReply.Error (readError w 3))
+    (PollReply.Completion (readCompletion (drop 2 w))))
 
 unfoldable pub readOptionId : List ℕ → OptionId
-readOptionId w = cond (eqb (getD w 1 0) 0) option.None (option.Some (readRequestId w 2))
+readOptionId w = cond (eqb (getD w 1 0) 0) OptionId.None (OptionId.Some (readRequestId w 2))
 
 -- 0: whether the endpoint is ready, and an error; 1: the backend's error
 unfoldable pub readRecoveryReply : List ℕ → RecoveryReply
 readRecoveryReply w =
-    cond (eqb (getD w 1 0) 0) (recovery.Done (record { «restart_ready» = readFlag (getD w 2 0); error = readOptionError w 3 })) (recovery.Error (readError w 4))
+    cond (eqb (getD w 1 0) 0) (RecoveryReply.Done (record { «restart_ready» = readFlag (getD w 2 0); error = readOptionError w 3 })) (RecoveryReply.Error (readError w 4))
 
 -- its lists, from word 10 on: tokens of completed requests, as many as word 8 says, their completions, as many as word 9 says, and
 -- tokens of aborted requests

@@ -5,7 +5,7 @@ use lib.ListN.{getD, drop}
 use lib.Dec.{eqb, leb}
 use Rattle.chain.specs.Chain.{_if_else_}
 use Rattle.words.specs.Words.{readFlag, readOptionU64}
-use Rattle.session.specs.declared.RecoveryKind.the-variants as kind
+use Rattle.session.specs.declared.{RecoveryKind.RecoveryKind}
 use Rattle.scope.specs.Returned.{readOptionError}
 use Rattle.calls.specs.Calls.{Call, Open, Place, Device, Port, Endpoints, Reconcile, Move, Acquire, Initialize, Close, Begin, Submit, SubmitPlan, Poll, Recover, Reply, ToSubmit, ToPoll, ToRecovery, Change, Cancel, Timeout, Reclaim, Withdraw, Read, Status, Reports, CountReports, CompletedBytes, HeldCount, HeldBytes}
 use Rattle.session_words.specs.State.{readRequestId}
@@ -61,8 +61,8 @@ readReporting n w =
 -- 22 to 24
 unfoldable pub readRecovering : ℕ → List ℕ → List ℕ → Call
 readRecovering n w bytes =
-    Begin (Recover (readRequestId w 1) kind.Abort) if eqb n 22 else
-    Begin (Recover (readRequestId w 1) (kind.Reset (readFlag (getD w 4 0)))) if eqb n 23 else
+    Begin (Recover (readRequestId w 1) RecoveryKind.Abort) if eqb n 22 else
+    Begin (Recover (readRequestId w 1) (RecoveryKind.Reset (readFlag (getD w 4 0)))) if eqb n 23 else
     Reply (ToRecovery (readRecoveryReply w) (readLists w bytes))
 
 -- past 24 there is 29 alone: with another number words are no call

@@ -5,21 +5,13 @@ use lib.ListN.{length}
 use Rattle.words.specs.Words.{flagWord, optionU32Word}
 use Rattle.models.specs.Codes.{transferWord, directionWord, profileWord}
 use Rattle.models.specs.Values.{errorWords, optionErrorWords, requestIdWords, deviceIdWords, snapshotWords}
-use Rattle.models.specs.declared.ControlPlan.{ControlPlan}
-use Rattle.models.specs.declared.RequestSpec.{RequestSpec}
-use Rattle.session.specs.declared.RecoveryKind.the-variants as kind
-use Rattle.session.specs.declared.lifecycle.AcquireReply.{AcquireReply}
-use Rattle.session.specs.declared.lifecycle.AcquireReply.the-variants as acquire
-use Rattle.session.specs.declared.lifecycle.Opening.{Opening}
-use Rattle.reports.specs.declared.OptionId.{OptionId}
-use Rattle.reports.specs.declared.OptionId.the-variants as option
-use Rattle.polls.specs.declared.PollReply.{PollReply}
-use Rattle.polls.specs.declared.PollReply.the-variants as poll
-use Rattle.submissions.specs.declared.SubmitReply.{SubmitReply}
-use Rattle.submissions.specs.declared.SubmitReply.the-variants as submit
+use Rattle.models.specs.declared.{ControlPlan.ControlPlan, RequestSpec.RequestSpec}
+use Rattle.session.specs.declared.{RecoveryKind.RecoveryKind, lifecycle.AcquireReply.AcquireReply, lifecycle.Opening.Opening}
+use Rattle.reports.specs.declared.{OptionId.OptionId}
+use Rattle.polls.specs.declared.{PollReply.PollReply}
+use Rattle.submissions.specs.declared.{SubmitReply.SubmitReply}
 use Rattle.scope.specs.Returned.{completionWords}
-use Rattle.recovery.specs.declared.RecoveryReply.{RecoveryReply}
-use Rattle.recovery.specs.declared.RecoveryReply.the-variants as recovery
+use Rattle.recovery.specs.declared.{RecoveryReply.RecoveryReply}
 use Rattle.calls.specs.Calls.{Call, Open, Placing, Place, Device, Port, Endpoints, Reconcile, Moving, Move, Acquire, Initialize, Close, Beginning, Begin, Submit, SubmitPlan, Poll, Recover, Replying, Reply, ToSubmit, ToPoll, ToRecovery, Changing, Change, Cancel, Timeout, Reclaim, Withdraw, Reading, Read, Status, Reports, CountReports, CompletedBytes, HeldCount, HeldBytes}
 use Rattle.call_words.specs.Parts.{zeros, optionNumberWords, packetWords, optionSetupWords, readingWords, backendCompletionWords, stageWords, statusWord}
 
@@ -31,8 +23,8 @@ openingWords o =
     ++ flagWord (o .«has_ports») ∷ o .«port_count» ∷ o .size .«row_count» ∷ o .size .«row_bytes» ∷ []
 
 abbrev pub acquireWords : AcquireReply → List ℕ
-acquireWords acquire.Acquired = zeros 6
-acquireWords (acquire.Failed e retained) = 1 ∷ flagWord retained ∷ errorWords e
+acquireWords AcquireReply.Acquired = zeros 6
+acquireWords (AcquireReply.Failed e retained) = 1 ∷ flagWord retained ∷ errorWords e
 
 abbrev pub specWords : RequestSpec → List ℕ
 specWords q =
@@ -44,21 +36,21 @@ controlPlanWords p =
     ++ stageWords (p .«data_stage») ++ statusWord (p .«status_direction») ∷ []
 
 abbrev pub submitReplyWords : SubmitReply → List ℕ
-submitReplyWords (submit.Token t) = 0 ∷ t ∷ zeros 4
-submitReplyWords (submit.Error e) = 1 ∷ 0 ∷ errorWords e
+submitReplyWords (SubmitReply.Token t) = 0 ∷ t ∷ zeros 4
+submitReplyWords (SubmitReply.Error e) = 1 ∷ 0 ∷ errorWords e
 
 abbrev pub pollReplyWords : PollReply → List ℕ
-pollReplyWords poll.Nothing = 0 ∷ zeros 10
-pollReplyWords (poll.Error e) = 1 ∷ 0 ∷ errorWords e ++ zeros 5
-pollReplyWords (poll.Completion x) = 2 ∷ backendCompletionWords x
+pollReplyWords PollReply.Nothing = 0 ∷ zeros 10
+pollReplyWords (PollReply.Error e) = 1 ∷ 0 ∷ errorWords e ++ zeros 5
+pollReplyWords (PollReply.Completion x) = 2 ∷ backendCompletionWords x
 
 abbrev pub optionIdWords : OptionId → List ℕ
-optionIdWords option.None = zeros 4
-optionIdWords (option.Some id) = 1 ∷ requestIdWords id
+optionIdWords OptionId.None = zeros 4
+optionIdWords (OptionId.Some id) = 1 ∷ requestIdWords id
 
 abbrev pub recoveryReplyWords : RecoveryReply → List ℕ
-recoveryReplyWords (recovery.Done x) = 0 ∷ flagWord (x .«restart_ready») ∷ optionErrorWords (x .error)
-recoveryReplyWords (recovery.Error e) = 1 ∷ 0 ∷ 0 ∷ errorWords e
+recoveryReplyWords (RecoveryReply.Done x) = 0 ∷ flagWord (x .«restart_ready») ∷ optionErrorWords (x .error)
+recoveryReplyWords (RecoveryReply.Error e) = 1 ∷ 0 ∷ 0 ∷ errorWords e
 
 -- ---- by group
 
@@ -78,8 +70,8 @@ beginningWords (Submit packets q) =
     8 ∷ specWords (q .spec) ++ readingWords (q .readings .first) ++ readingWords (q .readings .second) ++ flagWord (q .given) ∷ packets
 beginningWords (SubmitPlan p bytes reading) = 9 ∷ controlPlanWords p ++ readingWords reading
 beginningWords (Poll id) = 11 ∷ requestIdWords id
-beginningWords (Recover id kind.Abort) = 22 ∷ requestIdWords id
-beginningWords (Recover id (kind.Reset preserve)) = 23 ∷ requestIdWords id ++ flagWord preserve ∷ []
+beginningWords (Recover id RecoveryKind.Abort) = 22 ∷ requestIdWords id
+beginningWords (Recover id (RecoveryKind.Reset preserve)) = 23 ∷ requestIdWords id ++ flagWord preserve ∷ []
 
 abbrev pub replyingWords : Replying → List ℕ
 replyingWords (ToSubmit r) = 10 ∷ submitReplyWords r

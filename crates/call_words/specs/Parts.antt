@@ -6,19 +6,10 @@ use mathlib.Core.List.{List, [], _∷_, _++_}
 use lib.ListN.{getD, replicate}
 use lib.Dec.{eqb, leb}
 use Rattle.words.specs.Words.{flagWord, optionU32Word, optionU64Words}
-use Rattle.words.specs.declared.OptionU64.{OptionU64}
+use Rattle.words.specs.declared.{OptionU64.OptionU64}
 use Rattle.models.specs.Codes.{readDirection, directionWord}
 use Rattle.models.specs.Values.{setupWords, setupTail, errorWords, optionErrorWords}
-use Rattle.models.specs.declared.BackendCompletion.{BackendCompletion}
-use Rattle.models.specs.declared.OptionDirection.{OptionDirection}
-use Rattle.models.specs.declared.OptionDirection.the-variants as direction
-use Rattle.models.specs.declared.OptionSetup.{OptionSetup}
-use Rattle.models.specs.declared.OptionStage.{OptionStage}
-use Rattle.models.specs.declared.OptionStage.the-variants as stage
-use Rattle.models.specs.declared.PortId.{PortId}
-use Rattle.models.specs.declared.PortReading.{PortReading}
-use Rattle.models.specs.declared.PortReading.the-variants as reading
-use Rattle.models.specs.declared.SetupPacket.{SetupPacket}
+use Rattle.models.specs.declared.{BackendCompletion.BackendCompletion, OptionDirection.OptionDirection, OptionSetup.OptionSetup, OptionStage.OptionStage, PortId.PortId, PortReading.PortReading, SetupPacket.SetupPacket}
 use Rattle.rows.specs.Codec.{readSetupWords}
 use Rattle.scope.specs.Returned.{readError}
 
@@ -116,11 +107,11 @@ isReading w at =
     byFlag (getD w at 0) (atMost w (at + 1) (2 ^ 32 - 1) && areZero w (at + 2) 4) (isZero w (at + 1) && isError w (at + 2))
 
 abbrev pub readReading : List ℕ → ℕ → PortReading
-readReading w at = cond (eqb (getD w at 0) 0) (reading.Word (getD w (at + 1) 0 % 2 ^ 32)) (reading.Error (readError w (at + 2)))
+readReading w at = cond (eqb (getD w at 0) 0) (PortReading.Word (getD w (at + 1) 0 % 2 ^ 32)) (PortReading.Error (readError w (at + 2)))
 
 abbrev pub readingWords : PortReading → List ℕ
-readingWords (reading.Word v) = 0 ∷ v ∷ zeros 4
-readingWords (reading.Error e) = 1 ∷ 0 ∷ errorWords e
+readingWords (PortReading.Word v) = 0 ∷ v ∷ zeros 4
+readingWords (PortReading.Error e) = 1 ∷ 0 ∷ errorWords e
 
 -- ---- a completion, ten: error (optional), length (optional), code, whether it brings data, quiescent
 
@@ -140,16 +131,16 @@ isStage w at = byFlag (getD w at 0) (areZero w (at + 1) 2) (isFlag w (at + 1))
 
 abbrev pub readStage : List ℕ → ℕ → OptionStage
 readStage w at =
-    cond (eqb (getD w at 0) 0) stage.None (stage.Some (record { direction = readDirection (getD w (at + 1) 0); length = getD w (at + 2) 0 }))
+    cond (eqb (getD w at 0) 0) OptionStage.None (OptionStage.Some (record { direction = readDirection (getD w (at + 1) 0); length = getD w (at + 2) 0 }))
 
 abbrev pub stageWords : OptionStage → List ℕ
-stageWords stage.None = zeros 3
-stageWords (stage.Some x) = 1 ∷ directionWord (x .direction) ∷ x .length ∷ []
+stageWords OptionStage.None = zeros 3
+stageWords (OptionStage.Some x) = 1 ∷ directionWord (x .direction) ∷ x .length ∷ []
 
 -- 0 none, 1 IN, 2 OUT
 abbrev pub readStatus : ℕ → OptionDirection
-readStatus w = cond (eqb w 0) direction.None (direction.Some (readDirection (w - 1)))
+readStatus w = cond (eqb w 0) OptionDirection.None (OptionDirection.Some (readDirection (w - 1)))
 
 abbrev pub statusWord : OptionDirection → ℕ
-statusWord direction.None = 0
-statusWord (direction.Some d) = 1 + directionWord d
+statusWord OptionDirection.None = 0
+statusWord (OptionDirection.Some d) = 1 + directionWord d

@@ -4,49 +4,31 @@ use mathlib.Core.List.{List}
 use mathlib.Core.Path.{_≡_, refl, sym, subst}
 use lib.ListN.{length}
 use Rattle.models.specs.Said.{Said, Tabled, verdictSaid}
-use Rattle.models.specs.declared.RequestId.{RequestId}
-use Rattle.models.specs.declared.Verdict.{Verdict}
-use Rattle.models.specs.declared.Verdict.the-variants as verdict
+use Rattle.models.specs.declared.{RequestId.RequestId, Verdict.Verdict}
 use Rattle.session.specs.Lifecycle.{openOf}
 use Rattle.session.specs.Said.{openedSaid}
-use Rattle.session.specs.declared.Session.{Session}
-use Rattle.session.specs.declared.lifecycle.Opened.{Opened}
-use Rattle.session.specs.declared.lifecycle.Opened.the-variants as opened
+use Rattle.session.specs.declared.{Session.Session, lifecycle.Opened.Opened}
 use Rattle.session.proofs.Said.{open-tabled, acquire-tabled, initialize-tabled, close-tabled, set-device-tabled, set-port-call-tabled, set-endpoints-call-tabled, set-reconcile-tabled}
 use Rattle.reports.specs.Change.{changeOf}
 use Rattle.reports.specs.Said.{reportSaid, nextSaid, tallySaid, partSaid, cancelNumbers, reclaimNumbers, withdrawNumbers}
 use Rattle.reports.specs.Status.{statusOf, nextOf, shownCount, completedPart, heldCountOf, tallyOf, heldBytesOf}
-use Rattle.reports.specs.declared.NextReport.{NextReport}
-use Rattle.reports.specs.declared.NextReport.the-variants as next
-use Rattle.reports.specs.declared.PartAnswer.{PartAnswer}
-use Rattle.reports.specs.declared.PartAnswer.the-variants as bytes
-use Rattle.reports.specs.declared.ReportAnswer.{ReportAnswer}
-use Rattle.reports.specs.declared.ReportAnswer.the-variants as report
-use Rattle.reports.specs.declared.Tally.{Tally}
-use Rattle.reports.specs.declared.Tally.the-variants as tally
+use Rattle.reports.specs.declared.{NextReport.NextReport, PartAnswer.PartAnswer, ReportAnswer.ReportAnswer, Tally.Tally}
 use Rattle.reports.proofs.Said.{status-tabled, next-tabled, shown-tabled, held-count-tabled, held-bytes-tabled, part-tabled, change-tabled}
 use Rattle.polls.specs.Poll.{pollOf}
 use Rattle.polls.specs.PollReply.{pollReplyOf}
 use Rattle.polls.specs.Said.{pollSaid}
-use Rattle.polls.specs.declared.PollAnswer.{PollAnswer}
-use Rattle.polls.specs.declared.PollAnswer.the-variants as poll
+use Rattle.polls.specs.declared.{PollAnswer.PollAnswer}
 use Rattle.polls.proofs.Said.{poll-tabled, poll-reply-tabled}
 use Rattle.submissions.specs.Plan.{submitPlanOf}
 use Rattle.submissions.specs.Said.{submitSaid, planSaid}
 use Rattle.submissions.specs.Submit.{submitOf}
 use Rattle.submissions.specs.SubmitReply.{submitReplyOf}
-use Rattle.submissions.specs.declared.PlanAnswer.{PlanAnswer}
-use Rattle.submissions.specs.declared.PlanAnswer.the-variants as plan
-use Rattle.submissions.specs.declared.SubmitAnswer.{SubmitAnswer}
-use Rattle.submissions.specs.declared.SubmitAnswer.the-variants as submit
+use Rattle.submissions.specs.declared.{PlanAnswer.PlanAnswer, SubmitAnswer.SubmitAnswer}
 use Rattle.submissions.proofs.Said.{submit-tabled, submit-plan-tabled, submit-reply-tabled}
 use Rattle.recovery.specs.Recover.{recoverOf}
 use Rattle.recovery.specs.RecoveryReply.{recoveryReplyOf}
 use Rattle.recovery.specs.Said.{beginSaid, recoverySaid}
-use Rattle.recovery.specs.declared.BeginAnswer.{BeginAnswer}
-use Rattle.recovery.specs.declared.BeginAnswer.the-variants as begin
-use Rattle.recovery.specs.declared.RecoveryAnswer.{RecoveryAnswer}
-use Rattle.recovery.specs.declared.RecoveryAnswer.the-variants as recovery
+use Rattle.recovery.specs.declared.{BeginAnswer.BeginAnswer, RecoveryAnswer.RecoveryAnswer}
 use Rattle.recovery.proofs.Said.{recover-tabled, recovery-reply-tabled}
 use Rattle.calls.specs.Answers.{ofOpened, ofVerdict, ofSubmit, ofPlan, ofReport, ofPoll, ofNext, ofTally, ofPart, ofBegin, ofRecovery}
 use Rattle.calls.specs.Calls.{Placing, Device, Port, Endpoints, Reconcile, Moving, Acquire, Initialize, Close, Beginning, Submit, SubmitPlan, Poll, Recover, Replying, ToSubmit, ToPoll, ToRecovery, Changing, Cancel, Timeout, Reclaim, Withdraw, Reading, Status, Reports, CountReports, CompletedBytes, HeldCount, HeldBytes, Call, Open, Place, Move, Begin, Reply, Change, Read}
@@ -55,50 +37,50 @@ use Rattle.calls.specs.Step.{World, worldStore, changeBy, placedOf, move
 
 -- ---- as the one type of answer an answer says what it says as its own
 opened-same : (x : Opened) (s : Session) → answerSaid (ofOpened x s .answer) ≡ openedSaid x
-opened-same (opened.Refused r) s = refl
-opened-same (opened.Open n) s = refl
+opened-same (Opened.Refused r) s = refl
+opened-same (Opened.Open n) s = refl
 
 verdict-same : (x : Verdict) → answerSaid (ofVerdict x) ≡ verdictSaid x
-verdict-same (verdict.Refused r) = refl
-verdict-same verdict.Pass = refl
+verdict-same (Verdict.Refused r) = refl
+verdict-same Verdict.Pass = refl
 
 submit-same : (x : SubmitAnswer) → answerSaid (ofSubmit x) ≡ submitSaid x
-submit-same (submit.Refused r) = refl
-submit-same (submit.Begun y) = refl
+submit-same (SubmitAnswer.Refused r) = refl
+submit-same (SubmitAnswer.Begun y) = refl
 
 plan-same : (x : PlanAnswer) → answerSaid (ofPlan x) ≡ planSaid x
-plan-same (plan.Refused r) = refl
-plan-same (plan.Begun y) = refl
+plan-same (PlanAnswer.Refused r) = refl
+plan-same (PlanAnswer.Begun y) = refl
 
 pub report-same : (x : ReportAnswer) → answerSaid (ofReport x) ≡ reportSaid x
-report-same (report.Refused r) = refl
-report-same (report.Report y) = refl
+report-same (ReportAnswer.Refused r) = refl
+report-same (ReportAnswer.Report y) = refl
 
 poll-same : (x : PollAnswer) → answerSaid (ofPoll x) ≡ pollSaid x
-poll-same (poll.Refused r) = refl
-poll-same (poll.Report y) = refl
-poll-same (poll.Asked token) = refl
+poll-same (PollAnswer.Refused r) = refl
+poll-same (PollAnswer.Report y) = refl
+poll-same (PollAnswer.Asked token) = refl
 
 next-same : (x : NextReport) → answerSaid (ofNext x) ≡ nextSaid x
-next-same (next.Refused r) = refl
-next-same next.None = refl
-next-same (next.Report y) = refl
+next-same (NextReport.Refused r) = refl
+next-same NextReport.None = refl
+next-same (NextReport.Report y) = refl
 
 tally-same : (x : Tally) → answerSaid (ofTally x) ≡ tallySaid x
-tally-same (tally.Refused r) = refl
-tally-same (tally.Number n) = refl
+tally-same (Tally.Refused r) = refl
+tally-same (Tally.Number n) = refl
 
 part-same : (x : PartAnswer) → answerSaid (ofPart x) ≡ partSaid x
-part-same (bytes.Refused r) = refl
-part-same (bytes.Part p) = refl
+part-same (PartAnswer.Refused r) = refl
+part-same (PartAnswer.Part p) = refl
 
 begin-same : (x : BeginAnswer) → answerSaid (ofBegin x) ≡ beginSaid x
-begin-same (begin.Refused r) = refl
-begin-same (begin.Recover y) = refl
+begin-same (BeginAnswer.Refused r) = refl
+begin-same (BeginAnswer.Recover y) = refl
 
 pub recovery-same : (x : RecoveryAnswer) → answerSaid (ofRecovery x) ≡ recoverySaid x
-recovery-same (recovery.Refused r) = refl
-recovery-same (recovery.Report y) = refl
+recovery-same (RecoveryAnswer.Refused r) = refl
+recovery-same (RecoveryAnswer.Report y) = refl
 
 same : (ns : List ℕ) {x y : Said} → x ≡ y → Tabled ns y → Tabled ns x
 same ns e h = subst (Tabled ns) (sym e) h

@@ -1,77 +1,102 @@
 -- The answer of each call as one type. Assumes nothing.
-use Rattle.models.specs.declared.Verdict.{Verdict}
-use Rattle.models.specs.declared.Verdict.the-variants as verdict
-use Rattle.session.specs.declared.Session.{Session}
-use Rattle.session.specs.declared.lifecycle.Opened.{Opened}
-use Rattle.session.specs.declared.lifecycle.Opened.the-variants as opened
-use Rattle.submissions.specs.declared.SubmitAnswer.{SubmitAnswer}
-use Rattle.submissions.specs.declared.SubmitAnswer.the-variants as submit
-use Rattle.submissions.specs.declared.PlanAnswer.{PlanAnswer}
-use Rattle.submissions.specs.declared.PlanAnswer.the-variants as plan
-use Rattle.reports.specs.declared.ReportAnswer.{ReportAnswer}
-use Rattle.reports.specs.declared.ReportAnswer.the-variants as report
-use Rattle.polls.specs.declared.PollAnswer.{PollAnswer}
-use Rattle.polls.specs.declared.PollAnswer.the-variants as poll
-use Rattle.reports.specs.declared.NextReport.{NextReport}
-use Rattle.reports.specs.declared.NextReport.the-variants as next
-use Rattle.reports.specs.declared.PartAnswer.{PartAnswer}
-use Rattle.reports.specs.declared.PartAnswer.the-variants as bytes
-use Rattle.reports.specs.declared.Tally.{Tally}
-use Rattle.reports.specs.declared.Tally.the-variants as tally
-use Rattle.recovery.specs.declared.BeginAnswer.{BeginAnswer}
-use Rattle.recovery.specs.declared.BeginAnswer.the-variants as begin
-use Rattle.recovery.specs.declared.RecoveryAnswer.{RecoveryAnswer}
-use Rattle.recovery.specs.declared.RecoveryAnswer.the-variants as recovery
-use Rattle.calls.specs.declared.Answer.{Answer}
-use Rattle.calls.specs.declared.Answer.the-variants as answer
-use Rattle.calls.specs.declared.Outcome.{Outcome}
+use Prim.Native.Nat.{ℕ}
+use mathlib.Core.Bool.{Bool}
+use lib.Dec.{eqb}
+use Rattle.models.specs.declared.{Verdict.Verdict}
+use Rattle.session.specs.declared.{Session.Session, lifecycle.Opened.Opened}
+use Rattle.submissions.specs.declared.{PlanAnswer.PlanAnswer, SubmitAnswer.SubmitAnswer}
+use Rattle.reports.specs.declared.{NextReport.NextReport, OptionId.OptionId, PartAnswer.PartAnswer, ReportAnswer.ReportAnswer, Tally.Tally}
+use Rattle.polls.specs.declared.{PollAnswer.PollAnswer}
+use Rattle.recovery.specs.declared.{BeginAnswer.BeginAnswer, RecoveryAnswer.RecoveryAnswer}
+use Rattle.calls.specs.declared.{Answer.Answer, Outcome.Outcome}
 
 abbrev pub outcome : Answer → Session → Outcome
 outcome a s = record { answer = a; session = s }
 
 -- a refused opening leaves the session as it is
 abbrev pub ofOpened : Opened → Session → Outcome
-ofOpened (opened.Refused r) s = outcome (answer.Refused r) s
-ofOpened (opened.Open next) s = outcome answer.Pass next
+ofOpened (Opened.Refused r) s = outcome (Answer.Refused r) s
+ofOpened (Opened.Open next) s = outcome Answer.Pass next
 
 abbrev pub ofVerdict : Verdict → Answer
-ofVerdict (verdict.Refused r) = answer.Refused r
-ofVerdict verdict.Pass = answer.Pass
+ofVerdict (Verdict.Refused r) = Answer.Refused r
+ofVerdict Verdict.Pass = Answer.Pass
 
 abbrev pub ofSubmit : SubmitAnswer → Answer
-ofSubmit (submit.Refused r) = answer.Refused r
-ofSubmit (submit.Begun x) = answer.Begun x
+ofSubmit (SubmitAnswer.Refused r) = Answer.Refused r
+ofSubmit (SubmitAnswer.Begun x) = Answer.Begun x
 
 abbrev pub ofPlan : PlanAnswer → Answer
-ofPlan (plan.Refused r) = answer.Refused r
-ofPlan (plan.Begun x) = answer.PlanBegun x
+ofPlan (PlanAnswer.Refused r) = Answer.Refused r
+ofPlan (PlanAnswer.Begun x) = Answer.PlanBegun x
 
 abbrev pub ofReport : ReportAnswer → Answer
-ofReport (report.Refused r) = answer.Refused r
-ofReport (report.Report x) = answer.Report x
+ofReport (ReportAnswer.Refused r) = Answer.Refused r
+ofReport (ReportAnswer.Report x) = Answer.Report x
 
 abbrev pub ofPoll : PollAnswer → Answer
-ofPoll (poll.Refused r) = answer.Refused r
-ofPoll (poll.Report x) = answer.Report x
-ofPoll (poll.Asked token) = answer.Asked token
+ofPoll (PollAnswer.Refused r) = Answer.Refused r
+ofPoll (PollAnswer.Report x) = Answer.Report x
+ofPoll (PollAnswer.Asked token) = Answer.Asked token
 
 abbrev pub ofNext : NextReport → Answer
-ofNext (next.Refused r) = answer.Refused r
-ofNext next.None = answer.NoReport
-ofNext (next.Report x) = answer.Report x
+ofNext (NextReport.Refused r) = Answer.Refused r
+ofNext NextReport.None = Answer.NoReport
+ofNext (NextReport.Report x) = Answer.Report x
 
 abbrev pub ofTally : Tally → Answer
-ofTally (tally.Refused r) = answer.Refused r
-ofTally (tally.Number n) = answer.Number n
+ofTally (Tally.Refused r) = Answer.Refused r
+ofTally (Tally.Number n) = Answer.Number n
 
 abbrev pub ofPart : PartAnswer → Answer
-ofPart (bytes.Refused r) = answer.Refused r
-ofPart (bytes.Part p) = answer.Bytes p
+ofPart (PartAnswer.Refused r) = Answer.Refused r
+ofPart (PartAnswer.Part p) = Answer.Bytes p
 
 abbrev pub ofBegin : BeginAnswer → Answer
-ofBegin (begin.Refused r) = answer.Refused r
-ofBegin (begin.Recover x) = answer.Recovering x
+ofBegin (BeginAnswer.Refused r) = Answer.Refused r
+ofBegin (BeginAnswer.Recover x) = Answer.Recovering x
 
 abbrev pub ofRecovery : RecoveryAnswer → Answer
-ofRecovery (recovery.Refused r) = answer.Refused r
-ofRecovery (recovery.Report x) = answer.Recovered x
+ofRecovery (RecoveryAnswer.Refused r) = Answer.Refused r
+ofRecovery (RecoveryAnswer.Report x) = Answer.Recovered x
+
+-- ---- what an answer is
+
+-- which one, by its word (docs/CALLS.md)
+abbrev pub answerTag : Answer → ℕ
+answerTag (Answer.Refused r) = 0
+answerTag Answer.Pass = 1
+answerTag (Answer.Begun x) = 2
+answerTag (Answer.PlanBegun x) = 3
+answerTag (Answer.Report x) = 4
+answerTag Answer.NoReport = 5
+answerTag (Answer.Asked token) = 6
+answerTag (Answer.Number n) = 7
+answerTag (Answer.Bytes x) = 8
+answerTag (Answer.Recovering x) = 9
+answerTag (Answer.Recovered x) = 10
+
+abbrev pub isPass : Answer → Bool
+isPass a = eqb (answerTag a) 1
+
+-- a poll that opened its operation
+abbrev pub isAsked : Answer → Bool
+isAsked a = eqb (answerTag a) 6
+
+-- a recovery that opened its operation
+abbrev pub isRecovering : Answer → Bool
+isRecovering a = eqb (answerTag a) 9
+
+-- the id of a submission that opened its operation
+abbrev pub begunId : Answer → OptionId
+begunId (Answer.Refused r) = OptionId.None
+begunId Answer.Pass = OptionId.None
+begunId (Answer.Begun x) = OptionId.Some (x .id)
+begunId (Answer.PlanBegun x) = OptionId.Some (x .id)
+begunId (Answer.Report x) = OptionId.None
+begunId Answer.NoReport = OptionId.None
+begunId (Answer.Asked token) = OptionId.None
+begunId (Answer.Number n) = OptionId.None
+begunId (Answer.Bytes x) = OptionId.None
+begunId (Answer.Recovering x) = OptionId.None
+begunId (Answer.Recovered x) = OptionId.None

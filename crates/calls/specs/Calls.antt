@@ -2,22 +2,16 @@
 use Prim.Native.Nat.{ℕ}
 use mathlib.Core.Bool.{Bool}
 use mathlib.Core.List.{List}
-use Rattle.words.specs.declared.OptionU64.{OptionU64}
-use Rattle.models.specs.declared.ControlPlan.{ControlPlan}
-use Rattle.models.specs.declared.DeviceSnapshot.{DeviceSnapshot}
-use Rattle.models.specs.declared.OptionError.{OptionError}
-use Rattle.models.specs.declared.PortReading.{PortReading}
-use Rattle.models.specs.declared.RequestId.{RequestId}
-use Rattle.bus.specs.declared.PortRow.{PortRow}
-use Rattle.session.specs.declared.RecoveryKind.{RecoveryKind}
-use Rattle.session.specs.declared.lifecycle.AcquireReply.{AcquireReply}
-use Rattle.session.specs.declared.lifecycle.Opening.{Opening}
-use Rattle.reports.specs.declared.OptionId.{OptionId}
-use Rattle.polls.specs.declared.PollReply.{PollReply}
+use Rattle.words.specs.declared.{OptionU64.OptionU64}
+use Rattle.models.specs.declared.{ControlPlan.ControlPlan, DeviceSnapshot.DeviceSnapshot, OptionError.OptionError, PortReading.PortReading, RequestId.RequestId}
+use Rattle.bus.specs.declared.{PortRow.PortRow}
+use Rattle.session.specs.declared.{RecoveryKind.RecoveryKind, lifecycle.AcquireReply.AcquireReply, lifecycle.Opening.Opening}
+use Rattle.reports.specs.declared.{OptionId.OptionId}
+use Rattle.polls.specs.declared.{PollReply.PollReply}
 use Rattle.submissions.specs.Submit.{Request}
-use Rattle.submissions.specs.declared.SubmitReply.{SubmitReply}
+use Rattle.submissions.specs.declared.{SubmitReply.SubmitReply}
 use Rattle.recovery.specs.RecoveryReply.{ReplyLists}
-use Rattle.recovery.specs.declared.RecoveryReply.{RecoveryReply}
+use Rattle.recovery.specs.declared.{RecoveryReply.RecoveryReply}
 
 -- document 01's placing calls
 pub data Placing : Type 0 where

@@ -9,21 +9,20 @@ use Rattle.polls.specs.Said.{pollNumbers, pollReplyNumbers}
 use Rattle.submissions.specs.Said.{begunValues, planValues, submitNumbers, submitPlanNumbers, submitReplyNumbers}
 use Rattle.recovery.specs.Said.{recoveringValues, recoveredValues, recoverNumbers, recoveryReplyNumbers}
 use Rattle.calls.specs.Calls.{Placing, Device, Port, Endpoints, Reconcile, Moving, Acquire, Initialize, Close, Beginning, Submit, SubmitPlan, Poll, Recover, Replying, ToSubmit, ToPoll, ToRecovery, Changing, Cancel, Timeout, Reclaim, Withdraw, Reading, Status, Reports, CountReports, CompletedBytes, HeldCount, HeldBytes, Call, Open, Place, Move, Begin, Reply, Change, Read}
-use Rattle.calls.specs.declared.Answer.{Answer}
-use Rattle.calls.specs.declared.Answer.the-variants as answer
+use Rattle.calls.specs.declared.{Answer.Answer}
 
 abbrev pub answerSaid : Answer → Said
-answerSaid (answer.Refused r) = refused r
-answerSaid answer.Pass = says []
-answerSaid (answer.Begun x) = says (begunValues x)
-answerSaid (answer.PlanBegun x) = says (planValues x)
-answerSaid (answer.Report x) = says (reportValues x)
-answerSaid answer.NoReport = says []
-answerSaid (answer.Asked token) = says (token ∷ [])
-answerSaid (answer.Number n) = says (n ∷ [])
-answerSaid (answer.Bytes p) = says (partValues p)
-answerSaid (answer.Recovering x) = says (recoveringValues x)
-answerSaid (answer.Recovered x) = says (recoveredValues x)
+answerSaid (Answer.Refused r) = refused r
+answerSaid Answer.Pass = says []
+answerSaid (Answer.Begun x) = says (begunValues x)
+answerSaid (Answer.PlanBegun x) = says (planValues x)
+answerSaid (Answer.Report x) = says (reportValues x)
+answerSaid Answer.NoReport = says []
+answerSaid (Answer.Asked token) = says (token ∷ [])
+answerSaid (Answer.Number n) = says (n ∷ [])
+answerSaid (Answer.Bytes p) = says (partValues p)
+answerSaid (Answer.Recovering x) = says (recoveringValues x)
+answerSaid (Answer.Recovered x) = says (recoveredValues x)
 
 abbrev pub placingNumbers : Placing → List ℕ
 placingNumbers (Device d) = placeNumbers

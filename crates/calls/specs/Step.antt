@@ -7,32 +7,27 @@ use Rattle.rows.specs.Store.{Store}
 use Rattle.rules.specs.declared.Change as rules
 use Rattle.rules.specs.declared.Change.the-variants as change
 use Rattle.bus.specs.Tables.{Bus}
-use Rattle.models.specs.declared.Verdict.{Verdict}
+use Rattle.models.specs.declared.{Verdict.Verdict}
 use Rattle.session.specs.Lent.{Memory, Lent, memory, lent}
 use Rattle.session.specs.Lifecycle.{openOf, acquireOf, initializeOf, closeOf}
 use Rattle.session.specs.Place.{setDeviceOf, setPortOf, setEndpointsOf, setReconcileOf}
-use Rattle.session.specs.declared.Called.{Called}
-use Rattle.session.specs.declared.Session.{Session}
-use Rattle.session.specs.declared.lifecycle.Opened.{Opened}
+use Rattle.session.specs.declared.{Called.Called, Session.Session, lifecycle.Opened.Opened}
 use Rattle.submissions.specs.Submit.{submitOf}
 use Rattle.submissions.specs.Plan.{submitPlanOf}
 use Rattle.submissions.specs.SubmitReply.{submitReplyOf}
-use Rattle.submissions.specs.declared.PlanSubmitted.{PlanSubmitted}
-use Rattle.submissions.specs.declared.Submitted.{Submitted}
+use Rattle.submissions.specs.declared.{PlanSubmitted.PlanSubmitted, Submitted.Submitted}
 use Rattle.polls.specs.Poll.{pollOf}
 use Rattle.polls.specs.PollReply.{pollReplyOf}
-use Rattle.polls.specs.declared.Polled.{Polled}
+use Rattle.polls.specs.declared.{Polled.Polled}
 use Rattle.reports.specs.Change.{changeOf}
 use Rattle.reports.specs.Status.{statusOf, nextOf, shownCount, completedPart, heldCountOf, tallyOf, heldBytesOf}
-use Rattle.reports.specs.declared.Reported.{Reported}
+use Rattle.reports.specs.declared.{Reported.Reported}
 use Rattle.recovery.specs.Recover.{recoverOf}
 use Rattle.recovery.specs.RecoveryReply.{recoveryReplyOf}
-use Rattle.recovery.specs.declared.Begun.{Begun}
-use Rattle.recovery.specs.declared.Recovered.{Recovered}
+use Rattle.recovery.specs.declared.{Begun.Begun, Recovered.Recovered}
 use Rattle.calls.specs.Calls.{Placing, Device, Port, Endpoints, Reconcile, Moving, Acquire, Initialize, Close, Beginning, Submit, SubmitPlan, Poll, Recover, Replying, ToSubmit, ToPoll, ToRecovery, Changing, Cancel, Timeout, Reclaim, Withdraw, Reading, Status, Reports, CountReports, CompletedBytes, HeldCount, HeldBytes, Call, Open, Place, Move, Begin, Reply, Change, Read}
 use Rattle.calls.specs.Answers.{outcome, ofOpened, ofVerdict, ofSubmit, ofPlan, ofReport, ofPoll, ofNext, ofTally, ofPart, ofBegin, ofRecovery}
-use Rattle.calls.specs.declared.Answer.{Answer}
-use Rattle.calls.specs.declared.Outcome.{Outcome}
+use Rattle.calls.specs.declared.{Answer.Answer, Outcome.Outcome}
 
 -- what a call is handed: the session, and what the lent slices say
 pub record World : Type 0 where

@@ -10,7 +10,7 @@ use lib.Seq.{getD-set-same}
 use lib.Dec.{eqb}
 use borrow.Author.Tests.{eq-eqb, eqb-true, lt-ltb, le-ltb, ltb-true, ltb-false}
 use Rattle.chain.specs.Lists.{sumBy, only, count, mapAt, find, anyIn, foundIn, isAmong, allIn}
-use Rattle.chain.specs.declared.Found.{Found}
+use Rattle.chain.specs.declared.{Found.Found}
 use Rattle.chain.specs.declared.Found.the-variants.{At, Nothing}
 use Rattle.chain.proofs.Chain.{caseB, both}
 

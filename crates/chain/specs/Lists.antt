@@ -4,7 +4,7 @@ use mathlib.Core.Bool.{Bool, true, cond, _&&_}
 use mathlib.Core.List.{List, [], _∷_, _++_}
 use lib.ListN.{length, take, drop, replicate}
 use lib.Dec.{eqb, ltb}
-use Rattle.chain.specs.declared.Found.{Found}
+use Rattle.chain.specs.declared.{Found.Found}
 use Rattle.chain.specs.declared.Found.the-variants.{At, Nothing}
 
 module _ {A : Type 0} where

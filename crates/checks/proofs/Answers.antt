@@ -4,36 +4,27 @@ use mathlib.Core.Bool.{Bool, true, false, cond, not, _&&_, Bool·beq}
 use mathlib.Core.Path.{_≡_, refl, ap, sym, _∙_}
 use lib.Dec.{ltb}
 use Rattle.models.specs.Kinds.{isIn}
-use Rattle.models.specs.declared.ControlPlan.{ControlPlan}
+use Rattle.models.specs.declared.{ControlPlan.ControlPlan, Refusal.Refusal, RequestMetadata.RequestMetadata, RequestSpec.RequestSpec, Verdict.Verdict}
 use Rattle.models.specs.declared.Direction.the-variants.{In, Out}
-use Rattle.models.specs.declared.Refusal.{Refusal}
-use Rattle.models.specs.declared.RequestMetadata.{RequestMetadata}
-use Rattle.models.specs.declared.RequestSpec.{RequestSpec}
-use Rattle.models.specs.declared.Verdict.{Verdict}
-use Rattle.models.specs.declared.Verdict.the-variants as verdict
 use Rattle.checks.specs.Plan.{planFacts, compliantStatus, planChecked, planOf, plannedIf, planned}
 use Rattle.checks.specs.Prepare.{specFacts, specChecked, metadataOf, preparedIf, prepared}
-use Rattle.checks.specs.declared.plan.PlanFacts.{PlanFacts}
-use Rattle.checks.specs.declared.plan.Planned.the-variants as plan
-use Rattle.checks.specs.declared.plan.ValidatedControlPlan.{ValidatedControlPlan}
-use Rattle.checks.specs.declared.prepare.Prepared.the-variants as request
-use Rattle.checks.specs.declared.prepare.SpecFacts.{SpecFacts}
+use Rattle.checks.specs.declared.{plan.PlanFacts.PlanFacts, plan.Planned.Planned, plan.ValidatedControlPlan.ValidatedControlPlan, prepare.Prepared.Prepared, prepare.SpecFacts.SpecFacts}
 
 module _ (q : RequestSpec) (m row : ℕ) (f : SpecFacts) (v : Verdict) (ef : f ≡ specFacts q m row) (ev : v ≡ specChecked f) where
-  pub request-stop : (r : Refusal) → v ≡ verdict.Refused r → request.Refused r ≡ prepared q m row
+  pub request-stop : (r : Refusal) → v ≡ Verdict.Refused r → Prepared.Refused r ≡ prepared q m row
   unfolding prepared preparedIf
   request-stop r e = rw (← ef, ← ev, e)
 
-  pub request-go : (x : RequestMetadata) → v ≡ verdict.Pass → x ≡ metadataOf q → request.Ready x ≡ prepared q m row
+  pub request-go : (x : RequestMetadata) → v ≡ Verdict.Pass → x ≡ metadataOf q → Prepared.Ready x ≡ prepared q m row
   unfolding prepared preparedIf
   request-go x e ex = rw (← ef, ← ev, e, ex)
 
 module _ (q : ControlPlan) (m row : ℕ) (f : PlanFacts) (v : Verdict) (ef : f ≡ planFacts q m row) (ev : v ≡ planChecked f) where
-  pub plan-stop : (r : Refusal) → v ≡ verdict.Refused r → plan.Refused r ≡ planned q m row
+  pub plan-stop : (r : Refusal) → v ≡ Verdict.Refused r → Planned.Refused r ≡ planned q m row
   unfolding planned plannedIf
   plan-stop r e = rw (← ef, ← ev, e)
 
-  pub plan-go : (x : ValidatedControlPlan) → v ≡ verdict.Pass → x ≡ planOf q → plan.Ready x ≡ planned q m row
+  pub plan-go : (x : ValidatedControlPlan) → v ≡ Verdict.Pass → x ≡ planOf q → Planned.Ready x ≡ planned q m row
   unfolding planned plannedIf
   plan-go x e ex = rw (← ef, ← ev, e, ex)
 

@@ -7,32 +7,23 @@ use borrow.Author.Tests.{ltb-false, eqb-true}
 use lib.Dec.{eqb}
 use Rattle.chain.specs.Chain.{_if_else_}
 use Rattle.chain.proofs.Chain.{caseB}
-use Rattle.models.specs.declared.ControlPlan.{ControlPlan}
-use Rattle.models.specs.declared.Refusal.{Refusal}
-use Rattle.models.specs.declared.RequestMetadata.{RequestMetadata}
-use Rattle.models.specs.declared.RequestSpec.{RequestSpec}
-use Rattle.models.specs.declared.Verdict.{Verdict}
-use Rattle.models.specs.declared.Verdict.the-variants as verdict
+use Rattle.models.specs.declared.{ControlPlan.ControlPlan, Refusal.Refusal, RequestMetadata.RequestMetadata, RequestSpec.RequestSpec, Verdict.Verdict}
 use Rattle.checks.specs.Prepare.{specFacts, dataChecked, controlChecked, otherChecked, specChecked, metadataOf, preparedIf, prepared}
 use Rattle.checks.specs.Plan.{planFacts, payloadChecked, stagesChecked, sizeChecked, planChecked, planOf, plannedIf, planned}
-use Rattle.checks.specs.declared.prepare.SpecFacts.{SpecFacts}
-use Rattle.checks.specs.declared.prepare.Prepared.the-variants as prepare
-use Rattle.checks.specs.declared.plan.PlanFacts.{PlanFacts}
-use Rattle.checks.specs.declared.plan.Planned.the-variants as plan
-use Rattle.checks.specs.declared.plan.ValidatedControlPlan.{ValidatedControlPlan}
+use Rattle.checks.specs.declared.{plan.PlanFacts.PlanFacts, plan.Planned.Planned, plan.ValidatedControlPlan.ValidatedControlPlan, prepare.Prepared.Prepared, prepare.SpecFacts.SpecFacts}
 
 -- of a chain that passes: its first test fails, and the rest passes
-pub fails : (r : Refusal) (t : Bool) (p : Verdict) → (verdict.Refused r if t else p) ≡ verdict.Pass → t ≡ false
+pub fails : (r : Refusal) (t : Bool) (p : Verdict) → (Verdict.Refused r if t else p) ≡ Verdict.Pass → t ≡ false
 unfolding _if_else_
 fails r true p e = cc
 fails r false p e = refl
 
-pub rest : (r : Refusal) (t : Bool) (p : Verdict) → (verdict.Refused r if t else p) ≡ verdict.Pass → p ≡ verdict.Pass
+pub rest : (r : Refusal) (t : Bool) (p : Verdict) → (Verdict.Refused r if t else p) ≡ Verdict.Pass → p ≡ Verdict.Pass
 unfolding _if_else_
 rest r true p e = cc
 rest r false p e = e
 
-either : {P : Type 0} (t : Bool) (a b : Verdict) → (a ≡ verdict.Pass → P) → (b ≡ verdict.Pass → P) → (a if t else b) ≡ verdict.Pass → P
+either : {P : Type 0} (t : Bool) (a b : Verdict) → (a ≡ Verdict.Pass → P) → (b ≡ Verdict.Pass → P) → (a if t else b) ≡ Verdict.Pass → P
 unfolding _if_else_
 either true a b f g e = f e
 either false a b f g e = g e
@@ -43,31 +34,31 @@ given-small true g n = caseB (eqb g 0) (λ e. rw e λ h. omega (arith, eqb-true 
 given-small false g n = caseB (eqb g n) (λ e. rw e λ h. omega (arith, eqb-true g n e)) (λ e. rw e λ h. absurd (let z : _≡_ {A = ℕ} 0 1 = cc in omega arith))
 
 module _ (v : SpecFacts) where
-  data-small : dataChecked v ≡ verdict.Pass → v .«data_length» ≤ v .length
+  data-small : dataChecked v ≡ Verdict.Pass → v .«data_length» ≤ v .length
   unfolding dataChecked
   data-small e = given-small (v .inward) (v .«data_length») (v .length) (fails _ _ _ e)
 
-  control-small : controlChecked v ≡ verdict.Pass → v .«data_length» ≤ v .length
+  control-small : controlChecked v ≡ Verdict.Pass → v .«data_length» ≤ v .length
   unfolding controlChecked
   control-small e = data-small (rest _ _ _ (rest _ _ _ (rest _ _ _ (rest _ _ _ (rest _ _ _ (rest _ _ _ e))))))
 
-  other-small : otherChecked v ≡ verdict.Pass → v .«data_length» ≤ v .length
+  other-small : otherChecked v ≡ Verdict.Pass → v .«data_length» ≤ v .length
   unfolding otherChecked
   other-small e = data-small (rest _ _ _ (rest _ _ _ e))
 
-  spec-fits : specChecked v ≡ verdict.Pass → (v .length ≤ v .«row_bytes») × (v .«data_length» ≤ v .«row_bytes»)
+  spec-fits : specChecked v ≡ Verdict.Pass → (v .length ≤ v .«row_bytes») × (v .«data_length» ≤ v .«row_bytes»)
   unfolding specChecked
   spec-fits e =
       let l : v .length ≤ v .«row_bytes» = ltb-false _ _ (fails _ _ _ (rest _ _ _ e)) in
       let m : v .«data_length» ≤ v .length = either (v .control) (controlChecked v) (otherChecked v) control-small other-small (rest _ _ _ (rest _ _ _ (rest _ _ _ e))) in
       (l, omega arith)
 
-ready-spec : (v : Verdict) (q : RequestSpec) (m : RequestMetadata) → preparedIf v q ≡ prepare.Ready m → (v ≡ verdict.Pass) × (m .«requested_length» ≡ q .length)
+ready-spec : (v : Verdict) (q : RequestSpec) (m : RequestMetadata) → preparedIf v q ≡ Prepared.Ready m → (v ≡ Verdict.Pass) × (m .«requested_length» ≡ q .length)
 unfolding preparedIf
-ready-spec (verdict.Refused r) q m e = (cc, cc)
-ready-spec verdict.Pass q m e = (refl, let z : metadataOf q ≡ m = cc in ap (λ (x : RequestMetadata). x .«requested_length») (sym z))
+ready-spec (Verdict.Refused r) q m e = (cc, cc)
+ready-spec Verdict.Pass q m e = (refl, let z : metadataOf q ≡ m = cc in ap (λ (x : RequestMetadata). x .«requested_length») (sym z))
 
-pub ready-fits : (q : RequestSpec) (given row : ℕ) (m : RequestMetadata) → prepared q given row ≡ prepare.Ready m → (m .«requested_length» ≤ row) × (given ≤ row)
+pub ready-fits : (q : RequestSpec) (given row : ℕ) (m : RequestMetadata) → prepared q given row ≡ Prepared.Ready m → (m .«requested_length» ≤ row) × (given ≤ row)
 unfolding prepared
 ready-fits q given row m e =
     let a = ready-spec (specChecked (specFacts q given row)) q m e in
@@ -75,32 +66,32 @@ ready-fits q given row m e =
     (omega (arith, a .1, b .0), b .1)
 
 module _ (v : PlanFacts) where
-  payload-small : payloadChecked v ≡ verdict.Pass → v .«data_length» ≤ v .length
+  payload-small : payloadChecked v ≡ Verdict.Pass → v .«data_length» ≤ v .length
   unfolding payloadChecked
   payload-small e = given-small (v .inward) (v .«data_length») (v .length) (fails _ _ _ e)
 
-  stages-small : stagesChecked v ≡ verdict.Pass → v .«data_length» ≤ v .length
+  stages-small : stagesChecked v ≡ Verdict.Pass → v .«data_length» ≤ v .length
   unfolding stagesChecked
   stages-small e = payload-small (rest _ _ _ (rest _ _ _ (rest _ _ _ e)))
 
-  size-fits : sizeChecked v ≡ verdict.Pass → (v .length ≤ v .«row_bytes») × (v .«data_length» ≤ v .«row_bytes»)
+  size-fits : sizeChecked v ≡ Verdict.Pass → (v .length ≤ v .«row_bytes») × (v .«data_length» ≤ v .«row_bytes»)
   unfolding sizeChecked
   size-fits e =
       let l : v .length ≤ v .«row_bytes» = ltb-false _ _ (fails _ _ _ (rest _ _ _ e)) in
       let m : v .«data_length» ≤ v .length = either (v .compliant) (stagesChecked v) (payloadChecked v) stages-small payload-small (rest _ _ _ (rest _ _ _ e)) in
       (l, omega arith)
 
-  plan-fits : planChecked v ≡ verdict.Pass → (v .length ≤ v .«row_bytes») × (v .«data_length» ≤ v .«row_bytes»)
+  plan-fits : planChecked v ≡ Verdict.Pass → (v .length ≤ v .«row_bytes») × (v .«data_length» ≤ v .«row_bytes»)
   unfolding planChecked
   plan-fits e = size-fits (rest _ _ _ (rest _ _ _ (rest _ _ _ e)))
 
-ready-plan : (v : Verdict) (q : ControlPlan) (p : ValidatedControlPlan) → plannedIf v q ≡ plan.Ready p
-    → (v ≡ verdict.Pass) × (p .metadata .«requested_length» ≡ planOf q .metadata .«requested_length»)
+ready-plan : (v : Verdict) (q : ControlPlan) (p : ValidatedControlPlan) → plannedIf v q ≡ Planned.Ready p
+    → (v ≡ Verdict.Pass) × (p .metadata .«requested_length» ≡ planOf q .metadata .«requested_length»)
 unfolding plannedIf
-ready-plan (verdict.Refused r) q p e = (cc, cc)
-ready-plan verdict.Pass q p e = (refl, let z : planOf q ≡ p = cc in ap (λ (x : ValidatedControlPlan). x .metadata .«requested_length») (sym z))
+ready-plan (Verdict.Refused r) q p e = (cc, cc)
+ready-plan Verdict.Pass q p e = (refl, let z : planOf q ≡ p = cc in ap (λ (x : ValidatedControlPlan). x .metadata .«requested_length») (sym z))
 
-pub planned-fits : (q : ControlPlan) (given row : ℕ) (p : ValidatedControlPlan) → planned q given row ≡ plan.Ready p
+pub planned-fits : (q : ControlPlan) (given row : ℕ) (p : ValidatedControlPlan) → planned q given row ≡ Planned.Ready p
     → (p .metadata .«requested_length» ≤ row) × (given ≤ row)
 unfolding planned
 planned-fits q given row p e =

@@ -5,27 +5,17 @@ use mathlib.Core.List.{List}
 use mathlib.Core.Path.{_≡_, refl}
 use Rattle.chain.specs.Lists.{isAmong}
 use Rattle.chain.proofs.Chain.{if-all}
-use Rattle.words.specs.declared.OptionU32.{OptionU32}
+use Rattle.words.specs.declared.{OptionU32.OptionU32}
 use Rattle.models.specs.Refusals.{rejected}
 use Rattle.models.specs.Said.{Tabled, verdictSaid}
-use Rattle.models.specs.declared.BackendCompletion.{BackendCompletion}
-use Rattle.models.specs.declared.ControlPlan.{ControlPlan}
-use Rattle.models.specs.declared.RequestSpec.{RequestSpec}
-use Rattle.models.specs.declared.TransferType.{TransferType}
-use Rattle.models.specs.declared.Verdict.{Verdict}
-use Rattle.models.specs.declared.Verdict.the-variants as verdict
+use Rattle.models.specs.declared.{BackendCompletion.BackendCompletion, ControlPlan.ControlPlan, RequestSpec.RequestSpec, TransferType.TransferType, Verdict.Verdict}
 use Rattle.models.proofs.Said.{tabled-says, tabled-own, tabled-code, tabled-stop, said-of}
 use Rattle.checks.specs.Completion.{testCompletion}
 use Rattle.checks.specs.Packets.{packetsChecked}
 use Rattle.checks.specs.Plan.{planFacts, payloadChecked, stagesChecked, sizeChecked, planChecked, plannedIf, planned}
 use Rattle.checks.specs.Prepare.{specFacts, dataChecked, controlChecked, otherChecked, specChecked, preparedIf, prepared}
 use Rattle.checks.specs.Said.{preparedSaid, plannedSaid, testSaid, packetsNumbers, prepareNumbers, planNumbers, completionNumbers}
-use Rattle.checks.specs.declared.completion.CompletionTest.{CompletionTest}
-use Rattle.checks.specs.declared.completion.CompletionTest.the-variants as test
-use Rattle.checks.specs.declared.plan.PlanFacts.{PlanFacts}
-use Rattle.checks.specs.declared.plan.Planned.{Planned}
-use Rattle.checks.specs.declared.prepare.Prepared.{Prepared}
-use Rattle.checks.specs.declared.prepare.SpecFacts.{SpecFacts}
+use Rattle.checks.specs.declared.{completion.CompletionTest.CompletionTest, plan.PlanFacts.PlanFacts, plan.Planned.Planned, prepare.Prepared.Prepared, prepare.SpecFacts.SpecFacts}
 
 -- a check by n, then the others
 abbrev Of : List ℕ → Verdict → Type 0
@@ -57,7 +47,7 @@ module _ (v : SpecFacts) where
   unfolding otherChecked
   other-tabled = tabled-stop _ 15 refl _ _ (tabled-stop _ 16 refl _ _ data-tabled)
 
-  spec-tabled : Of prepareNumbers (specChecked v)
+  pub spec-tabled : Of prepareNumbers (specChecked v)
   unfolding specChecked
   spec-tabled =
       tabled-stop _ 6 refl _ _ (tabled-stop _ 7 refl _ _ (tabled-stop _ 8 refl _ _
@@ -66,8 +56,8 @@ module _ (v : SpecFacts) where
 module _ (q : RequestSpec) (m row : ℕ) where
   prepared-by : (v : Verdict) → Of prepareNumbers v → Tabled prepareNumbers (preparedSaid (preparedIf v q))
   unfolding preparedIf
-  prepared-by (verdict.Refused r) h = h
-  prepared-by verdict.Pass h = tabled-says _ _
+  prepared-by (Verdict.Refused r) h = h
+  prepared-by Verdict.Pass h = tabled-says _ _
 
   pub prepared-tabled : Tabled prepareNumbers (preparedSaid (prepared q m row))
   unfolding prepared
@@ -96,8 +86,8 @@ module _ (v : PlanFacts) where
 module _ (q : ControlPlan) (m row : ℕ) where
   planned-by : (v : Verdict) → Of planNumbers v → Tabled planNumbers (plannedSaid (plannedIf v q))
   unfolding plannedIf
-  planned-by (verdict.Refused r) h = h
-  planned-by verdict.Pass h = tabled-says _ _
+  planned-by (Verdict.Refused r) h = h
+  planned-by Verdict.Pass h = tabled-says _ _
 
   pub planned-tabled : Tabled planNumbers (plannedSaid (planned q m row))
   unfolding planned
@@ -107,9 +97,9 @@ module _ (q : ControlPlan) (m row : ℕ) where
   planned-said x e = said-of (λ (y : Planned). Tabled planNumbers (plannedSaid y)) _ _ e planned-tabled
 
 pub test-tabled : (code : OptionU32) (t : CompletionTest) → Tabled completionNumbers (testSaid code t)
-test-tabled code (test.Valid actual n) = tabled-says _ _
-test-tabled code test.MissingLength = tabled-own _ 47 refl
-test-tabled code test.Invalid = tabled-code _ code refl
+test-tabled code (CompletionTest.Valid actual n) = tabled-says _ _
+test-tabled code CompletionTest.MissingLength = tabled-own _ 47 refl
+test-tabled code CompletionTest.Invalid = tabled-code _ code refl
 
 pub test-said : (c : BackendCompletion) (given requested : ℕ) (x : CompletionTest) → x ≡ testCompletion c given requested
     → (x ≡ testCompletion c given requested) × Tabled completionNumbers (testSaid (c .«completion_code») x)

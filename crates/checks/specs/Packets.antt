@@ -8,8 +8,7 @@ use Rattle.chain.specs.Chain.{_if_else_}
 use Rattle.chain.specs.Lists.{sumBy}
 use Rattle.models.specs.Kinds.{isIsochronous}
 use Rattle.models.specs.Refusals.{rejected}
-use Rattle.models.specs.declared.TransferType.{TransferType}
-use Rattle.models.specs.declared.Verdict.{Verdict}
+use Rattle.models.specs.declared.{TransferType.TransferType, Verdict.Verdict}
 use Rattle.models.specs.declared.Verdict.the-variants.{Pass}
 
 -- the sum of the packets, which no width bounds

@@ -5,47 +5,34 @@ use lib.Dec.{eqb, ltb}
 use Rattle.chain.specs.Chain.{_if_else_}
 use Rattle.models.specs.Kinds.{isIn}
 use Rattle.models.specs.Refusals.{rejected}
-use Rattle.models.specs.declared.ControlPlan.{ControlPlan}
-use Rattle.models.specs.declared.ControlProfile.{ControlProfile}
+use Rattle.models.specs.declared.{ControlPlan.ControlPlan, ControlProfile.ControlProfile, DataStage.DataStage, Direction.Direction, OptionDirection.OptionDirection, OptionSetup.OptionSetup, OptionStage.OptionStage, Verdict.Verdict}
 use Rattle.models.specs.declared.ControlProfile.the-variants.{Compliant, DeviceCompatibility}
-use Rattle.models.specs.declared.DataStage.{DataStage}
-use Rattle.models.specs.declared.Direction.{Direction}
 use Rattle.models.specs.declared.Direction.the-variants.{In, Out}
-use Rattle.models.specs.declared.OptionDirection.{OptionDirection}
-use Rattle.models.specs.declared.OptionDirection.the-variants as direction
-use Rattle.models.specs.declared.OptionSetup.the-variants as setup
-use Rattle.models.specs.declared.OptionStage.{OptionStage}
-use Rattle.models.specs.declared.OptionStage.the-variants as stage
 use Rattle.models.specs.declared.TransferType.the-variants.{Control}
-use Rattle.models.specs.declared.Verdict.{Verdict}
-use Rattle.models.specs.declared.Verdict.the-variants as verdict
 use Rattle.standards.specs.Setup.{requestDirection, requestKind, recipientOf}
-use Rattle.checks.specs.declared.plan.PlanFacts.{PlanFacts}
-use Rattle.checks.specs.declared.plan.ValidatedControlPlan.{ValidatedControlPlan}
-use Rattle.checks.specs.declared.plan.Planned.{Planned}
-use Rattle.checks.specs.declared.plan.Planned.the-variants as answer
+use Rattle.checks.specs.declared.{plan.PlanFacts.PlanFacts, plan.Planned.Planned, plan.ValidatedControlPlan.ValidatedControlPlan}
 
 abbrev pub hasStatus : OptionDirection → Bool
-hasStatus direction.None = false
-hasStatus (direction.Some d) = true
+hasStatus OptionDirection.None = false
+hasStatus (OptionDirection.Some d) = true
 
 -- the status direction; In, which no check looks at, where there is none
 abbrev pub statusOrIn : OptionDirection → Direction
-statusOrIn direction.None = In
-statusOrIn (direction.Some d) = d
+statusOrIn OptionDirection.None = In
+statusOrIn (OptionDirection.Some d) = d
 
 abbrev pub isCompliant : ControlProfile → Bool
 isCompliant Compliant = true
 isCompliant DeviceCompatibility = false
 
 abbrev pub hasStage : OptionStage → Bool
-hasStage stage.None = false
-hasStage (stage.Some s) = true
+hasStage OptionStage.None = false
+hasStage (OptionStage.Some s) = true
 
 -- no data stage means length 0 in the SETUP's direction
 abbrev pub stageOf : OptionStage → ℕ → DataStage
-stageOf stage.None type = record { direction = requestDirection type; length = 0 }
-stageOf (stage.Some s) type = s
+stageOf OptionStage.None type = record { direction = requestDirection type; length = 0 }
+stageOf (OptionStage.Some s) type = s
 
 -- what the checks look at, of the plan q with m bytes of data, where a row of the store has `row` bytes
 abbrev pub planFacts : ControlPlan → ℕ → ℕ → PlanFacts
@@ -71,7 +58,7 @@ unfoldable pub payloadChecked : PlanFacts → Verdict
 payloadChecked v =
     rejected 24 if v .inward && not (eqb (v .«data_length») 0) || not (v .inward) && not (eqb (v .«data_length») (v .length)) else
     rejected 25 if not (v .«has_stage») && not (eqb (v .«data_length») 0) else
-    verdict.Pass
+    Verdict.Pass
 
 -- Compliant status is OUT after a non-empty IN stage, else IN
 abbrev pub compliantStatus : PlanFacts → Direction
@@ -112,7 +99,7 @@ planOf q = record {
     «transfer_type» = Control;
     direction = stageOf (q .«data_stage») (q .setup .«request_type») .direction;
     «requested_length» = stageOf (q .«data_stage») (q .setup .«request_type») .length;
-    setup = setup.Some (q .setup);
+    setup = OptionSetup.Some (q .setup);
   };
   «has_data» = hasStage (q .«data_stage»);
   «data_direction» = stageOf (q .«data_stage») (q .setup .«request_type») .direction;
@@ -121,8 +108,8 @@ planOf q = record {
 }
 
 unfoldable pub plannedIf : Verdict → ControlPlan → Planned
-plannedIf (verdict.Refused r) q = answer.Refused r
-plannedIf verdict.Pass q = answer.Ready (planOf q)
+plannedIf (Verdict.Refused r) q = Planned.Refused r
+plannedIf Verdict.Pass q = Planned.Ready (planOf q)
 
 unfoldable pub planned : ControlPlan → ℕ → ℕ → Planned
 planned q m row = plannedIf (planChecked (planFacts q m row)) q

@@ -5,20 +5,13 @@ use lib.Dec.{eqb, ltb}
 use Rattle.chain.specs.Chain.{_if_else_}
 use Rattle.models.specs.Kinds.{isIn, isControl}
 use Rattle.models.specs.Refusals.{rejected}
-use Rattle.models.specs.declared.OptionSetup.{OptionSetup}
-use Rattle.models.specs.declared.OptionSetup.the-variants as setup
-use Rattle.models.specs.declared.RequestMetadata.{RequestMetadata}
-use Rattle.models.specs.declared.RequestSpec.{RequestSpec}
-use Rattle.models.specs.declared.Verdict.{Verdict}
-use Rattle.models.specs.declared.Verdict.the-variants as verdict
+use Rattle.models.specs.declared.{OptionSetup.OptionSetup, RequestMetadata.RequestMetadata, RequestSpec.RequestSpec, Verdict.Verdict}
 use Rattle.standards.specs.Setup.{packetOf, requestDirection, requestKind, recipientOf, endpointNumber, endpointReserved, endpointDirection}
-use Rattle.checks.specs.declared.prepare.SpecFacts.{SpecFacts}
-use Rattle.checks.specs.declared.prepare.Prepared.{Prepared}
-use Rattle.checks.specs.declared.prepare.Prepared.the-variants as answer
+use Rattle.checks.specs.declared.{prepare.Prepared.Prepared, prepare.SpecFacts.SpecFacts}
 
 abbrev pub hasSetup : OptionSetup → Bool
-hasSetup setup.None = false
-hasSetup (setup.Some p) = true
+hasSetup OptionSetup.None = false
+hasSetup (OptionSetup.Some p) = true
 
 -- what the checks look at, of the request q with m bytes of data, where a row of the store has `row` bytes; past 10 the packet is there
 abbrev pub specFacts : RequestSpec → ℕ → ℕ → SpecFacts
@@ -44,7 +37,7 @@ specFacts q m row = record {
 unfoldable pub dataChecked : SpecFacts → Verdict
 dataChecked v =
     rejected 17 if v .inward && not (eqb (v .«data_length») 0) || not (v .inward) && not (eqb (v .«data_length») (v .length)) else
-    verdict.Pass
+    Verdict.Pass
 
 -- control: 9 endpoint not 0 or over 65,535; 10 no SETUP; 11U lengths differ; 12 direction; 13U recipient over 3 or type 3;
 -- 14U standard type with request 5, 9, 11
@@ -86,8 +79,8 @@ metadataOf q = record {
 }
 
 unfoldable pub preparedIf : Verdict → RequestSpec → Prepared
-preparedIf (verdict.Refused r) q = answer.Refused r
-preparedIf verdict.Pass q = answer.Ready (metadataOf q)
+preparedIf (Verdict.Refused r) q = Prepared.Refused r
+preparedIf Verdict.Pass q = Prepared.Ready (metadataOf q)
 
 unfoldable pub prepared : RequestSpec → ℕ → ℕ → Prepared
 prepared q m row = preparedIf (specChecked (specFacts q m row)) q

@@ -2,23 +2,17 @@
 use Prim.Native.Nat.{ℕ}
 use mathlib.Core.List.{List, [], _∷_}
 use Rattle.words.specs.Words.{flagWord}
-use Rattle.words.specs.declared.OptionU32.{OptionU32}
+use Rattle.words.specs.declared.{OptionU32.OptionU32}
 use Rattle.models.specs.Codes.{directionWord, profileWord}
 use Rattle.models.specs.Refusals.{refusalOf, invalidCompletion}
 use Rattle.models.specs.Said.{Said, says, refused}
 use Rattle.models.specs.Values.{metadataTail}
 use Rattle.standards.specs.Setup.{packetOf, setupBytes}
-use Rattle.checks.specs.declared.completion.CompletionTest.{CompletionTest}
-use Rattle.checks.specs.declared.completion.CompletionTest.the-variants as test
-use Rattle.checks.specs.declared.plan.Planned.{Planned}
-use Rattle.checks.specs.declared.plan.Planned.the-variants as planned
-use Rattle.checks.specs.declared.plan.ValidatedControlPlan.{ValidatedControlPlan}
-use Rattle.checks.specs.declared.prepare.Prepared.{Prepared}
-use Rattle.checks.specs.declared.prepare.Prepared.the-variants as prepared
+use Rattle.checks.specs.declared.{completion.CompletionTest.CompletionTest, plan.Planned.Planned, plan.ValidatedControlPlan.ValidatedControlPlan, prepare.Prepared.Prepared}
 
 abbrev pub preparedSaid : Prepared → Said
-preparedSaid (prepared.Refused r) = refused r
-preparedSaid (prepared.Ready m) = says (metadataTail m [])
+preparedSaid (Prepared.Refused r) = refused r
+preparedSaid (Prepared.Ready m) = says (metadataTail m [])
 
 -- has data, its direction, the status stage's, profile
 abbrev pub stageTail : ValidatedControlPlan → List ℕ → List ℕ
@@ -30,14 +24,14 @@ abbrev pub validatedWords : ValidatedControlPlan → List ℕ
 validatedWords p = metadataTail (p .metadata) (stageTail p (setupBytes (packetOf (p .metadata .setup))))
 
 abbrev pub plannedSaid : Planned → Said
-plannedSaid (planned.Refused r) = refused r
-plannedSaid (planned.Ready p) = says (validatedWords p)
+plannedSaid (Planned.Refused r) = refused r
+plannedSaid (Planned.Ready p) = says (validatedWords p)
 
 -- of a completion with this code: the length and the code, 47, or 48 with the code
 abbrev pub testSaid : OptionU32 → CompletionTest → Said
-testSaid code (test.Valid actual n) = says (actual ∷ n ∷ [])
-testSaid code test.MissingLength = refused (refusalOf 47)
-testSaid code test.Invalid = refused (invalidCompletion code)
+testSaid code (CompletionTest.Valid actual n) = says (actual ∷ n ∷ [])
+testSaid code CompletionTest.MissingLength = refused (refusalOf 47)
+testSaid code CompletionTest.Invalid = refused (invalidCompletion code)
 
 abbrev pub packetsNumbers : List ℕ
 packetsNumbers = 4 ∷ []

@@ -4,16 +4,14 @@ use mathlib.Core.List.{List}
 use denote.Ref.{now}
 use Rattle.chain.specs.After.{After, after}
 use Rattle.rows.specs.Store.{Store}
-use Rattle.ledger.specs.declared.Applied.{Applied}
-use Rattle.ledger.specs.declared.Applied.the-variants as applied
+use Rattle.ledger.specs.declared.{Applied.Applied}
 use Rattle.session.specs.Lent.{Slice}
-use Rattle.session.specs.declared.Session.{Session}
-use Rattle.polls.specs.declared.Polled.{Polled}
-use Rattle.reports.specs.declared.Reported.{Reported}
+use Rattle.session.specs.declared.{Session.Session}
+use Rattle.polls.specs.declared.{Polled.Polled}
+use Rattle.reports.specs.declared.{Reported.Reported}
 use Rattle.session_words.specs.State.{Kept, readSession, keptAs}
 use Rattle.calls.specs.Answers.{ofReport, ofPoll}
-use Rattle.calls.specs.declared.Answer.{Answer}
-use Rattle.calls.specs.declared.Answer.the-variants as answer
+use Rattle.calls.specs.declared.{Answer.Answer}
 use Rattle.answer_words.specs.Encode.{answerWords, written}
 
 -- the session that a slice says at the call's start
@@ -25,8 +23,8 @@ abbrev pub told : Answer → List ℕ → List ℕ
 told a out = written (answerWords a) out
 
 abbrev pub ofApplied : Applied → Answer
-ofApplied (applied.Refused r) = answer.Refused r
-ofApplied (applied.Done x) = answer.Report x
+ofApplied (Applied.Refused r) = Answer.Refused r
+ofApplied (Applied.Done x) = Answer.Report x
 
 -- with what a change leaves beside its answer, the ledger's and the call's
 abbrev pub appliedTold : After Applied Store → List ℕ → After (List ℕ) Store

@@ -9,11 +9,11 @@ use native.Mathlib.Omega.{arith}
 use borrow.Author.Tests.{ne-eqb, eqb-false, le-ltb, ltb-true, ltb-false}
 use Rattle.chain.specs.After.{After, after}
 use Rattle.chain.proofs.Chain.{chain, caseB, if-all}
-use Rattle.models.specs.declared.RequestId.{RequestId}
+use Rattle.models.specs.declared.{RequestId.RequestId}
 use Rattle.rows.specs.Store.{Store}
 use Rattle.bus.specs.Tables.{Bus}
 use Rattle.session.specs.Lent.{Memory, Lent, memory, lent}
-use Rattle.session.specs.declared.Session.{Session}
+use Rattle.session.specs.declared.{Session.Session}
 use Rattle.polls.specs.Poll.{pollOf}
 use Rattle.calls.specs.Answers.{outcome, ofPoll}
 use Rattle.calls.specs.Calls.{Poll, Begin, Change, Withdraw, Call}
@@ -22,7 +22,7 @@ use Rattle.call_words.specs.Form.{isCall}
 use Rattle.answer_words.specs.Lists.{listsOf}
 use Rattle.session_words.specs.State.{readRequestId, Kept, keptOf, keptAs, readSession, isSession}
 use Rattle.calls.specs.Step.{World, world, begunOf, stepOf}
-use Rattle.calls.specs.declared.Outcome.{Outcome}
+use Rattle.calls.specs.declared.{Outcome.Outcome}
 use Rattle.answer_words.proofs.Room.{lists-put}
 use Rattle.session_words.proofs.Own.{written-same}
 use Rattle.direct.specs.Direct.{polledTold}

@@ -9,7 +9,7 @@ use Rattle.answer_words.specs.Encode.{answerWords, written}
 use Rattle.answer_words.specs.Lists.{listsOf, putLists}
 use Rattle.session_words.specs.State.{Kept, readSession, keptOf, keptAs}
 use Rattle.calls.specs.Step.{World, world, stepOf}
-use Rattle.calls.specs.declared.Outcome.{Outcome}
+use Rattle.calls.specs.declared.{Outcome.Outcome}
 use Rattle.answer_words.proofs.lists.Laws.{put-none}
 use Rattle.dispatch.specs.Apply.{Ran, ran, runOf, buffers, wrote, ranOn}
 

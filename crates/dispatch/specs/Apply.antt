@@ -10,7 +10,7 @@ use Rattle.words.specs.Records.{splice}
 use Rattle.session.specs.Lent.{Lent}
 use Rattle.calls.specs.Calls.{Call}
 use Rattle.calls.specs.Step.{World, world, stepOf}
-use Rattle.calls.specs.declared.Outcome.{Outcome}
+use Rattle.calls.specs.declared.{Outcome.Outcome}
 use Rattle.session_words.specs.State.{Kept, keptAs, isSession}
 use Rattle.call_words.specs.Form.{isCall}
 use Rattle.call_words.specs.Decode.{readCall}

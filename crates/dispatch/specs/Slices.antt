@@ -6,10 +6,10 @@ use denote.Ref.{now}
 use Rattle.chain.specs.After.{after}
 use Rattle.bus.specs.Tables.{Bus}
 use Rattle.session.specs.Lent.{Slice, memory, lent, storeIn, storeOut, memoryIn, memoryOut, lentIn, lentOut}
-use Rattle.session.specs.declared.Session.{Session}
+use Rattle.session.specs.declared.{Session.Session}
 use Rattle.calls.specs.Calls.{Call}
 use Rattle.calls.specs.Step.{World, world, stepOf}
-use Rattle.calls.specs.declared.Outcome.{Outcome}
+use Rattle.calls.specs.declared.{Outcome.Outcome}
 use Rattle.session_words.specs.State.{Kept, keptOf}
 use Rattle.dispatch.specs.Apply.{ran, runOf, Buffers, buffers, ranOn}
 

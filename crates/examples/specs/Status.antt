@@ -1,7 +1,7 @@
 -- Whether two port states are the same, field by field. Assumes nothing.
 use mathlib.Core.Bool.{Bool, _&&_, Bool·beq}
 use lib.Dec.{eqb}
-use Rattle.standards.specs.declared.PortStatus.{PortStatus}
+use Rattle.standards.specs.declared.{PortStatus.PortStatus}
 
 abbrev pub sameStatus : PortStatus → PortStatus → Bool
 sameStatus a b =

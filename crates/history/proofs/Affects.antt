@@ -12,12 +12,11 @@ use Rattle.chain.specs.Lists.{sumBy, only, count}
 use Rattle.chain.proofs.Chain.{caseB}
 use Rattle.chain.proofs.Lists.{sum-suc, sum-le}
 use Rattle.models.specs.Requests.{sameDevice}
-use Rattle.models.specs.declared.DeviceId.{DeviceId}
-use Rattle.models.specs.declared.RequestId.{RequestId}
+use Rattle.models.specs.declared.{DeviceId.DeviceId, RequestId.RequestId}
 use Rattle.rows.specs.Table.{emptyRow, isHeld, rowIn, idIn}
-use Rattle.rows.specs.declared.Row.{Row}
+use Rattle.rows.specs.declared.{Row.Row}
 use Rattle.scope.specs.Affected.{isAffected, comesBefore, insertRow, joined, affectedUpTo, affectedOf}
-use Rattle.history.specs.Journal.{Entry, isOpen, isEntry, ofScope, insertView, affectedViews, View, entryView}
+use Rattle.history.specs.Journal.{Entry, isOpen, isEntry, ofScope, insertView, affectedViews, View}
 use Rattle.history.specs.Claim.{rowView}
 use Rattle.history.proofs.Led.{cond-and, rowW, entryW, each, isView, Led}
 use Rattle.history.proofs.Ordered.{Sorted, sum-insert, insert-sorted, sorted-same}
@@ -31,16 +30,16 @@ module _ (d : DeviceId) (endpoint : ℕ) where
   entries-weigh w [] = refl
   entries-weigh w (e ∷ es) =
       let ih = entries-weigh w es in
-      let z = cond-and (isOpen e) (ofScope d endpoint (entryView e)) (w (entryView e)) in
-      caseB (isOpen e && ofScope d endpoint (entryView e))
-      (λ y. let q : entryW (scoped w) e ≡ w (entryView e) = sym z ∙ rw y in rw y (omega (arith, sum-insert w (entryView e) (affectedViews d endpoint es), ih, q)))
+      let z = cond-and (isOpen e) (ofScope d endpoint (e .view)) (w (e .view)) in
+      caseB (isOpen e && ofScope d endpoint (e .view))
+      (λ y. let q : entryW (scoped w) e ≡ w (e .view) = sym z ∙ rw y in rw y (omega (arith, sum-insert w (e .view) (affectedViews d endpoint es), ih, q)))
       (λ y. let q : entryW (scoped w) e ≡ 0 = sym z ∙ rw y in rw y (omega (arith, ih, q)))
 
   entries-sorted : (es : List Entry) → Sorted (affectedViews d endpoint es)
   entries-sorted [] = tt
   entries-sorted (e ∷ es) =
-      caseB (isOpen e && ofScope d endpoint (entryView e))
-      (λ y. rw y (insert-sorted (entryView e) (affectedViews d endpoint es) (entries-sorted es)))
+      caseB (isOpen e && ofScope d endpoint (e .view))
+      (λ y. rw y (insert-sorted (e .view) (affectedViews d endpoint es) (entries-sorted es)))
       (λ y. rw y (entries-sorted es))
 
   -- ---- rows
@@ -150,7 +149,7 @@ module _ (d : DeviceId) (endpoint : ℕ) where
       where
         less : (e : Entry) → entryW (scoped (only (isView x) each)) e ≤ only (isEntry x) (λ y. 1) e
         less e = caseB (isOpen e)
-            (λ o. rw o (caseB (ofScope d endpoint (entryView e)) (λ s. rw s (omega arith)) (λ s. rw s (omega arith))))
+            (λ o. rw o (caseB (ofScope d endpoint (e .view)) (λ s. rw s (omega arith)) (λ s. rw s (omega arith))))
             (λ o. rw o (omega arith))
 
     pub affected-same : map (seen rows) (affectedOf d endpoint rows) ≡ affectedViews d endpoint entries

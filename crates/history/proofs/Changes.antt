@@ -11,18 +11,15 @@ use Rattle.chain.specs.Lists.{sumBy, only, count, mapAt}
 use Rattle.chain.proofs.Chain.{caseB, both}
 use Rattle.chain.proofs.Lists.{sum-set, count-keeps}
 use Rattle.models.specs.Requests.{deviceMayAccess, isPending, isUncertainFailure, sameRequest}
-use Rattle.models.specs.declared.DeviceId.{DeviceId}
-use Rattle.models.specs.declared.RequestId.{RequestId}
-use Rattle.models.specs.declared.RequestMetadata.{RequestMetadata}
-use Rattle.models.specs.declared.RequestState.{RequestState}
+use Rattle.models.specs.declared.{DeviceId.DeviceId, RequestId.RequestId, RequestMetadata.RequestMetadata, RequestState.RequestState}
 use Rattle.models.specs.declared.RequestState.the-variants.{Pending, Completed, Failed, Aborted}
 use Rattle.rows.specs.Table.{emptyRow, isHeld, rowIn}
-use Rattle.rows.specs.declared.Row.{Row}
+use Rattle.rows.specs.declared.{Row.Row}
 use Rattle.ledger.specs.Search.{isAt}
 use Rattle.rules.specs.Rules.{pendingRow, withToken, withState, flagged}
 use Rattle.runs.proofs.Held.{empty-free, free-held, unheld-row}
 use Rattle.runs.proofs.Ids.{free-at, same-request, same-self}
-use Rattle.history.specs.Journal.{Entry, isNone, isOpen, isEntry, entryOf, release, markFailed, entryWithToken, newEntry, View, entryView}
+use Rattle.history.specs.Journal.{Entry, failing, tokened, isNone, isOpen, isEntry, entryOf, release, markFailed, entryWithToken, newEntry, View}
 use Rattle.history.specs.Claim.{rowView}
 use Rattle.history.proofs.Led.{rowW, entryW, each, twice, Led, Changed, Alike, row-none}
 
@@ -48,9 +45,9 @@ module _ (r : Row) (e : Entry) (held : isHeld r ≡ true) (is : (w : View → �
       caseB (isOpen e) (λ y. y) (λ y. let b : entryW each e ≡ 0 = rw y in let d : rowW each r ≡ 1 = rw held in absurd (omega arith))
 
   -- any number that the entry's view gives is the row's
-  pub view-is : (w : View → ℕ) → w (entryView e) ≡ w (rowView r)
+  pub view-is : (w : View → ℕ) → w (e .view) ≡ w (rowView r)
   view-is w = let o = entry-open in
-      let a : w (entryView e) ≡ entryW w e = rw o in
+      let a : w (e .view) ≡ entryW w e = rw o in
       let b : rowW w r ≡ w (rowView r) = rw held in
       a ∙ is w ∙ b
 
@@ -82,14 +79,11 @@ module _ (r : Row) (e : Entry) (held : isHeld r ≡ true) (is : (w : View → �
 
   -- a held row in its place whose view is the view's change, as the entry's is
   kept : (g : View → View) (r′ : Row) (e′ : Entry) → isHeld r′ ≡ true → isOpen e′ ≡ true → rowView r′ ≡ g (rowView r)
-      → entryView e′ ≡ g (entryView e) → (w : View → ℕ) → entryW w e′ ≡ rowW w r′
+      → e′ .view ≡ g (e .view) → (w : View → ℕ) → entryW w e′ ≡ rowW w r′
   kept g r′ e′ h o er ee w = rw (h, o) (ap w ee ∙ view-is (λ v. w (g v)) ∙ sym (ap w er))
 
 module _ (r : Row) (e : Entry) (held : isHeld r ≡ true) (is : (w : View → ℕ) → entryW w e ≡ rowW w r) where
   -- the backend's token
-  abbrev tokened : ℕ → View → View
-  tokened t v = record { id = v .id; device = v .device; endpoint = v .endpoint; requested = v .requested; token = t; failed = v .failed }
-
   same-held : (t : ℕ) → isHeld (withToken r t) ≡ isHeld r
   unfolding isHeld
   same-held t = refl
@@ -118,9 +112,6 @@ module _ (r : Row) (e : Entry) (held : isHeld r ≡ true) (is : (w : View → �
   -- terminal: a release
   pub settle-change : (s : RequestState) → deviceMayAccess s ≡ false → Changed r (withState r s) e (release e)
   settle-change s h = released r e held is (withState r s) (unheld-row (withState r s) h) (λ x. rw (state-at s x) (le-refl _))
-
-  abbrev failing : View → View
-  failing v = record { id = v .id; device = v .device; endpoint = v .endpoint; requested = v .requested; token = v .token; failed = true }
 
   -- Failed and not quiescent: the mark
   pub fail-change : (s : RequestState) → deviceMayAccess s ≡ true → isUncertainFailure s ≡ true → Changed r (withState r s) e (markFailed e)
@@ -174,7 +165,7 @@ module _ (rows : List Row) (entries : List Entry) (k : Led rows entries) (x : Re
   unfolding isHeld pendingRow
   begun-held = refl
 
-  begun-view : rowView begun ≡ entryView (newEntry x (m .device) (m .endpoint) (m .«requested_length»))
+  begun-view : rowView begun ≡ newEntry x (m .device) (m .endpoint) (m .«requested_length») .view
   unfolding pendingRow
   begun-view = refl
 

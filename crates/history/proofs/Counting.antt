@@ -9,64 +9,38 @@ use Rattle.chain.specs.Lists.{only, count}
 use Rattle.chain.proofs.Chain.{caseB}
 use Rattle.models.specs.Refusals.{refusalOf}
 use Rattle.models.specs.Requests.{sameRequest}
-use Rattle.models.specs.declared.BackendCompletion.{BackendCompletion}
-use Rattle.models.specs.declared.DeviceId.{DeviceId}
-use Rattle.models.specs.declared.OptionError.{OptionError}
-use Rattle.models.specs.declared.OptionError.the-variants as error
-use Rattle.models.specs.declared.RequestId.{RequestId}
-use Rattle.models.specs.declared.Verdict.{Verdict}
-use Rattle.models.specs.declared.Verdict.the-variants as verdict
+use Rattle.models.specs.declared.{BackendCompletion.BackendCompletion, DeviceId.DeviceId, OptionError.OptionError, RequestId.RequestId, Verdict.Verdict}
 use Rattle.checks.specs.Completion.{testCompletion}
 use Rattle.checks.specs.Plan.{stageOf}
-use Rattle.checks.specs.declared.completion.CompletionTest.{CompletionTest}
-use Rattle.checks.specs.declared.completion.CompletionTest.the-variants as test
+use Rattle.checks.specs.declared.{completion.CompletionTest.CompletionTest}
 use Rattle.session.specs.Lifecycle.{acquireOf, initializeOf, closeOf}
-use Rattle.session.specs.declared.InFlight.{InFlight}
-use Rattle.session.specs.declared.InFlight.the-variants as flight
-use Rattle.session.specs.declared.RecoveryKind.{RecoveryKind}
-use Rattle.reports.specs.declared.ReportAnswer.{ReportAnswer}
-use Rattle.reports.specs.declared.ReportAnswer.the-variants as report
-use Rattle.reports.specs.declared.NextReport.{NextReport}
-use Rattle.reports.specs.declared.NextReport.the-variants as nextReport
-use Rattle.reports.specs.declared.PartAnswer.{PartAnswer}
-use Rattle.reports.specs.declared.PartAnswer.the-variants as part
-use Rattle.reports.specs.declared.Tally.{Tally}
-use Rattle.reports.specs.declared.Tally.the-variants as tally
+use Rattle.session.specs.declared.{InFlight.InFlight, RecoveryKind.RecoveryKind}
+use Rattle.reports.specs.declared.{NextReport.NextReport, OptionId.OptionId, PartAnswer.PartAnswer, ReportAnswer.ReportAnswer, Tally.Tally}
 use Rattle.reports.specs.Change.{changeOf}
 use Rattle.reports.specs.Status.{statusOf, nextOf, shownCount, completedPart, heldCountOf, tallyOf, heldBytesOf}
-use Rattle.reports.specs.declared.OptionId.{OptionId}
-use Rattle.reports.specs.declared.OptionId.the-variants as option
 use Rattle.polls.specs.PollReply.{pollReplyOf}
-use Rattle.polls.specs.declared.PollAnswer.{PollAnswer}
-use Rattle.polls.specs.declared.PollAnswer.the-variants as poll
+use Rattle.polls.specs.declared.{PollAnswer.PollAnswer, PollReply.PollReply}
 use Rattle.polls.specs.Poll.{pollOf}
-use Rattle.polls.specs.declared.PollReply.{PollReply}
-use Rattle.polls.specs.declared.PollReply.the-variants as pollReply
 use Rattle.submissions.specs.Submit.{submitOf}
 use Rattle.submissions.specs.Plan.{submitPlanOf}
 use Rattle.submissions.specs.SubmitReply.{submitReplyOf}
-use Rattle.submissions.specs.declared.SubmitReply.{SubmitReply}
-use Rattle.submissions.specs.declared.SubmitReply.the-variants as submitReply
+use Rattle.submissions.specs.declared.{SubmitReply.SubmitReply}
 use Rattle.scope.specs.Returned.{Returned, readReturned}
 use Rattle.recovery.specs.Recover.{recoverOf}
 use Rattle.recovery.specs.RecoveryReply.{ReplyLists, recoveryReplyOf}
-use Rattle.recovery.specs.declared.BeginAnswer.{BeginAnswer}
-use Rattle.recovery.specs.declared.BeginAnswer.the-variants as begin
-use Rattle.recovery.specs.declared.RecoveryAnswer.{RecoveryAnswer}
-use Rattle.recovery.specs.declared.RecoveryAnswer.the-variants as recovery
-use Rattle.calls.specs.Answers.{ofVerdict, ofSubmit, ofPlan, ofReport, ofPoll, ofNext, ofTally, ofPart, ofBegin, ofRecovery}
+use Rattle.recovery.specs.declared.{BeginAnswer.BeginAnswer, RecoveryAnswer.RecoveryAnswer}
+use Rattle.calls.specs.Answers.{ofVerdict, ofSubmit, ofPlan, ofReport, ofPoll, ofNext, ofTally, ofPart, ofBegin, ofRecovery, begunId, isAsked, isPass, isRecovering}
 use Rattle.calls.specs.Calls.{Reading, Status, Reports, CountReports, CompletedBytes, HeldCount, HeldBytes, Call, Open, Place, Move, Acquire, Initialize, Close, Begin, Submit, SubmitPlan, Poll, Recover, Reply, ToSubmit, ToPoll, ToRecovery, Change, Read}
 use Rattle.calls.specs.Step.{World, stepOf, placedOf, movedOf, begunOf, repliedOf, changeBy, readOf, worldStore}
-use Rattle.calls.specs.declared.Answer.{Answer}
-use Rattle.calls.specs.declared.Answer.the-variants as answer
+use Rattle.calls.specs.declared.{Answer.Answer}
 use Rattle.runs.specs.Run.{Handed, Event, isOpening, leftBy, answerTo, historyOf, Handing, Follows, beside}
 use Rattle.runs.proofs.Handings.{by-handed}
-use Rattle.history.specs.Journal.{Entry, Journal, View, isEntry, atEntry, release, begunId, isAsked, isPass, isRecovering, endsBy, countsBy, begunBy, acceptedAs, testedAs, settledBy, atWaiting, polledBy, ReleasedTo, completesBy, completesAll, abortsAll, releasesAll, releasedIn, recoveryWaits, recoveredJournal, journalStep, journalOf}
+use Rattle.history.specs.Journal.{Entry, Journal, View, isEntry, atEntry, release, endsBy, countsBy, begunBy, acceptedAs, testedAs, settledBy, atWaiting, polledBy, ReleasedTo, completesBy, completesAll, abortsAll, releasesAll, releasedIn, recoveryWaits, recoveredJournal, journalStep, journalOf}
 use Rattle.history.specs.Claim.{isBegun, handsOver}
 use Rattle.history.proofs.Changes.{closed-ids}
 
 -- a refusal by 3 adds nothing to the journal
-pub refused-3 : (c : Call) (j : Journal) → journalStep c (answer.Refused (refusalOf 3)) j ≡ j
+pub refused-3 : (c : Call) (j : Journal) → journalStep c (Answer.Refused (refusalOf 3)) j ≡ j
 unfolding journalStep
 refused-3 (Open o) j = refl
 refused-3 (Place p) j = refl
@@ -88,50 +62,50 @@ module _ (x : RequestId) where
   number l = count (isEntry x) l
 
   -- ---- entries change, their ids do not
-  alike : (e f : Entry) → f .id ≡ e .id → only (isEntry x) (λ y. 1) f ≡ only (isEntry x) (λ y. 1) e
+  alike : (e f : Entry) → f .view .id ≡ e .view .id → only (isEntry x) (λ y. 1) f ≡ only (isEntry x) (λ y. 1) e
   alike e f h = ap (λ (i : RequestId). cond {A = ℕ} (sameRequest i x) 1 0) h
 
-  at-ids : (id : RequestId) (f : Entry → Entry) → ((e : Entry) → f e .id ≡ e .id) → (l : List Entry) → number (atEntry id f l) ≡ number l
+  at-ids : (id : RequestId) (f : Entry → Entry) → ((e : Entry) → f e .view .id ≡ e .view .id) → (l : List Entry) → number (atEntry id f l) ≡ number l
   at-ids id f h [] = refl
   at-ids id f h (e ∷ es) =
       let ih = at-ids id f h es in
       let a = alike e (f e) (h e) in
       caseB (isEntry id e) (λ y. rw y (omega (arith, a))) (λ y. rw y (omega (arith, ih)))
 
-  accepted-id : (r : SubmitReply) (e : Entry) → acceptedAs r e .id ≡ e .id
-  accepted-id (submitReply.Token t) e = refl
-  accepted-id (submitReply.Error y) e = refl
+  accepted-id : (r : SubmitReply) (e : Entry) → acceptedAs r e .view .id ≡ e .view .id
+  accepted-id (SubmitReply.Token t) e = refl
+  accepted-id (SubmitReply.Error y) e = refl
 
-  tested-id : (t : CompletionTest) (e : Entry) → testedAs t e .id ≡ e .id
-  tested-id (test.Valid a n) e = refl
-  tested-id test.MissingLength e = refl
-  tested-id test.Invalid e = refl
+  tested-id : (t : CompletionTest) (e : Entry) → testedAs t e .view .id ≡ e .view .id
+  tested-id (CompletionTest.Valid a n) e = refl
+  tested-id CompletionTest.MissingLength e = refl
+  tested-id CompletionTest.Invalid e = refl
 
-  settled-id : (o : OptionError) (c : BackendCompletion) (given : ℕ) (e : Entry) → settledBy o c given e .id ≡ e .id
-  settled-id (error.Some y) c given e = caseB (c .quiescent) (λ q. rw q) (λ q. rw q)
-  settled-id error.None c given e = tested-id (testCompletion c given (e .requested)) e
+  settled-id : (o : OptionError) (c : BackendCompletion) (given : ℕ) (e : Entry) → settledBy o c given e .view .id ≡ e .view .id
+  settled-id (OptionError.Some y) c given e = caseB (c .quiescent) (λ q. rw q) (λ q. rw q)
+  settled-id OptionError.None c given e = tested-id (testCompletion c given (e .view .requested)) e
 
-  waiting-ids : (w : InFlight) (f : Entry → Entry) → ((e : Entry) → f e .id ≡ e .id) → (l : List Entry) → number (atWaiting w f l) ≡ number l
-  waiting-ids flight.Nothing f h l = refl
-  waiting-ids (flight.Submission id) f h l = at-ids id f h l
-  waiting-ids (flight.Poll id) f h l = at-ids id f h l
-  waiting-ids (flight.Recovery y) f h l = refl
+  waiting-ids : (w : InFlight) (f : Entry → Entry) → ((e : Entry) → f e .view .id ≡ e .view .id) → (l : List Entry) → number (atWaiting w f l) ≡ number l
+  waiting-ids InFlight.Nothing f h l = refl
+  waiting-ids (InFlight.Submission id) f h l = at-ids id f h l
+  waiting-ids (InFlight.Poll id) f h l = at-ids id f h l
+  waiting-ids (InFlight.Recovery y) f h l = refl
 
   polled-ids : (r : PollReply) (given : ℕ) (j : Journal) → number (polledBy r given j .entries) ≡ number (j .entries)
-  polled-ids pollReply.Nothing given j = refl
-  polled-ids (pollReply.Error y) given j = refl
-  polled-ids (pollReply.Completion c) given j = waiting-ids (j .waiting) (settledBy (c .error) c given) (λ e. settled-id (c .error) c given e) (j .entries)
+  polled-ids PollReply.Nothing given j = refl
+  polled-ids (PollReply.Error y) given j = refl
+  polled-ids (PollReply.Completion c) given j = waiting-ids (j .waiting) (settledBy (c .error) c given) (λ e. settled-id (c .error) c given e) (j .entries)
 
   begun-ids : (o : OptionId) (d : DeviceId) (endpoint size : ℕ) (j : Journal)
       → number (begunBy o d endpoint size j .entries) ≡ number (j .entries) + cond (isBegun x o) 1 0
-  begun-ids option.None d endpoint size j = omega arith
-  begun-ids (option.Some id) d endpoint size j = omega arith
+  begun-ids OptionId.None d endpoint size j = omega arith
+  begun-ids (OptionId.Some id) d endpoint size j = omega arith
 
   -- ---- a recovery's entries
   completes-by : (p : CompletionTest) (v : View) (l : List Entry) → number (completesBy p v l .entries) ≡ number l
-  completes-by test.MissingLength v l = refl
-  completes-by test.Invalid v l = refl
-  completes-by (test.Valid a n) v l =
+  completes-by CompletionTest.MissingLength v l = refl
+  completes-by CompletionTest.Invalid v l = refl
+  completes-by (CompletionTest.Valid a n) v l =
       let e = at-ids (v .id) release (λ y. refl) l in
       caseB (v .failed) (λ y. rw y (omega (arith, e))) (λ y. rw y (omega (arith, e)))
 
@@ -158,10 +132,10 @@ module _ (x : RequestId) where
       caseB (q .refused) (λ y. rw y (omega (arith, e, rest))) (λ y. rw y (omega (arith, e, rest)))
 
   released-ids : (w : InFlight) (r : ReplyLists) (l : List Entry) → number (releasedIn w r l) ≡ number l
-  released-ids flight.Nothing r l = refl
-  released-ids (flight.Submission id) r l = refl
-  released-ids (flight.Poll id) r l = refl
-  released-ids (flight.Recovery y) r l = releases-ids _ r l
+  released-ids InFlight.Nothing r l = refl
+  released-ids (InFlight.Submission id) r l = refl
+  released-ids (InFlight.Poll id) r l = refl
+  released-ids (InFlight.Recovery y) r l = releases-ids _ r l
 
   recovered-ids : (a : Answer) (r : ReplyLists) (j : Journal) → number (recoveredJournal a r j .entries) ≡ number (j .entries)
   recovered-ids a r j =
@@ -170,39 +144,39 @@ module _ (x : RequestId) where
 
   -- ---- a call other than a submission hands nothing over
   verdict-still : (a : Verdict) (n m : ℕ) → m ≡ n → m ≡ n + cond (isBegun x (begunId (ofVerdict a))) 1 0
-  verdict-still (verdict.Refused r) n m e = omega (arith, e)
-  verdict-still verdict.Pass n m e = omega (arith, e)
+  verdict-still (Verdict.Refused r) n m e = omega (arith, e)
+  verdict-still Verdict.Pass n m e = omega (arith, e)
 
   report-still : (a : ReportAnswer) (n m : ℕ) → m ≡ n → m ≡ n + cond (isBegun x (begunId (ofReport a))) 1 0
-  report-still (report.Refused r) n m e = omega (arith, e)
-  report-still (report.Report y) n m e = omega (arith, e)
+  report-still (ReportAnswer.Refused r) n m e = omega (arith, e)
+  report-still (ReportAnswer.Report y) n m e = omega (arith, e)
 
   poll-still : (a : PollAnswer) (n m : ℕ) → m ≡ n → m ≡ n + cond (isBegun x (begunId (ofPoll a))) 1 0
-  poll-still (poll.Refused r) n m e = omega (arith, e)
-  poll-still (poll.Report y) n m e = omega (arith, e)
-  poll-still (poll.Asked token) n m e = omega (arith, e)
+  poll-still (PollAnswer.Refused r) n m e = omega (arith, e)
+  poll-still (PollAnswer.Report y) n m e = omega (arith, e)
+  poll-still (PollAnswer.Asked token) n m e = omega (arith, e)
 
   nextReport-still : (a : NextReport) (n m : ℕ) → m ≡ n → m ≡ n + cond (isBegun x (begunId (ofNext a))) 1 0
-  nextReport-still (nextReport.Refused r) n m e = omega (arith, e)
-  nextReport-still nextReport.None n m e = omega (arith, e)
-  nextReport-still (nextReport.Report y) n m e = omega (arith, e)
+  nextReport-still (NextReport.Refused r) n m e = omega (arith, e)
+  nextReport-still NextReport.None n m e = omega (arith, e)
+  nextReport-still (NextReport.Report y) n m e = omega (arith, e)
 
   tally-still : (a : Tally) (n m : ℕ) → m ≡ n → m ≡ n + cond (isBegun x (begunId (ofTally a))) 1 0
-  tally-still (tally.Refused r) n m e = omega (arith, e)
-  tally-still (tally.Number y) n m e = omega (arith, e)
+  tally-still (Tally.Refused r) n m e = omega (arith, e)
+  tally-still (Tally.Number y) n m e = omega (arith, e)
 
   begin-ids : (a : BeginAnswer) (id : RequestId) (q : RecoveryKind) (j : Journal)
       → number (cond (isRecovering (ofBegin a)) (recoveryWaits id q j) j .entries) ≡ number (j .entries) + cond (isBegun x (begunId (ofBegin a))) 1 0
-  begin-ids (begin.Refused r) id q j = omega arith
-  begin-ids (begin.Recover y) id q j = omega arith
+  begin-ids (BeginAnswer.Refused r) id q j = omega arith
+  begin-ids (BeginAnswer.Recover y) id q j = omega arith
 
   recovery-still : (a : RecoveryAnswer) (n m : ℕ) → m ≡ n → m ≡ n + cond (isBegun x (begunId (ofRecovery a))) 1 0
-  recovery-still (recovery.Refused r) n m e = omega (arith, e)
-  recovery-still (recovery.Report y) n m e = omega (arith, e)
+  recovery-still (RecoveryAnswer.Refused r) n m e = omega (arith, e)
+  recovery-still (RecoveryAnswer.Report y) n m e = omega (arith, e)
 
   part-still : (a : PartAnswer) (n m : ℕ) → m ≡ n → m ≡ n + cond (isBegun x (begunId (ofPart a))) 1 0
-  part-still (part.Refused r) n m e = omega (arith, e)
-  part-still (part.Part p) n m e = omega (arith, e)
+  part-still (PartAnswer.Refused r) n m e = omega (arith, e)
+  part-still (PartAnswer.Part p) n m e = omega (arith, e)
 
   read-still : (r : Reading) (w : World) (n : ℕ) → n ≡ n + cond (isBegun x (begunId (readOf r w))) 1 0
   unfolding readOf
@@ -248,7 +222,7 @@ module _ (x : RequestId) where
       → number (journalStep c (answerTo w (record { call = c; handed = h })) j .entries)
       ≡ number (j .entries) + cond (isBegun x (begunId (answerTo w (record { call = c; handed = h })))) 1 0
   event-ids h c w j f =
-      let z : number (journalStep c (answer.Refused (refusalOf 3)) j .entries) ≡ number (j .entries) = ap (λ (y : Journal). number (y .entries)) (refused-3 c j) in
+      let z : number (journalStep c (Answer.Refused (refusalOf 3)) j .entries) ≡ number (j .entries) = ap (λ (y : Journal). number (y .entries)) (refused-3 c j) in
       by-handed h c w (λ a v. number (journalStep c a j .entries) ≡ number (j .entries) + cond (isBegun x (begunId a)) 1 0) f
       (λ first bus area. step-ids c (beside bus area w) j first) (omega (arith, z))
 

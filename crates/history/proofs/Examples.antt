@@ -8,31 +8,20 @@ use lib.ListN.{length, getD, take, replicate}
 use Rattle.chain.specs.Chain.{_if_else_}
 use Rattle.chain.specs.Lists.{foundIn, listed}
 use Rattle.words.specs.Records.{splice, part}
-use Rattle.words.specs.declared.OptionI32.the-variants as i32
-use Rattle.words.specs.declared.OptionU32.{OptionU32}
-use Rattle.words.specs.declared.OptionU32.the-variants as u32
-use Rattle.words.specs.declared.OptionU64.the-variants as u64
+use Rattle.words.specs.declared.{OptionI32.OptionI32, OptionU32.OptionU32, OptionU64.OptionU64}
 use Rattle.models.specs.Requests.{requestBefore}
 use Rattle.models.specs.declared.ControllerState.the-variants.{Closed}
-use Rattle.models.specs.declared.DeviceId.{DeviceId}
-use Rattle.models.specs.declared.DeviceSnapshot.{DeviceSnapshot}
+use Rattle.models.specs.declared.{DeviceId.DeviceId, DeviceSnapshot.DeviceSnapshot, OperationError.OperationError, OptionError.OptionError, OptionPorts.OptionPorts, OptionSetup.OptionSetup, RequestId.RequestId, RequestState.RequestState}
 use Rattle.models.specs.declared.DeviceState.the-variants.{Configured}
 use Rattle.models.specs.declared.Direction.the-variants.{In}
 use Rattle.models.specs.declared.ErrorCategory.the-variants.{Validation, RecoveryRequired}
-use Rattle.models.specs.declared.OperationError.{OperationError}
-use Rattle.models.specs.declared.OptionError.{OptionError}
-use Rattle.models.specs.declared.OptionError.the-variants as error
-use Rattle.models.specs.declared.OptionPorts.the-variants as ports
-use Rattle.models.specs.declared.OptionSetup.the-variants as setup
 use Rattle.models.specs.declared.PortReading.the-variants.{Word}
-use Rattle.models.specs.declared.RequestId.{RequestId}
-use Rattle.models.specs.declared.RequestState.{RequestState}
 use Rattle.models.specs.declared.RequestState.the-variants.{Pending, Completed, Failed, Aborted}
 use Rattle.models.specs.declared.TransferType.the-variants.{Bulk}
 use Rattle.rows.specs.Codec.{readRow, recordOf}
 use Rattle.rows.specs.Store.{storeOf, putIn, emptied}
 use Rattle.rows.specs.Table.{emptyRow, isHeld, putRow, putWords, rowCount, readRows, isUncertain}
-use Rattle.rows.specs.declared.Row.{Row}
+use Rattle.rows.specs.declared.{Row.Row}
 use Rattle.ledger.specs.Apply.{applyBy, applyAt, applyOf}
 use Rattle.rules.specs.Rules.{pendingRow, spendSequence, moved, freed, accepted, whilePending, timeOut, completed, failed, abortConfirmed, reclaimed, changeRow}
 use Rattle.ledger.specs.Search.{isAt, isFree}
@@ -50,39 +39,32 @@ use Rattle.session.specs.Lifecycle.{openOf, acquiredBy, acquireOf, initializedB
 use Rattle.session.specs.Place.{placed, setDeviceOf, setPortOf, setEndpointsOf}
 use Rattle.session.specs.Start.{guarded}
 use Rattle.session.specs.Sizes.{rowsFit, areaFits}
-use Rattle.session.specs.declared.InFlight.the-variants as flight
-use Rattle.session.specs.declared.OptionStall.the-variants as stall
-use Rattle.session.specs.declared.RecoveryKind.the-variants as kind
-use Rattle.session.specs.declared.Session.{Session}
-use Rattle.session.specs.declared.lifecycle.AcquireReply.the-variants as acquire
-use Rattle.session.specs.declared.lifecycle.Opening.{Opening}
+use Rattle.session.specs.declared.{InFlight.InFlight, OptionStall.OptionStall, RecoveryKind.RecoveryKind, Session.Session, lifecycle.AcquireReply.AcquireReply, lifecycle.Opening.Opening}
 use Rattle.reports.specs.Answers.{effect}
 use Rattle.reports.specs.Change.{reportedBy, changeOf}
 use Rattle.reports.specs.Status.{heldCountOf, heldBytesOf}
 use Rattle.polls.specs.Poll.{pollRow, pollBy, pollOf}
 use Rattle.polls.specs.PollReply.{pollReplyIn, pollReplyBy, pollReplyFound, stallOf, storedIn, failedAs, judgedTest, judgedBy, judged, settled, pollReplyAt, pollReplyOf}
-use Rattle.polls.specs.declared.PollReply.the-variants as poll
+use Rattle.polls.specs.declared.{PollReply.PollReply}
 use Rattle.submissions.specs.Begin.{roomIn, writeOf, beginOf, targetBy, targetOf}
-use Rattle.submissions.specs.Submit.{submittedBy, submitOf, packetsOf, roomOf, preparedOf, request}
+use Rattle.submissions.specs.Admit.{placeIn, admitPrepared, admitRoom, admitPackets, admitOf}
+use Rattle.submissions.specs.Submit.{submittedBy, submitOf, submitBy, submitTarget, request}
 use Rattle.submissions.specs.SubmitReply.{submitReplyIn, acceptedBy, discardedBy, submitReplyBy, submitReplyOf}
-use Rattle.submissions.specs.declared.SubmitReply.the-variants as submit
+use Rattle.submissions.specs.declared.{SubmitReply.SubmitReply}
 use Rattle.scope.specs.Affected.{isAffected, joined, affectedOf}
 use Rattle.scope.specs.Returned.{readBrought, broughtAt, readReturned, listsAgree}
 use Rattle.scope.specs.Scope.{inScope}
 use Rattle.recovery.specs.Entries.{rowCompletedBy, testedBy, completeOne, abortedBy, abortOne, readEntries, applyAll}
 use Rattle.recovery.specs.Recover.{recoverBy, beginRow, recoverOf, begunAs}
 use Rattle.recovery.specs.RecoveryReply.{doneOf, replyBy, replySized, replyIn, ReplyLists, replyLists, restoredBy, resetBy, sessionAfter, refusedAfter, concludedBy, settledOf, recoveryReplyOf}
-use Rattle.recovery.specs.declared.AbortReport.{AbortReport}
-use Rattle.recovery.specs.declared.RecoveryReply.{RecoveryReply}
-use Rattle.recovery.specs.declared.RecoveryReply.the-variants as reply
+use Rattle.recovery.specs.declared.{AbortReport.AbortReport, RecoveryReply.RecoveryReply}
 use Rattle.calls.specs.Calls.{Beginning, Call, Open, Place, Device, Port, Endpoints, Move, Acquire, Initialize, Close, Begin, Submit, Poll, Recover, Reply, ToSubmit, ToPoll, Change, Timeout, Reclaim, Read, HeldCount, HeldBytes}
 use Rattle.calls.specs.Step.{World, placedOf, movedOf, begunOf, repliedOf, readOf, stepOf}
-use Rattle.calls.specs.declared.Answer.{Answer}
-use Rattle.calls.specs.declared.Answer.the-variants as answer
+use Rattle.calls.specs.declared.{Answer.Answer}
 use Rattle.runs.specs.Run.{Event, own, other, Answered, next, endOf, historyOf, answerTo}
 use Rattle.history.specs.Journal.{Entry, journalStep}
 use Rattle.history.specs.Claim.{calls, rowsAfter, entriesAfter, returns, Different, Recovered, Claim}
-use Rattle.history.specs.Watcher.{Reads, UpTo, Noticed, Watched}
+use Rattle.history.specs.Watcher.{Reads, staleNumbers, Refuses, Noticed, Watched}
 use Rattle.history.proofs.Theorem.{history-claim, worldOf}
 use Rattle.history.proofs.Watcher.{watched}
 
@@ -91,7 +73,7 @@ abbrev pub opening : Opening
 opening = record {
   session = 5;
   «first_sequence» = 0;
-  «recovery_revision» = u64.Some 0;
+  «recovery_revision» = OptionU64.Some 0;
   «has_ports» = true;
   «port_count» = 1;
   size = record { «row_count» = 2; «row_bytes» = 8 };
@@ -102,11 +84,11 @@ closed = record {
   number = 0;
   generation = 0;
   «next_sequence» = 0;
-  ports = ports.None;
+  ports = OptionPorts.None;
   state = Closed;
-  «recovery_revision» = u64.None;
-  «recoverable_stall» = stall.None;
-  «in_flight» = flight.Nothing;
+  «recovery_revision» = OptionU64.None;
+  «recoverable_stall» = OptionStall.None;
+  «in_flight» = InFlight.Nothing;
   size = record { «row_count» = 0; «row_bytes» = 0 };
 }
 
@@ -132,7 +114,7 @@ id n = record { session = 5; generation = 0; sequence = n }
 -- n bytes from endpoint 81h of a device, with two readings of the port
 abbrev askingBy : DeviceId → ℕ → ℕ → ℕ → Beginning
 askingBy d n first second =
-    Submit [] (request (record { device = d; endpoint = 0x81; «transfer_type» = Bulk; direction = In; length = n; setup = setup.None }) [] false
+    Submit [] (request (record { device = d; endpoint = 0x81; «transfer_type» = Bulk; direction = In; length = n; setup = OptionSetup.None }) [] false
     (record { first = Word first; second = Word second }))
 
 abbrev pub asking : DeviceId → ℕ → ℕ → Beginning
@@ -144,53 +126,53 @@ asks n = Begin (asking camera n 0x403)
 -- the camera is placed, and the controller Initialized
 abbrev pub ready : List Event
 ready =
-    calls (Place (Port 1 (record { generation = 1; reading = u32.Some 0x403 }))) ∷ calls (Place (Device (plugged camera)))
-    ∷ calls (Place (Endpoints 1 (0x181 ∷ []))) ∷ calls (Move (Acquire acquire.Acquired)) ∷ calls (Move (Initialize error.None))
+    calls (Place (Port 1 (record { generation = 1; reading = OptionU32.Some 0x403 }))) ∷ calls (Place (Device (plugged camera)))
+    ∷ calls (Place (Endpoints 1 (0x181 ∷ []))) ∷ calls (Move (Acquire AcquireReply.Acquired)) ∷ calls (Move (Initialize OptionError.None))
     ∷ []
 
 abbrev broken : OperationError
-broken = record { category = Validation; message = 1; «os_code» = i32.None; «completion_code» = u32.None }
+broken = record { category = Validation; message = 1; «os_code» = OptionI32.None; «completion_code» = OptionU32.None }
 
 -- n bytes, quiescent or not, with an error or without
 abbrev came : ℕ → Bool → OptionError → Call
 came n quiescent e =
-    Reply (ToPoll (poll.Completion (record { «actual_length» = u64.Some n; «completion_code» = u32.Some 1; «has_data» = true; error = e; quiescent = quiescent })) (replicate n 0))
+    Reply (ToPoll (PollReply.Completion (record { «actual_length» = OptionU64.Some n; «completion_code» = OptionU32.Some 1; «has_data» = true; error = e; quiescent = quiescent })) (replicate n 0))
 
 -- code 6 with an error that says so: a stall
 abbrev stalls : Call
 stalls =
-    Reply (ToPoll (poll.Completion (record {
-      «actual_length» = u64.None;
-      «completion_code» = u32.Some 6;
+    Reply (ToPoll (PollReply.Completion (record {
+      «actual_length» = OptionU64.None;
+      «completion_code» = OptionU32.Some 6;
       «has_data» = false;
-      error = error.Some (record { category = RecoveryRequired; message = 1; «os_code» = i32.None; «completion_code» = u32.Some 6 });
+      error = OptionError.Some (record { category = RecoveryRequired; message = 1; «os_code» = OptionI32.None; «completion_code» = OptionU32.Some 6 });
       quiescent = false;
     })) [])
 
 -- a close that is handed another session and its slices
 abbrev elsewhere : Event
-elsewhere = record { call = Move (Close (u64.Some 6) error.None); handed = other before }
+elsewhere = record { call = Move (Close (OptionU64.Some 6) OptionError.None); handed = other before }
 
 -- ---- requests
 -- request 0 completes and is reclaimed, 1 is refused by the backend, 2 times out, fails and is not quiescent, 3 stays
 abbrev script : List Event
 script =
-    ready ++ (calls (asks 8) ∷ calls (Reply (ToSubmit (submit.Token 7)))
-    ∷ calls (asks 4) ∷ calls (Reply (ToSubmit (submit.Error broken)))
+    ready ++ (calls (asks 8) ∷ calls (Reply (ToSubmit (SubmitReply.Token 7)))
+    ∷ calls (asks 4) ∷ calls (Reply (ToSubmit (SubmitReply.Error broken)))
     ∷ calls (asks 9)
-    ∷ calls (asks 3) ∷ calls (Reply (ToSubmit (submit.Token 9)))
+    ∷ calls (asks 3) ∷ calls (Reply (ToSubmit (SubmitReply.Token 9)))
     ∷ calls (asks 1)
     ∷ calls (Change (id 2) Timeout)
-    ∷ calls (Begin (Poll (id 0))) ∷ calls (came 8 true error.None) ∷ calls (Change (id 0) Reclaim)
-    ∷ calls (asks 2) ∷ calls (Reply (ToSubmit (submit.Token 7)))
-    ∷ calls (Begin (Poll (id 2))) ∷ calls (came 0 false (error.Some broken)) ∷ calls (Change (id 2) Reclaim)
+    ∷ calls (Begin (Poll (id 0))) ∷ calls (came 8 true OptionError.None) ∷ calls (Change (id 0) Reclaim)
+    ∷ calls (asks 2) ∷ calls (Reply (ToSubmit (SubmitReply.Token 7)))
+    ∷ calls (Begin (Poll (id 2))) ∷ calls (came 0 false (OptionError.Some broken)) ∷ calls (Change (id 2) Reclaim)
     ∷ elsewhere
     ∷ calls (Read HeldCount) ∷ calls (Read HeldBytes)
     ∷ [])
 
 -- ---- a recovery: requests 0 and 1 have the tokens 7 and 9; a reply is refused by 49; then 1 completes with 4 bytes, 0 is aborted and reclaimed
 abbrev pub whole : RecoveryReply
-whole = reply.Done (record { «restart_ready» = true; error = error.None })
+whole = RecoveryReply.Done (record { «restart_ready» = true; error = OptionError.None })
 
 abbrev completion : List ℕ
 completion = 0 ∷ 0 ∷ 0 ∷ 0 ∷ 0 ∷ 1 ∷ 4 ∷ 2 ∷ 1 ∷ 1 ∷ 4 ∷ []
@@ -202,9 +184,9 @@ lists n = replyLists (9 ∷ []) completion (7 ∷ []) (replicate n 1)
 -- the calls before the reply that succeeds, and those after it
 abbrev front : List Event
 front =
-    ready ++ (calls (asks 8) ∷ calls (Reply (ToSubmit (submit.Token 7)))
-    ∷ calls (asks 4) ∷ calls (Reply (ToSubmit (submit.Token 9)))
-    ∷ calls (Begin (Recover (id 0) kind.Abort)) ∷ calls (Read HeldCount) ∷ calls (Change (id 1) Timeout)
+    ready ++ (calls (asks 8) ∷ calls (Reply (ToSubmit (SubmitReply.Token 7)))
+    ∷ calls (asks 4) ∷ calls (Reply (ToSubmit (SubmitReply.Token 9)))
+    ∷ calls (Begin (Recover (id 0) RecoveryKind.Abort)) ∷ calls (Read HeldCount) ∷ calls (Change (id 1) Timeout)
     ∷ returns whole (lists 5) own
     ∷ [])
 
@@ -218,14 +200,14 @@ abbrev recovery : List Event
 recovery = front ++ (succeeds ∷ back)
 
 abbrev report : AbortReport
-report = record { target = id 0; device = camera; endpoint = 0x81; completed = 1; aborted = 1; «restart_ready» = true; error = error.None }
+report = record { target = id 0; device = camera; endpoint = 0x81; completed = 1; aborted = 1; «restart_ready» = true; error = OptionError.None }
 
 -- ---- a stall: request 0 fails, and a reset that aborts it makes the controller Initialized again; requests 1 and 2 have one token
 abbrev toReset : List Event
 toReset =
-    ready ++ (calls (asks 8) ∷ calls (Reply (ToSubmit (submit.Token 7)))
+    ready ++ (calls (asks 8) ∷ calls (Reply (ToSubmit (SubmitReply.Token 7)))
     ∷ calls (Begin (Poll (id 0))) ∷ calls stalls ∷ calls (asks 4)
-    ∷ calls (Begin (Recover (id 0) (kind.Reset false)))
+    ∷ calls (Begin (Recover (id 0) (RecoveryKind.Reset false)))
     ∷ [])
 
 abbrev aborts : Event
@@ -234,13 +216,13 @@ aborts = returns whole (replyLists [] [] (7 ∷ []) []) own
 abbrev toAbort : List Event
 toAbort =
     toReset ++ (aborts ∷ calls (Change (id 0) Reclaim)
-    ∷ calls (asks 4) ∷ calls (Reply (ToSubmit (submit.Token 7)))
-    ∷ calls (asks 2) ∷ calls (Reply (ToSubmit (submit.Token 7)))
-    ∷ calls (Begin (Recover (id 2) kind.Abort))
+    ∷ calls (asks 4) ∷ calls (Reply (ToSubmit (SubmitReply.Token 7)))
+    ∷ calls (asks 2) ∷ calls (Reply (ToSubmit (SubmitReply.Token 7)))
+    ∷ calls (Begin (Recover (id 2) RecoveryKind.Abort))
     ∷ [])
 
 abbrev closing : List Event
-closing = calls (Read HeldCount) ∷ calls (Read HeldBytes) ∷ calls (Move (Close (u64.Some 6) error.None)) ∷ calls (Read HeldCount) ∷ []
+closing = calls (Read HeldCount) ∷ calls (Read HeldBytes) ∷ calls (Move (Close (OptionU64.Some 6) OptionError.None)) ∷ calls (Read HeldCount) ∷ []
 
 abbrev stalled : List Event
 stalled = toAbort ++ (aborts ∷ closing)
@@ -261,21 +243,21 @@ then first = next (stepOf (Begin (pulled first)) (endOf start ready))
 -- ---- what they compute to
 -- an answer's refusal, or the number that it is, or 0
 abbrev pub numberIn : Answer → ℕ
-numberIn (answer.Refused r) = r .number
-numberIn answer.Pass = 0
-numberIn (answer.Begun x) = 0
-numberIn (answer.PlanBegun x) = 0
-numberIn (answer.Report x) = 0
-numberIn answer.NoReport = 0
-numberIn (answer.Asked token) = 0
-numberIn (answer.Number n) = n
-numberIn (answer.Bytes x) = 0
-numberIn (answer.Recovering x) = 0
-numberIn (answer.Recovered x) = 0
+numberIn (Answer.Refused r) = r .number
+numberIn Answer.Pass = 0
+numberIn (Answer.Begun x) = 0
+numberIn (Answer.PlanBegun x) = 0
+numberIn (Answer.Report x) = 0
+numberIn Answer.NoReport = 0
+numberIn (Answer.Asked token) = 0
+numberIn (Answer.Number n) = n
+numberIn (Answer.Bytes x) = 0
+numberIn (Answer.Recovering x) = 0
+numberIn (Answer.Recovered x) = 0
 
 -- of an entry: sequence number, length, whether it is marked Failed, releases
 abbrev entryNumbers : Entry → List ℕ
-entryNumbers e = e .id .sequence ∷ e .requested ∷ cond (e .failed) 1 0 ∷ e .releases ∷ []
+entryNumbers e = e .view .id .sequence ∷ e .view .requested ∷ cond (e .view .failed) 1 0 ∷ e .releases ∷ []
 
 -- of a row: sequence number, length, state (4: no request) with a completion's length and code
 abbrev stateNumbers : RequestState → List ℕ
@@ -297,10 +279,10 @@ pub record Computed (es : List Event) (answers : List ℕ) (journal rows : List 
 -- both submissions are refused by 31, each also by the watcher's own words
 pub record Pulled (first : ℕ) (earlier : OptionU32) : Type 0 where
   pub answers-are : map (λ (h : Answered). numberIn (h .answer)) (historyOf start (cable first)) ≡ 0 ∷ 0 ∷ 0 ∷ 0 ∷ 0 ∷ 31 ∷ 0 ∷ 31 ∷ []
-  pub row-is : portAt (then first .lent .bus) 1 ≡ record { generation = 2; reading = u32.Some 0x402 }
+  pub row-is : portAt (then first .lent .bus) 1 ≡ record { generation = 2; reading = OptionU32.Some 0x402 }
   pub noticed : Noticed (plugged camera .port) earlier (endOf start ready .lent .bus) (answerTo (endOf start ready) (calls (Begin (pulled first))))
       (then first .lent .bus)
-  pub stale : UpTo 31 (answerTo (endOf (then first) between) (calls (asks 8)))
+  pub stale : Refuses staleNumbers (answerTo (endOf (then first) between) (calls (asks 8)))
 
 pub record Shown : Type 0 where
   pub requests : Computed script
@@ -321,8 +303,8 @@ pub record Shown : Type 0 where
   pub restored : isInitialized (endOf start (toReset ++ (aborts ∷ [])) .session .state) ≡ true
   -- a token means the lowest id that has it: 1 is aborted, 2 stays held
   pub one-token : map rowNumbers (rowsAfter start (toAbort ++ (aborts ∷ []))) ≡ (1 ∷ 4 ∷ 3 ∷ []) ∷ (2 ∷ 2 ∷ 0 ∷ []) ∷ []
-  pub cable-is : Pulled 0x402 u32.None
-  pub between-readings : Pulled 0x401 (u32.Some 0x401)
+  pub cable-is : Pulled 0x402 OptionU32.None
+  pub between-readings : Pulled 0x401 (OptionU32.Some 0x401)
 
 -- two rows with the tokens 7 and 9
 two-apart : (l : List Row) → map (λ (r : Row). r .token) l ≡ 7 ∷ 9 ∷ [] → Different camera 0x81 l
@@ -347,7 +329,7 @@ two-apart (r ∷ q ∷ []) e = go
 two-apart (r ∷ q ∷ p ∷ l) e = let z : _≡_ {A = ℕ} 2 3 = ap (λ (m : List ℕ). length (take 3 m)) (sym e) ∙ refl in absurd (omega arith)
 
 pub shown : Shown
-unfolding stepOf placedOf movedOf begunOf repliedOf readOf openOf rowsFit areaFits cleared _if_else_ foundIn splice putIn emptied emptyRow isHeld putRow putWords rowCount readRow recordOf applyBy applyAt applyOf pendingRow spendSequence moved freed accepted whilePending timeOut completed failed reclaimed changeRow isAt isFree saturate heldCount heldBytes putDevice putEndpoints putPort codeTested testCode testLength testCompletion packetsChecked marked acquiredBy acquireOf initializedBy initializeOf placed setDeviceOf setPortOf setEndpointsOf effect roomIn writeOf beginOf targetBy targetOf reportedBy changeOf failedAs judgedTest judgedBy judged storedIn settled pollReplyAt pollReplyBy pollReplyFound pollReplyIn pollReplyOf pollRow pollBy pollOf acceptedBy discardedBy submitReplyBy submitReplyIn submitReplyOf heldCountOf heldBytesOf submittedBy preparedOf roomOf packetsOf guarded submitOf bus.numberChecked bus.setPortBy bus.setPort bus.readingChecked bus.validatedRow bus.validatedBy bus.validated bus.raisedRow bus.observedBy bus.observedRow bus.observePortBy bus.observePort bus.freshObserved bus.freshWord bus.freshReading bus.freshPortBy bus.freshPort endpoints.setEndpoints prepare.dataChecked prepare.otherChecked prepare.specChecked prepare.preparedIf prepare.prepared target.knownBy target.knownDevice target.preparedDevice target.freshDevice target.checkDeviceBy target.checkDevice target.speedChecked target.endpointBy target.checkEndpoint target.checkTargetBy target.checkTarget layout.deviceRecord journalStep closeOf recoverOf recoverBy beginRow begunAs listed isAffected joined affectedOf inScope readBrought broughtAt readReturned listsAgree readEntries rowCompletedBy testedBy completeOne abortedBy abortOne abortConfirmed restoredBy resetBy sessionAfter refusedAfter applyAll concludedBy settledOf doneOf replyBy replySized replyIn recoveryReplyOf part requestBefore storeOf readRows busOf raised stallOf freshBy closedBy isUncertain
+unfolding stepOf placedOf movedOf begunOf repliedOf readOf openOf rowsFit areaFits cleared _if_else_ foundIn splice putIn emptied emptyRow isHeld putRow putWords rowCount readRow recordOf applyBy applyAt applyOf pendingRow spendSequence moved freed accepted whilePending timeOut completed failed reclaimed changeRow isAt isFree saturate heldCount heldBytes putDevice putEndpoints putPort codeTested testCode testLength testCompletion packetsChecked marked acquiredBy acquireOf initializedBy initializeOf placed setDeviceOf setPortOf setEndpointsOf effect roomIn writeOf beginOf targetBy targetOf reportedBy changeOf failedAs judgedTest judgedBy judged storedIn settled pollReplyAt pollReplyBy pollReplyFound pollReplyIn pollReplyOf pollRow pollBy pollOf acceptedBy discardedBy submitReplyBy submitReplyIn submitReplyOf heldCountOf heldBytesOf submittedBy placeIn admitPrepared admitRoom admitPackets admitOf submitTarget submitBy guarded submitOf bus.numberChecked bus.setPortBy bus.setPort bus.readingChecked bus.validatedRow bus.validatedBy bus.validated bus.raisedRow bus.observedBy bus.observedRow bus.observePortBy bus.observePort bus.freshObserved bus.freshWord bus.freshReading bus.freshPortBy bus.freshPort endpoints.setEndpoints prepare.dataChecked prepare.otherChecked prepare.specChecked prepare.preparedIf prepare.prepared target.knownBy target.knownDevice target.preparedDevice target.freshDevice target.checkDeviceBy target.checkDevice target.speedChecked target.endpointBy target.checkEndpoint target.checkTargetBy target.checkTarget layout.deviceRecord journalStep closeOf recoverOf recoverBy beginRow begunAs listed isAffected joined affectedOf inScope readBrought broughtAt readReturned listsAgree readEntries rowCompletedBy testedBy completeOne abortedBy abortOne abortConfirmed restoredBy resetBy sessionAfter refusedAfter applyAll concludedBy settledOf doneOf replyBy replySized replyIn recoveryReplyOf part requestBefore storeOf readRows busOf raised stallOf freshBy closedBy isUncertain
 shown =
     let of-recovery = history-claim opening closed busWords (replicate 52 0) (replicate 16 0) recovery refl
     (refl, (refl, (refl, (refl, (refl, (refl, (refl, (refl, (refl, (refl, (refl, (refl, (refl, (refl, (refl, (refl, (refl, tt)))))))))))))))))
@@ -374,11 +356,11 @@ shown =
       };
       restored = refl;
       one-token = refl;
-      cable-is = record { answers-are = refl; row-is = refl; noticed = by-watcher 0x402 u32.None refl; stale = stays 0x402 refl };
+      cable-is = record { answers-are = refl; row-is = refl; noticed = by-watcher 0x402 OptionU32.None refl; stale = stays 0x402 refl };
       between-readings = record {
         answers-are = refl;
         row-is = refl;
-        noticed = by-watcher 0x401 (u32.Some 0x401) (record { readings = refl; agrees = refl; not-control = refl; configured = refl });
+        noticed = by-watcher 0x401 (OptionU32.Some 0x401) (record { readings = refl; agrees = refl; not-control = refl; configured = refl });
         stale = stays 0x401 refl;
       };
     }
@@ -391,7 +373,7 @@ shown =
     by-watcher first earlier k =
         watch first .noticed 1 (plugged camera) ready (between ++ (calls (asks 8) ∷ [])) (pulled first) earlier 0x403 0x402 refl refl refl k refl true≢false
 
-    stays : (first : ℕ) → portAt (then first .lent .bus) 1 .reading ≡ u32.Some 0x402 → UpTo 31 (answerTo (endOf (then first) between) (calls (asks 8)))
+    stays : (first : ℕ) → portAt (then first .lent .bus) 1 .reading ≡ OptionU32.Some 0x402 → Refuses staleNumbers (answerTo (endOf (then first) between) (calls (asks 8)))
     stays first e =
         watch first .refused 1 (plugged camera) ready between [] (Begin (pulled first)) (asking camera 8 0x403) refl refl
         (record { old = 0x403; raw = 0x402; last = refl; taken = e; differs = true≢false; current = refl }) (refl, (refl, tt)) refl

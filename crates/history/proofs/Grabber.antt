@@ -6,28 +6,23 @@ use mathlib.Core.Logic.{_⊎_, inl, inr}
 use mathlib.Core.Path.{_≡_, refl, sym, ap, _∙_, subst}
 use native.Mathlib.Omega.{arith}
 use lib.ListN.{length}
-use Rattle.chain.specs.declared.Found.{Found}
+use Rattle.chain.specs.declared.{Found.Found}
 use Rattle.chain.proofs.Chain.{if-by}
 use Rattle.words.proofs.Records.{record-apart}
 use Rattle.models.specs.Requests.{deviceMayAccess}
-use Rattle.models.specs.declared.Refusal.{Refusal}
-use Rattle.models.specs.declared.RequestId.{RequestId}
-use Rattle.models.specs.declared.RequestState.{RequestState}
+use Rattle.models.specs.declared.{Refusal.Refusal, RequestId.RequestId, RequestState.RequestState}
 use Rattle.models.specs.declared.RequestState.the-variants.{Pending, Completed, Failed, Aborted}
 use Rattle.rows.specs.Store.{Store}
 use Rattle.rows.specs.Table.{isHeld, rowIn}
-use Rattle.rows.specs.declared.Row.{Row}
+use Rattle.rows.specs.declared.{Row.Row}
 use Rattle.ledger.specs.Search.{isAt}
-use Rattle.session.specs.declared.Session.{Session}
-use Rattle.session.specs.declared.Size.{Size}
-use Rattle.session.specs.declared.lifecycle.Opening.{Opening}
+use Rattle.session.specs.declared.{Session.Session, Size.Size, lifecycle.Opening.Opening}
 use Rattle.reports.specs.Status.{shownAt, completedLength, bytesPart, partBy, completedPart}
-use Rattle.reports.specs.declared.Part.{Part}
-use Rattle.reports.specs.declared.PartAnswer.{PartAnswer}
+use Rattle.reports.specs.declared.{Part.Part, PartAnswer.PartAnswer}
 use Rattle.calls.specs.Answers.{ofPart}
 use Rattle.calls.specs.Calls.{Open, Read, CompletedBytes}
 use Rattle.calls.specs.Step.{World, readOf, stepOf, worldStore}
-use Rattle.calls.specs.declared.Answer.the-variants as answer
+use Rattle.calls.specs.declared.{Answer.Answer}
 use Rattle.runs.specs.Run.{Handed, Event, next, answerTo, endOf, historyOf, Follows, Fresh}
 use Rattle.runs.proofs.Handings.{by-handed, follows-at, follows-front, fresh-front}
 use Rattle.runs.proofs.Held.{unheld-row}
@@ -55,7 +50,7 @@ completed-off (Completed actual code cancel) h = refl
 completed-off (Failed error code quiescent) h = absurd (omega arith)
 completed-off Aborted h = absurd (omega arith)
 
-taken-told : (id : RequestId) (size : ℕ) (s : Session) (store : Store) (p : Part) → ofPart (completedPart id size s store) ≡ answer.Bytes p → 1 ≤ p .length
+taken-told : (id : RequestId) (size : ℕ) (s : Session) (store : Store) (p : Part) → ofPart (completedPart id size s store) ≡ Answer.Bytes p → 1 ≤ p .length
     → TakenFrom id (s .size) (store .rows) p
 unfolding completedPart shownAt partBy
 taken-told id size s store p =
@@ -65,13 +60,13 @@ taken-told id size s store p =
     (λ y. found-all id (store .rows) (λ (f : Found). Told (partBy f (s .size .«row_bytes») (store .rows))) (λ e. refuses e) (λ i h hit. at i h hit)))
   where
     Told : PartAnswer → Type 0
-    Told a = ofPart a ≡ answer.Bytes p → 1 ≤ p .length → TakenFrom id (s .size) (store .rows) p
+    Told a = ofPart a ≡ Answer.Bytes p → 1 ≤ p .length → TakenFrom id (s .size) (store .rows) p
 
-    refuses : {f : Refusal} → answer.Refused f ≡ answer.Bytes p → 1 ≤ p .length → TakenFrom id (s .size) (store .rows) p
+    refuses : {f : Refusal} → Answer.Refused f ≡ Answer.Bytes p → 1 ≤ p .length → TakenFrom id (s .size) (store .rows) p
     refuses e = let z : _≡_ {A = ℕ} 0 1 = cc in absurd (omega arith)
 
     at : (i : ℕ) → i < length (store .rows) → isAt id (rowIn (store .rows) i) ≡ true
-        → answer.Bytes (bytesPart (i * s .size .«row_bytes») (min (completedLength (rowIn (store .rows) i .state)) (s .size .«row_bytes»))) ≡ answer.Bytes p
+        → Answer.Bytes (bytesPart (i * s .size .«row_bytes») (min (completedLength (rowIn (store .rows) i .state)) (s .size .«row_bytes»))) ≡ Answer.Bytes p
         → 1 ≤ p .length → TakenFrom id (s .size) (store .rows) p
     at i h hit e some =
         let q : bytesPart (i * s .size .«row_bytes») (min (completedLength (rowIn (store .rows) i .state)) (s .size .«row_bytes»)) ≡ p = cc in
@@ -93,18 +88,18 @@ taken-apart id z rows p k i on =
     go (inl e) = inr (omega (arith, k .starts))
     go (inr e) = inl (omega (arith, k .starts, k .fits))
 
-module _ (o : Opening) (w : World) (es : List Event) (pass : stepOf (Open o) w .result .answer ≡ answer.Pass) (follows : Follows es)
+module _ (o : Opening) (w : World) (es : List Event) (pass : stepOf (Open o) w .result .answer ≡ Answer.Pass) (follows : Follows es)
     (fresh : Fresh (o .session ∷ []) es) (whole : Whole w) where
   abbrev start : World
   start = next (stepOf (Open o) w)
 
   taken-at : (before after : List Event) (h : Handed) (id : RequestId) (p : Part) → es ≡ before ++ (takes id h ∷ after)
-      → answerTo (endOf start before) (takes id h) ≡ answer.Bytes p → 1 ≤ p .length
+      → answerTo (endOf start before) (takes id h) ≡ Answer.Bytes p → 1 ≤ p .length
       → TakenFrom id (endOf start before .session .size) (worldStore (endOf start before) .rows) p
   unfolding stepOf readOf
   taken-at before after h id p is =
       let at = endOf start before in
-      by-handed h (Read (CompletedBytes id)) at (λ a v. a ≡ answer.Bytes p → 1 ≤ p .length → TakenFrom id (at .session .size) (worldStore at .rows) p)
+      by-handed h (Read (CompletedBytes id)) at (λ a v. a ≡ Answer.Bytes p → 1 ≤ p .length → TakenFrom id (at .session .size) (worldStore at .rows) p)
       (follows-at before after (takes id h) (subst Follows is follows)) (λ first bus area. taken-told id (length area) (at .session) (worldStore at) p)
       (λ e. let z : _≡_ {A = ℕ} 0 1 = cc in absurd (omega arith))
 

@@ -10,7 +10,7 @@ use Rattle.chain.specs.Chain.{_if_else_}
 use Rattle.chain.specs.Lists.{foundIn}
 use Rattle.words.specs.Records.{splice, part}
 use Rattle.models.specs.Requests.{requestBefore}
-use Rattle.models.specs.declared.DeviceId.{DeviceId}
+use Rattle.models.specs.declared.{DeviceId.DeviceId}
 use Rattle.rows.specs.Codec.{readRow, recordOf}
 use Rattle.rows.specs.Store.{storeOf, putIn, emptied}
 use Rattle.rows.specs.Table.{emptyRow, isHeld, putRow, putWords, rowCount, readRows}
@@ -28,13 +28,14 @@ use Rattle.session.specs.Lifecycle.{openOf, acquiredBy, acquireOf, initializedB
 use Rattle.session.specs.Place.{placed, setDeviceOf, setPortOf, setEndpointsOf}
 use Rattle.session.specs.Start.{guarded}
 use Rattle.session.specs.Sizes.{rowsFit, areaFits}
-use Rattle.session.specs.declared.RecoveryKind.the-variants as kind
+use Rattle.session.specs.declared.{RecoveryKind.RecoveryKind}
 use Rattle.reports.specs.Answers.{effect}
 use Rattle.reports.specs.Change.{reportedBy, changeOf}
 use Rattle.submissions.specs.Begin.{roomIn, writeOf, beginOf, targetBy, targetOf}
-use Rattle.submissions.specs.Submit.{submittedBy, submitOf, packetsOf, roomOf, preparedOf}
+use Rattle.submissions.specs.Admit.{placeIn, admitPrepared, admitRoom, admitPackets, admitOf}
+use Rattle.submissions.specs.Submit.{submittedBy, submitOf, submitBy, submitTarget}
 use Rattle.submissions.specs.SubmitReply.{submitReplyIn, acceptedBy, submitReplyBy, submitReplyOf}
-use Rattle.submissions.specs.declared.SubmitReply.the-variants as submit
+use Rattle.submissions.specs.declared.{SubmitReply.SubmitReply}
 use Rattle.scope.specs.Affected.{isAffected, joined, affectedOf}
 use Rattle.scope.specs.Returned.{readReturned, listsAgree}
 use Rattle.scope.specs.Scope.{inScope}
@@ -43,7 +44,7 @@ use Rattle.recovery.specs.Recover.{recoverBy, beginRow, recoverOf, begunAs}
 use Rattle.recovery.specs.RecoveryReply.{doneOf, replyBy, replySized, replyIn, replyLists, concludedBy, settledOf, recoveryReplyOf}
 use Rattle.calls.specs.Calls.{Call, Open, Place, Device, Move, Begin, Recover, Reply, ToSubmit, ToPoll, ToRecovery, Change, Cancel, Timeout, Reclaim, Withdraw, Read, Status, Reports, CountReports, CompletedBytes, HeldCount, HeldBytes}
 use Rattle.calls.specs.Step.{World, placedOf, movedOf, begunOf, repliedOf, stepOf}
-use Rattle.calls.specs.declared.Answer.the-variants as answer
+use Rattle.calls.specs.declared.{Answer.Answer}
 use Rattle.runs.specs.Run.{Event, own, Stepping, next, FollowsBy, Follows, Fresh}
 use Rattle.history.specs.Journal.{journalStep}
 use Rattle.history.specs.Claim.{calls, returns, ClaimOf, Claim}
@@ -55,7 +56,7 @@ use Rattle.history.proofs.Examples.{opening, closed, busWords, before, 
 
 -- request 0, of 8 bytes, has token 7
 abbrev one : List Event
-one = ready ++ (calls (asks 8) ∷ calls (Reply (ToSubmit (submit.Token 7))) ∷ [])
+one = ready ++ (calls (asks 8) ∷ calls (Reply (ToSubmit (SubmitReply.Token 7))) ∷ [])
 
 abbrev late : List Event
 late = one ++ (calls (Change (id 0) Timeout) ∷ [])
@@ -63,8 +64,8 @@ late = one ++ (calls (Change (id 0) Timeout) ∷ [])
 -- request 1 has token 9, and a recovery aborts both
 abbrev two : List Event
 two =
-    one ++ (calls (asks 4) ∷ calls (Reply (ToSubmit (submit.Token 9)))
-    ∷ calls (Begin (Recover (id 0) kind.Abort)) ∷ returns whole (replyLists [] [] (7 ∷ 9 ∷ []) []) own
+    one ++ (calls (asks 4) ∷ calls (Reply (ToSubmit (SubmitReply.Token 9)))
+    ∷ calls (Begin (Recover (id 0) RecoveryKind.Abort)) ∷ returns whole (replyLists [] [] (7 ∷ 9 ∷ []) []) own
     ∷ [])
 
 -- another device comes to the camera's slot; its request 1 has token 7 too, and a recovery aborts it
@@ -73,15 +74,15 @@ newcomer = record { session = 5; generation = 1; slot = 1 }
 
 abbrev shared : List Event
 shared =
-    one ++ (calls (Place (Device (plugged newcomer))) ∷ calls (Begin (asking newcomer 4 0x403)) ∷ calls (Reply (ToSubmit (submit.Token 7)))
-    ∷ calls (Begin (Recover (id 1) kind.Abort)) ∷ returns whole (replyLists [] [] (7 ∷ []) []) own
+    one ++ (calls (Place (Device (plugged newcomer))) ∷ calls (Begin (asking newcomer 4 0x403)) ∷ calls (Reply (ToSubmit (SubmitReply.Token 7)))
+    ∷ calls (Begin (Recover (id 1) RecoveryKind.Abort)) ∷ returns whole (replyLists [] [] (7 ∷ []) []) own
     ∷ [])
 
 -- ---- the four
 
 pub record Refuted (step : Stepping) (es : List Event) : Type 0 where
   -- what the theorem assumes
-  pub passes : step (Open opening) before .result .answer ≡ answer.Pass
+  pub passes : step (Open opening) before .result .answer ≡ Answer.Pass
   pub follows : FollowsBy step es
   pub fresh : Fresh (opening .session ∷ []) es
   -- the claim holds of the calls' own step, and not of the impostor
@@ -120,7 +121,7 @@ only-ways (Read (CompletedBytes x)) w = refl
 only-ways (Read HeldCount) w = refl
 only-ways (Read HeldBytes) w = refl
 
-refutes : {step : Stepping} {es : List Event} → step (Open opening) before .result .answer ≡ answer.Pass → FollowsBy step es
+refutes : {step : Stepping} {es : List Event} → step (Open opening) before .result .answer ≡ Answer.Pass → FollowsBy step es
     → (FollowsBy step es → Follows es) → Fresh (opening .session ∷ []) es → (ClaimOf step (next (step (Open opening) before)) es → ⊥) → Refuted step es
 unfolding stepOf openOf rowsFit areaFits _if_else_ cleared storeOf busOf
 refutes passes follows same fresh wrong = record {
@@ -132,7 +133,7 @@ refutes passes follows same fresh wrong = record {
 }
 
 pub refuted : Impostors
-unfolding stepOf placedOf movedOf begunOf repliedOf openOf rowsFit areaFits cleared _if_else_ foundIn splice putIn emptied emptyRow isHeld putRow putWords rowCount readRow recordOf applyBy applyAt applyOf pendingRow spendSequence moved accepted changeRow isAt isFree putDevice putEndpoints putPort packetsChecked acquiredBy acquireOf initializedBy initializeOf placed setDeviceOf setPortOf setEndpointsOf effect roomIn writeOf beginOf targetBy targetOf reportedBy changeOf acceptedBy submitReplyBy submitReplyIn submitReplyOf submittedBy preparedOf roomOf packetsOf guarded submitOf bus.numberChecked bus.setPortBy bus.setPort bus.readingChecked bus.validatedRow bus.validatedBy bus.validated bus.observedBy bus.observedRow bus.observePortBy bus.observePort bus.freshObserved bus.freshWord bus.freshReading bus.freshPortBy bus.freshPort endpoints.setEndpoints prepare.dataChecked prepare.otherChecked prepare.specChecked prepare.preparedIf prepare.prepared target.knownBy target.knownDevice target.preparedDevice target.freshDevice target.checkDeviceBy target.checkDevice target.speedChecked target.endpointBy target.checkEndpoint target.checkTargetBy target.checkTarget layout.deviceRecord journalStep recoverOf recoverBy beginRow begunAs isAffected joined affectedOf inScope readReturned listsAgree readEntries abortedBy abortOne abortConfirmed applyAll concludedBy settledOf doneOf replyBy replySized replyIn recoveryReplyOf part requestBefore storeOf readRows busOf
+unfolding stepOf placedOf movedOf begunOf repliedOf openOf rowsFit areaFits cleared _if_else_ foundIn splice putIn emptied emptyRow isHeld putRow putWords rowCount readRow recordOf applyBy applyAt applyOf pendingRow spendSequence moved accepted changeRow isAt isFree putDevice putEndpoints putPort packetsChecked acquiredBy acquireOf initializedBy initializeOf placed setDeviceOf setPortOf setEndpointsOf effect roomIn writeOf beginOf targetBy targetOf reportedBy changeOf acceptedBy submitReplyBy submitReplyIn submitReplyOf submittedBy placeIn admitPrepared admitRoom admitPackets admitOf submitTarget submitBy guarded submitOf bus.numberChecked bus.setPortBy bus.setPort bus.readingChecked bus.validatedRow bus.validatedBy bus.validated bus.observedBy bus.observedRow bus.observePortBy bus.observePort bus.freshObserved bus.freshWord bus.freshReading bus.freshPortBy bus.freshPort endpoints.setEndpoints prepare.dataChecked prepare.otherChecked prepare.specChecked prepare.preparedIf prepare.prepared target.knownBy target.knownDevice target.preparedDevice target.freshDevice target.checkDeviceBy target.checkDevice target.speedChecked target.endpointBy target.checkEndpoint target.checkTargetBy target.checkTarget layout.deviceRecord journalStep recoverOf recoverBy beginRow begunAs isAffected joined affectedOf inScope readReturned listsAgree readEntries abortedBy abortOne abortConfirmed applyAll concludedBy settledOf doneOf replyBy replySized replyIn recoveryReplyOf part requestBefore storeOf readRows busOf
 refuted = record {
   ways = only-ways;
   first-entry =

@@ -9,18 +9,14 @@ use lib.ListN.{length, set, replicate}
 use Rattle.chain.specs.Lists.{count, isAmong}
 use Rattle.chain.proofs.Chain.{caseB, if-all}
 use Rattle.chain.proofs.Lists.{sum-none, in-cons, in-head}
-use Rattle.words.specs.declared.OptionU64.{OptionU64}
-use Rattle.words.specs.declared.OptionU64.the-variants as u64
-use Rattle.models.specs.declared.OperationError.{OperationError}
-use Rattle.models.specs.declared.RequestId.{RequestId}
+use Rattle.words.specs.declared.{OptionU64.OptionU64}
+use Rattle.models.specs.declared.{OperationError.OperationError, RequestId.RequestId}
 use Rattle.rows.specs.Table.{emptyRow, isHeld, rowIn}
-use Rattle.rows.specs.declared.Row.{Row}
+use Rattle.rows.specs.declared.{Row.Row}
 use Rattle.ledger.specs.Search.{isAt}
 use Rattle.session.specs.Session.{isBusy, withFlight, marked}
 use Rattle.session.specs.Lifecycle.{closedSession}
-use Rattle.session.specs.declared.InFlight.{InFlight}
-use Rattle.session.specs.declared.InFlight.the-variants as flight
-use Rattle.session.specs.declared.Session.{Session}
+use Rattle.session.specs.declared.{InFlight.InFlight, Session.Session}
 use Rattle.reports.specs.Answers.{effect}
 use Rattle.runs.specs.Run.{noted}
 use Rattle.runs.proofs.Held.{or-false}
@@ -42,11 +38,11 @@ pub record InvOf (number generation next : ℕ) (waits : InFlight) (rows : List 
 abbrev pub Inv : Session → List Row → Journal → List ℕ → Type 0
 Inv s rows j seen = InvOf (s .number) (s .generation) (s .«next_sequence») (s .«in_flight») rows j seen
 
-flight-none : (f : InFlight) → isBusy f ≡ false → f ≡ flight.Nothing
-flight-none flight.Nothing e = refl
-flight-none (flight.Submission id) e = absurd (true≢false e)
-flight-none (flight.Poll id) e = absurd (true≢false e)
-flight-none (flight.Recovery x) e = absurd (true≢false e)
+flight-none : (f : InFlight) → isBusy f ≡ false → f ≡ InFlight.Nothing
+flight-none InFlight.Nothing e = refl
+flight-none (InFlight.Submission id) e = absurd (true≢false e)
+flight-none (InFlight.Poll id) e = absurd (true≢false e)
+flight-none (InFlight.Recovery x) e = absurd (true≢false e)
 
 module _ (s : Session) (rows : List Row) (j : Journal) (seen : List ℕ) (k : Inv s rows j seen) where
   pub marks : Inv (marked s) rows j seen
@@ -59,7 +55,7 @@ module _ (s : Session) (rows : List Row) (j : Journal) (seen : List ℕ) (k : In
 
   -- ---- an operation ends
   pub ended-kept : (rows′ : List Row) (entries′ : List Entry) → Led rows′ entries′ → ((x : RequestId) → count (isEntry x) entries′ ≡ count (isEntry x) (j .entries))
-      → Inv (withFlight s flight.Nothing) rows′ (record { entries = entries′; waiting = flight.Nothing }) seen
+      → Inv (withFlight s InFlight.Nothing) rows′ (record { entries = entries′; waiting = InFlight.Nothing }) seen
   ended-kept rows′ entries′ led ids = record {
     led = led;
     fresh = λ n h. ids _ ∙ k .fresh n h;
@@ -76,9 +72,9 @@ module _ (s : Session) (rows : List Row) (j : Journal) (seen : List ℕ) (k : In
   module _ (x : RequestId) (i : ℕ) (lt : i < length rows) (hit : isAt x (rowIn rows i) ≡ true) (g : Entry → Entry)
       (about : atWaiting (j .waiting) g (j .entries) ≡ atEntry x g (j .entries)) (r′ : Row)
       (c : Changed (rowIn rows i) r′ (entryOf x (j .entries)) (g (entryOf x (j .entries)))) where
-    pub ends-at : Inv (withFlight s flight.Nothing) (set rows i r′) (endedWith g j) seen
+    pub ends-at : Inv (withFlight s InFlight.Nothing) (set rows i r′) (endedWith g j) seen
     ends-at =
-        subst (λ (l : List Entry). Inv (withFlight s flight.Nothing) (set rows i r′) (record { entries = l; waiting = flight.Nothing }) seen) (sym about)
+        subst (λ (l : List Entry). Inv (withFlight s InFlight.Nothing) (set rows i r′) (record { entries = l; waiting = InFlight.Nothing }) seen) (sym about)
         (ended-kept (set rows i r′) (atEntry x g (j .entries)) (led-at rows (j .entries) (k .led) x i lt hit r′ g c)
         (ids-kept rows (j .entries) (k .led) x i lt hit r′ g c))
 
@@ -89,8 +85,8 @@ module _ (s : Session) (rows : List Row) (j : Journal) (seen : List ℕ) (k : In
 
   -- ---- session numbers
   pub seen-more : (n : OptionU64) → Inv s rows j (noted n seen)
-  seen-more u64.None = k
-  seen-more (u64.Some n) = record {
+  seen-more OptionU64.None = k
+  seen-more (OptionU64.Some n) = record {
     led = k .led;
     fresh = k .fresh;
     agree = k .agree;

@@ -2,6 +2,7 @@
 -- connected bit of the last reading. Assumes nothing.
 use Prim.Native.Nat.{ℕ, zero, suc, _-_, _≤_}
 use mathlib.Core.Bool.{Bool, true, false, not, _||_, Bool·beq, true≢false}
+use mathlib.Core.List.{[], _∷_}
 use mathlib.Core.Path.{_≡_, refl, sym, _∙_, subst}
 use native.Mathlib.Omega.{arith}
 use borrow.Author.Tests.{eqb-true, eqb-false, ltb-true, ltb-false, not-false}
@@ -9,35 +10,23 @@ use lib.Dec.{eqb, ltb}
 use lib.ListN.{length, getD, set}
 use lib.Seq.{getD-set-same, getD-set-other, set-out}
 use Rattle.chain.specs.After.{After}
+use Rattle.chain.specs.Lists.{isAmong}
 use Rattle.chain.proofs.Chain.{caseB, if-all, if-by}
-use Rattle.words.specs.declared.OptionU32.{OptionU32}
-use Rattle.words.specs.declared.OptionU32.the-variants as u32
-use Rattle.models.specs.declared.OptionPorts.{OptionPorts}
-use Rattle.models.specs.declared.OptionPorts.the-variants as ports
-use Rattle.models.specs.declared.PortId.{PortId}
-use Rattle.models.specs.declared.PortReading.{PortReading}
+use Rattle.words.specs.declared.{OptionU32.OptionU32}
+use Rattle.models.specs.declared.{OptionPorts.OptionPorts, PortId.PortId, PortReading.PortReading, RequestMetadata.RequestMetadata, Verdict.Verdict}
 use Rattle.models.specs.declared.PortReading.the-variants.{Word, Error}
-use Rattle.models.specs.declared.RequestMetadata.{RequestMetadata}
-use Rattle.models.specs.declared.Verdict.{Verdict}
-use Rattle.models.specs.declared.Verdict.the-variants as verdict
 use Rattle.standards.specs.Ports.{portConnected}
 use Rattle.bus.specs.Endpoints.{setEndpoints}
 use Rattle.bus.specs.Ports.{numberChecked, setPortBy, setPort, ofOpening, validated, raisedRow, observedBy, observedRow, observePortBy, observePort, freshWord, freshReading, freshPortBy, freshPort}
 use Rattle.bus.specs.Tables.{Bus, newPort, portIndex, portAt, deviceAt, putPort, putDevice, putEndpoints, putMark}
-use Rattle.bus.specs.declared.PortRow.{PortRow}
-use Rattle.bus.specs.declared.ports.Observed.{Observed}
-use Rattle.bus.specs.declared.ports.Observed.the-variants as observed
-use Rattle.bus.specs.declared.ports.PortChecked.{PortChecked}
-use Rattle.bus.specs.declared.ports.PortChecked.the-variants as port
+use Rattle.bus.specs.declared.{PortRow.PortRow, ports.Observed.Observed, ports.PortChecked.PortChecked}
 use Rattle.targets.specs.Target.{knownDevice, preparedDevice, freshDevice, checkDeviceBy, checkDevice, checkEndpoint, checkTargetBy, checkTarget}
-use Rattle.targets.specs.declared.Readings.{Readings}
-use Rattle.targets.specs.declared.target.DeviceChecked.{DeviceChecked}
-use Rattle.targets.specs.declared.target.DeviceChecked.the-variants as checked
+use Rattle.targets.specs.declared.{Readings.Readings, target.DeviceChecked.DeviceChecked}
 use Rattle.session.specs.Lent.{Lent, lent}
 use Rattle.session.specs.Place.{placed, setDeviceOf, setPortOf, setEndpointsOf, setReconcileOf}
 use Rattle.session.specs.Session.{isInitialized}
 use Rattle.session.specs.Start.{guarded}
-use Rattle.session.specs.declared.Session.{Session}
+use Rattle.session.specs.declared.{Session.Session}
 use Rattle.submissions.specs.Begin.{Draft, targetBy, targetOf}
 use Rattle.calls.specs.Calls.{Placing, Device, Port, Endpoints, Reconcile, Submit, SubmitPlan, Poll, Recover, ToSubmit, ToPoll, ToRecovery, Call, Open, Place, Move, Begin, Reply, Change, Read}
 use Rattle.calls.specs.Step.{World, placedOf, begunOf, repliedOf, stepOf}
@@ -50,19 +39,19 @@ use Rattle.history.specs.Watcher.{placesOne, placesAt}
 
 -- a reading has taken the place of none, or has the same connected bit
 abbrev pub SameBit : OptionU32 → OptionU32 → Type 0
-SameBit u32.None y = Unit {0}
-SameBit (u32.Some old) u32.None = ⊥
-SameBit (u32.Some old) (u32.Some raw) = portConnected old ≡ portConnected raw
+SameBit OptionU32.None y = Unit {0}
+SameBit (OptionU32.Some old) OptionU32.None = ⊥
+SameBit (OptionU32.Some old) (OptionU32.Some raw) = portConnected old ≡ portConnected raw
 
 bit-same : (x : OptionU32) → SameBit x x
-bit-same u32.None = tt
-bit-same (u32.Some raw) = refl
+bit-same OptionU32.None = tt
+bit-same (OptionU32.Some raw) = refl
 
 bit-on : (x y z : OptionU32) → SameBit x y → SameBit y z → SameBit x z
-bit-on u32.None y z a b = tt
-bit-on (u32.Some x) u32.None z a b = absurd a
-bit-on (u32.Some x) (u32.Some y) u32.None a b = absurd b
-bit-on (u32.Some x) (u32.Some y) (u32.Some z) a b = a ∙ b
+bit-on OptionU32.None y z a b = tt
+bit-on (OptionU32.Some x) OptionU32.None z a b = absurd a
+bit-on (OptionU32.Some x) (OptionU32.Some y) OptionU32.None a b = absurd b
+bit-on (OptionU32.Some x) (OptionU32.Some y) (OptionU32.Some z) a b = a ∙ b
 
 -- the generation rises, or it stays and so does the connected bit
 pub record Later (r r′ : PortRow) : Type 0 where
@@ -86,31 +75,31 @@ beq-same false false e = refl
 
 -- 34, or the row that a reading leaves
 abbrev Observes : PortRow → Observed → Type 0
-Observes r (observed.Refused x) = Unit {0}
-Observes r (observed.To row) = Later r row
+Observes r (Observed.Refused x) = Unit {0}
+Observes r (Observed.To row) = Later r row
 
 observed-later : (r : PortRow) (raw : ℕ) → Observes r (observedRow r raw)
 unfolding observedRow observedBy raisedRow
 observed-later r raw = go (r .reading) refl
   where
-    kept : (o : OptionU32) → r .reading ≡ o → SameBit o (u32.Some raw) → Later r (record { generation = r .generation; reading = u32.Some raw })
-    kept o e k = record { rises = omega arith; stays = λ q. subst (λ (x : OptionU32). SameBit x (u32.Some raw)) (sym e) k }
+    kept : (o : OptionU32) → r .reading ≡ o → SameBit o (OptionU32.Some raw) → Later r (record { generation = r .generation; reading = OptionU32.Some raw })
+    kept o e k = record { rises = omega arith; stays = λ q. subst (λ (x : OptionU32). SameBit x (OptionU32.Some raw)) (sym e) k }
 
     go : (o : OptionU32) → r .reading ≡ o → Observes r (observedBy o r raw)
-    go u32.None e = kept u32.None e tt
-    go (u32.Some old) e =
+    go OptionU32.None e = kept OptionU32.None e tt
+    go (OptionU32.Some old) e =
         if-by (Observes r) _ _ _ (λ t. if-all (Observes r) _ _ _ tt (record { rises = omega arith; stays = λ q. absurd (omega arith) }))
-        (λ t. kept (u32.Some old) e (beq-same (portConnected old) (portConnected raw) (not-false _ t)))
+        (λ t. kept (OptionU32.Some old) e (beq-same (portConnected old) (portConnected raw) (not-false _ t)))
 
 -- 29, 30, or a number of 1 or more
 abbrev pub Numbered : ℕ → Verdict → Type 0
-Numbered n (verdict.Refused r) = r .number ≤ 31
-Numbered n verdict.Pass = 1 ≤ n
+Numbered n (Verdict.Refused r) = isAmong (r .number) (29 ∷ 30 ∷ []) ≡ true
+Numbered n Verdict.Pass = 1 ≤ n
 
 pub number-said : (p : OptionPorts) (n : ℕ) → Numbered n (numberChecked p n)
 unfolding numberChecked
-number-said ports.None n = omega arith
-number-said (ports.Some p) n = if-by (Numbered n) _ _ _ (λ t. omega arith) (λ t. above n t)
+number-said OptionPorts.None n = refl
+number-said (OptionPorts.Some p) n = if-by (Numbered n) _ _ _ (λ t. refl) (λ t. above n t)
   where
     above : (n : ℕ) → (eqb n 0 || ltb (p .count) n) ≡ false → 1 ≤ n
     above zero t = absurd (true≢false t)
@@ -160,27 +149,27 @@ module _ (slot number : ℕ) where
   fresh-later p id x b = by-port (validated p id b) x
     where
       by-observed : (o : Observed) → Observes (portAt b (id .number)) o → Onward b (observePortBy o (id .number) b .lent)
-      by-observed (observed.Refused r) k = still b
-      by-observed (observed.To row) k = put-later b (id .number) row (λ h e. k)
+      by-observed (Observed.Refused r) k = still b
+      by-observed (Observed.To row) k = put-later b (id .number) row (λ h e. k)
 
       by-port : (c : PortChecked) (x : PortReading) → Onward b (freshPortBy c x p id b .lent)
-      by-port (port.Refused r) x = still b
-      by-port (port.Read raw) (Error e) = still b
-      by-port (port.Read raw) (Word now) = by-observed (observedRow (portAt b (id .number)) now) (observed-later (portAt b (id .number)) now)
+      by-port (PortChecked.Refused r) x = still b
+      by-port (PortChecked.Read raw) (Error e) = still b
+      by-port (PortChecked.Read raw) (Word now) = by-observed (observedRow (portAt b (id .number)) now) (observed-later (portAt b (id .number)) now)
 
   target-later : (ready : Bool) (p : OptionPorts) (m : RequestMetadata) (x : Readings) (b : Bus) → Onward b (checkTarget ready p m x b .lent)
   unfolding checkTarget checkTargetBy checkDevice checkDeviceBy freshDevice checkEndpoint
   target-later ready p m x b = by-known (knownDevice ready (m .device) b)
     where
       second : (k : DeviceChecked) (c : Bus) → Onward c (checkTargetBy k p m (x .second) c .lent)
-      second (checked.Refused r) c = still c
-      second (checked.Ready d) c =
+      second (DeviceChecked.Refused r) c = still c
+      second (DeviceChecked.Ready d) c =
           if-all (λ (o : After Verdict Bus). Onward c (o .lent)) _ _ _ (still c)
           (if-all (λ (o : After Verdict Bus). Onward c (o .lent)) _ _ _ (still c) (fresh-later p (d .port) (x .second) c))
 
       by-known : (k : DeviceChecked) → (let o = checkDeviceBy k p (x .first) b in Onward b (checkTargetBy (o .result) p m (x .second) (o .lent) .lent))
-      by-known (checked.Refused r) = still b
-      by-known (checked.Ready d) =
+      by-known (DeviceChecked.Refused r) = still b
+      by-known (DeviceChecked.Ready d) =
           let c = freshPort p (d .port) (x .first) b .lent in
           onward b c _ (fresh-later p (d .port) (x .first) b) (second (preparedDevice (freshPort p (d .port) (x .first) b .result) d) c)
 
@@ -195,8 +184,8 @@ module _ (slot number : ℕ) where
       reads = target-later (isInitialized (s .state)) (s .ports) (d .metadata) x (l .bus)
 
       by-verdict : (v : Verdict) → Onward (l .bus) (targetBy v d s (lent (seen .lent) (l .memory)) .lent .bus)
-      by-verdict (verdict.Refused r) = reads
-      by-verdict verdict.Pass = reads
+      by-verdict (Verdict.Refused r) = reads
+      by-verdict Verdict.Pass = reads
 
   place-later : (p : Placing) (w : World) → placesOne slot number p ≡ false → Onward (w .lent .bus) (placedOf p w .lent)
   unfolding placedOf setDeviceOf setPortOf setEndpointsOf setReconcileOf placed guarded setPort setPortBy setEndpoints putDevice putEndpoints putMark
@@ -209,8 +198,8 @@ module _ (slot number : ℕ) where
       To o = Onward b (o .lent)
 
       by-number : (v : Verdict) (n : ℕ) (row : PortRow) → eqb n number ≡ false → Numbered n v → To (setPortBy v n row b)
-      by-number (verdict.Refused r) n row e k = still b
-      by-number verdict.Pass n row e k = put-later b n row (λ h q. absurd (eqb-false n number e (omega arith)))
+      by-number (Verdict.Refused r) n row e k = still b
+      by-number Verdict.Pass n row e k = put-later b n row (λ h q. absurd (eqb-false n number e (omega arith)))
 
       go : (q : Placing) → placesOne slot number q ≡ false → To (placedOf q w)
       go (Device d) e =

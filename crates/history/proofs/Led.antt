@@ -10,11 +10,11 @@ use lib.ListN.{length, set}
 use Rattle.chain.specs.Lists.{sumBy, only, count, find}
 use Rattle.chain.proofs.Lists.{sum-eq, sum-set, sum-one, count-pos, find-hit, find-some}
 use Rattle.models.specs.Requests.{deviceMayAccess, sameRequest}
-use Rattle.models.specs.declared.RequestId.{RequestId}
+use Rattle.models.specs.declared.{RequestId.RequestId}
 use Rattle.rows.specs.Table.{emptyRow, isHeld, rowIn}
-use Rattle.rows.specs.declared.Row.{Row}
+use Rattle.rows.specs.declared.{Row.Row}
 use Rattle.ledger.specs.Search.{isAt}
-use Rattle.history.specs.Journal.{Entry, isOpen, isEntry, entryOf, atEntry, noEntry, View, entryView}
+use Rattle.history.specs.Journal.{Entry, isOpen, isEntry, entryOf, atEntry, noEntry, View}
 use Rattle.history.specs.Claim.{rowView}
 
 -- ---- weights
@@ -23,7 +23,7 @@ abbrev pub rowW : (View → ℕ) → Row → ℕ
 rowW w r = only isHeld (λ x. w (rowView x)) r
 
 abbrev pub entryW : (View → ℕ) → Entry → ℕ
-entryW w e = only isOpen (λ x. w (entryView x)) e
+entryW w e = only isOpen (λ x. w (x .view)) e
 
 abbrev pub each : View → ℕ
 each v = 1
@@ -69,7 +69,7 @@ open-at false true n = refl
 open-at false false n = refl
 
 pub entry-at : (x : RequestId) (w : View → ℕ) (e : Entry) → entryW (at x w) e ≡ only (isEntry x) (entryW w) e
-entry-at x w e = open-at (isOpen e) (isEntry x e) (w (entryView e))
+entry-at x w e = open-at (isOpen e) (isEntry x e) (w (e .view))
 
 -- what is not held weighs nothing
 pub row-none : (w : View → ℕ) (r : Row) → isHeld r ≡ false → rowW w r ≡ 0

@@ -2,16 +2,14 @@
 -- answer, and the session and the store as it leaves them. Assumes nothing.
 use mathlib.Core.Path.{_≡_, sym, ap}
 use Rattle.chain.specs.After.{After, after}
-use Rattle.models.specs.declared.RequestId.{RequestId}
+use Rattle.models.specs.declared.{RequestId.RequestId}
 use Rattle.rows.specs.Store.{Store}
 use Rattle.session.specs.Lent.{lent, memory}
-use Rattle.session.specs.declared.Session.{Session}
+use Rattle.session.specs.declared.{Session.Session}
 use Rattle.reports.specs.Change.{changeOf}
-use Rattle.reports.specs.declared.ReportAnswer.{ReportAnswer}
-use Rattle.reports.specs.declared.Reported.{Reported}
+use Rattle.reports.specs.declared.{ReportAnswer.ReportAnswer, Reported.Reported}
 use Rattle.polls.specs.Poll.{pollOf}
-use Rattle.polls.specs.declared.PollAnswer.{PollAnswer}
-use Rattle.polls.specs.declared.Polled.{Polled}
+use Rattle.polls.specs.declared.{PollAnswer.PollAnswer, Polled.Polled}
 use Rattle.lent.specs.Lent.{polledAs, reportedAs}
 use Rattle.calls.specs.Answers.{outcome, ofPoll, ofReport}
 use Rattle.calls.specs.Calls.{Changing, Poll, Begin, Change}

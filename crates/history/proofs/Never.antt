@@ -7,35 +7,22 @@ use mathlib.Core.Path.{_≡_, refl, sym, ap, _∙_}
 use lib.Dec.{eqb}
 use Rattle.chain.specs.Lists.{count}
 use Rattle.chain.specs.After.{After}
-use Rattle.models.specs.declared.DeviceId.{DeviceId}
-use Rattle.models.specs.declared.RequestId.{RequestId}
-use Rattle.models.specs.declared.Verdict.{Verdict}
-use Rattle.models.specs.declared.Verdict.the-variants as verdict
+use Rattle.models.specs.declared.{DeviceId.DeviceId, RequestId.RequestId, Verdict.Verdict}
 use Rattle.rows.specs.Table.{isHeld, rowIn}
 use Rattle.rows.specs.Store.{Store}
-use Rattle.rows.specs.declared.Row.{Row}
+use Rattle.rows.specs.declared.{Row.Row}
 use Rattle.session.specs.Session.{withFlight}
 use Rattle.session.specs.Lent.{Memory, memory}
-use Rattle.session.specs.declared.InFlight.the-variants as flight
-use Rattle.session.specs.declared.RecoveryKind.{RecoveryKind}
-use Rattle.session.specs.declared.Session.{Session}
-use Rattle.session.specs.declared.lifecycle.Opening.{Opening}
+use Rattle.session.specs.declared.{InFlight.InFlight, Recovery.Recovery, RecoveryKind.RecoveryKind, Session.Session, lifecycle.Opening.Opening}
 use Rattle.scope.specs.Affected.{affectedOf}
 use Rattle.scope.specs.Scope.{inScope}
-use Rattle.session.specs.declared.Recovery.{Recovery}
 use Rattle.recovery.specs.Recover.{recoverOf, begunAs}
 use Rattle.recovery.specs.RecoveryReply.{ReplyLists, rowsMeant, ended, isWhole, concludedBy, settledOf, recoveryReplyOf}
-use Rattle.recovery.specs.declared.AbortReport.{AbortReport}
-use Rattle.recovery.specs.declared.Begun.{Begun}
-use Rattle.recovery.specs.declared.Ids.{Ids}
-use Rattle.recovery.specs.declared.Outcome.{Outcome}
-use Rattle.recovery.specs.declared.RecoveryReply.{RecoveryReply}
-use Rattle.recovery.specs.declared.Recovered.{Recovered}
+use Rattle.recovery.specs.declared.{AbortReport.AbortReport, Begun.Begun, Ids.Ids, Outcome.Outcome, Recovered.Recovered, RecoveryReply.RecoveryReply}
 use Rattle.calls.specs.Answers.{ofBegin, ofRecovery}
 use Rattle.calls.specs.Calls.{Open, Begin, Recover, Reply, ToRecovery}
 use Rattle.calls.specs.Step.{World, begunOf, repliedOf, stepOf, worldStore}
-use Rattle.calls.specs.declared.Answer.{Answer}
-use Rattle.calls.specs.declared.Answer.the-variants as answer
+use Rattle.calls.specs.declared.{Answer.Answer}
 use Rattle.runs.specs.Run.{Handed, Event, next, endOf, answerTo, Handing, Follows, Fresh}
 use Rattle.runs.specs.Sound.{Sound}
 use Rattle.runs.proofs.Ids.{at-used}
@@ -72,14 +59,14 @@ module _ (s : Session) (m : Memory) (entries : List Entry) (few : count isHeld (
   Ends o = (endsBy (ofRecovery (o .answer)) ≡ true) × Not 43 (ofRecovery (o .answer))
 
   abbrev quiet : Session
-  quiet = withFlight s flight.Nothing
+  quiet = withFlight s InFlight.Nothing
 
   concluded : (v : Verdict) → LateBy v → (y : Recovery) (o : Outcome) (report : AbortReport) (ids : Ids) (rows : List Row) → Ends (concludedBy v (ended quiet y o) report ids rows)
   unfolding concludedBy
-  concluded (verdict.Refused r) late y o report ids rows =
+  concluded (Verdict.Refused r) late y o report ids rows =
       let (two, three, lists, error, scope) = late-numbers (r .number) late in
       (rw (two, three, lists), late-43 (r .number) late)
-  concluded verdict.Pass late y o report ids rows = (refl, refl)
+  concluded Verdict.Pass late y o report ids rows = (refl, refl)
 
   pub settled-ends : (y : Recovery) (o : Outcome) → inScope (isWhole o) (ownTokens (y .device) (y .endpoint) (m .store .rows)) (l .tokens ++ l .aborted) ≡ true
       → Ends (settledOf (ended quiet y o) (rowsMeant (placeMeant (y .device) (y .endpoint) (m .store .rows)) l) m .result)
@@ -91,7 +78,7 @@ module _ (s : Session) (m : Memory) (entries : List Entry) (few : count isHeld (
       recovery-all l s m (λ (o : After Recovered Memory). Not 43 (ofRecovery (o .result .answer))) refl refl refl (λ e. refl) refl (λ y own o n. settled-ends y o n .1) r
 
 -- ---- of lists of calls
-module _ (o : Opening) (w : World) (es : List Event) (pass : stepOf (Open o) w .result .answer ≡ answer.Pass) (follows : Follows es) where
+module _ (o : Opening) (w : World) (es : List Event) (pass : stepOf (Open o) w .result .answer ≡ Answer.Pass) (follows : Follows es) where
   abbrev start : World
   start = next (stepOf (Open o) w)
 

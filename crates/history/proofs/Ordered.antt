@@ -11,7 +11,7 @@ use Rattle.chain.proofs.Chain.{caseB}
 use Rattle.chain.proofs.Lists.{sum-le}
 use Rattle.models.proofs.Order.{before-trans, before-asym, before-self, same-place}
 use Rattle.models.specs.Requests.{requestBefore, sameRequest}
-use Rattle.models.specs.declared.RequestId.{RequestId}
+use Rattle.models.specs.declared.{RequestId.RequestId}
 use Rattle.runs.proofs.Ids.{same-self}
 use Rattle.history.specs.Journal.{insertView, View}
 use Rattle.history.proofs.Led.{isView}

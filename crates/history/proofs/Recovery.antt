@@ -10,40 +10,25 @@ use lib.ListN.{length}
 use Rattle.chain.specs.Lists.{count}
 use Rattle.chain.specs.After.{After}
 use Rattle.chain.proofs.Chain.{if-all, both}
-use Rattle.models.specs.declared.Refusal.{Refusal}
-use Rattle.models.specs.declared.RequestId.{RequestId}
-use Rattle.models.specs.declared.Verdict.{Verdict}
-use Rattle.models.specs.declared.Verdict.the-variants as verdict
+use Rattle.models.specs.declared.{Refusal.Refusal, RequestId.RequestId, Verdict.Verdict}
 use Rattle.rows.specs.Store.{Store}
 use Rattle.rows.specs.Table.{isHeld, rowIn}
-use Rattle.rows.specs.declared.Row.{Row}
+use Rattle.rows.specs.declared.{Row.Row}
 use Rattle.ledger.specs.Search.{isAt}
 use Rattle.session.specs.Session.{withFlight, marked}
 use Rattle.session.specs.Lent.{Memory}
-use Rattle.session.specs.declared.InFlight.{InFlight}
-use Rattle.session.specs.declared.InFlight.the-variants as flight
-use Rattle.session.specs.declared.OptionStall.{OptionStall}
-use Rattle.session.specs.declared.OptionStall.the-variants as stall
-use Rattle.session.specs.declared.RecoveryKind.{RecoveryKind}
-use Rattle.session.specs.declared.RecoveryKind.the-variants as kind
-use Rattle.session.specs.declared.Session.{Session}
+use Rattle.session.specs.declared.{InFlight.InFlight, OptionStall.OptionStall, Recovery.Recovery, RecoveryKind.RecoveryKind, Session.Session}
 use Rattle.scope.specs.Scope.{inScope}
-use Rattle.session.specs.declared.Recovery.{Recovery}
 use Rattle.recovery.specs.Recover.{recoverOf, begunAs, recoveryOf}
 use Rattle.recovery.specs.RecoveryReply.{ReplyLists, rowsMeant, ended, isWhole, restoredBy, resetBy, sessionAfter, refusedAfter, concludedBy, settledOf, recoveryReplyOf}
 use Rattle.recovery.specs.Entries.{applyAll}
-use Rattle.recovery.specs.declared.AbortReport.{AbortReport}
-use Rattle.recovery.specs.declared.Begun.{Begun}
-use Rattle.recovery.specs.declared.Ids.{Ids}
-use Rattle.recovery.specs.declared.Outcome.{Outcome}
-use Rattle.recovery.specs.declared.RecoveryReply.{RecoveryReply}
-use Rattle.recovery.specs.declared.Recovered.{Recovered}
-use Rattle.calls.specs.Answers.{ofBegin, ofRecovery}
-use Rattle.calls.specs.declared.Answer.the-variants as answer
+use Rattle.recovery.specs.declared.{AbortReport.AbortReport, Begun.Begun, Ids.Ids, Outcome.Outcome, Recovered.Recovered, RecoveryReply.RecoveryReply}
+use Rattle.calls.specs.Answers.{ofBegin, ofRecovery, isRecovering}
+use Rattle.calls.specs.declared.{Answer.Answer}
 use Rattle.runs.proofs.Ids.{access-held}
 use Rattle.runs.proofs.Ways.{begin-all, recovery-all}
 use Rattle.runs.proofs.Affected.{ownTokens, placeMeant}
-use Rattle.history.specs.Journal.{Entry, Journal, View, entryView, entryOf, isRecovering, idle, affectedViews, meantView, releasesAll, recoveryWaits, releasedIn, recoveredJournal, recoveryAs}
+use Rattle.history.specs.Journal.{Entry, Journal, View, entryOf, idle, affectedViews, meantView, releasesAll, recoveryWaits, releasedIn, recoveredJournal, recoveryAs}
 use Rattle.history.specs.Claim.{rowView}
 use Rattle.history.proofs.Led.{entry-is}
 use Rattle.history.proofs.Changes.{view-is}
@@ -59,13 +44,13 @@ module _ (rows : List Row) (j : Journal) (seen : List ℕ) (s : Session) (k : In
 
   restored-kept : (q : OptionStall) (x : Recovery) (certain : Bool) → Holds (restoredBy q x certain s)
   unfolding restoredBy
-  restored-kept stall.None x certain = k
-  restored-kept (stall.Some note) x certain = if-all Holds _ _ _ k k
+  restored-kept OptionStall.None x certain = k
+  restored-kept (OptionStall.Some note) x certain = if-all Holds _ _ _ k k
 
   reset-kept : (q : RecoveryKind) (x : Recovery) (l : List Row) → Holds (resetBy q x l s)
   unfolding resetBy
-  reset-kept kind.Abort x l = k
-  reset-kept (kind.Reset preserve) x l = restored-kept (s .«recoverable_stall») x _
+  reset-kept RecoveryKind.Abort x l = k
+  reset-kept (RecoveryKind.Reset preserve) x l = restored-kept (s .«recoverable_stall») x _
 
   after-kept : (x : Recovery) (o : Outcome) (l : List Row) → Holds (sessionAfter (ended s x o) l)
   unfolding sessionAfter
@@ -97,9 +82,9 @@ module _ (s : Session) (j : Journal) (seen : List ℕ) (store : Store) (k : Inv 
     abbrev its : Entry
     its = entryOf id (j .entries)
 
-    its-view : entryView its ≡ rowView (rowIn (store .rows) i)
+    its-view : its .view ≡ rowView (rowIn (store .rows) i)
     its-view =
-        view-ext (entryView its) (rowView (rowIn (store .rows) i))
+        view-ext (its .view) (rowView (rowIn (store .rows) i))
         (view-is (rowIn (store .rows) i) its held (entry-is (store .rows) (j .entries) (k .led) id i lt hit))
 
     opened : (q : RecoveryKind) → Begin-kept id q (begunAs (recoveryOf id q (rowIn (store .rows) i)) s (store .rows))
@@ -109,7 +94,7 @@ module _ (s : Session) (j : Journal) (seen : List ℕ) (store : Store) (k : Inv 
       fresh = k .fresh;
       past = k .past;
       here = k .here;
-      agree = ap (λ (v : View). flight.Recovery (recoveryAs id q v)) its-view;
+      agree = ap (λ (v : View). InFlight.Recovery (recoveryAs id q v)) its-view;
     }
 
   pub begin-kept : (id : RequestId) (q : RecoveryKind) → Begin-kept id q (recoverOf id q s store)
@@ -117,18 +102,18 @@ module _ (s : Session) (j : Journal) (seen : List ℕ) (store : Store) (k : Inv 
       begin-all id q s store (Begin-kept id q) (λ n e. k) (λ i lt hit m. k) (λ i lt hit a m. opened id i lt hit (access-held id (rowIn (store .rows) i) hit a) q)
 
   -- a start that opens its operation names it
-  pub begin-names : (x : Recovery) (id : RequestId) (q : RecoveryKind) → ofBegin (recoverOf id q s store .answer) ≡ answer.Recovering x
-      → flight.Recovery x ≡ recoveryWaits id q j .waiting
+  pub begin-names : (x : Recovery) (id : RequestId) (q : RecoveryKind) → ofBegin (recoverOf id q s store .answer) ≡ Answer.Recovering x
+      → InFlight.Recovery x ≡ recoveryWaits id q j .waiting
   unfolding begunAs
   begin-names x id q =
-      begin-all id q s store (λ (o : Begun). ofBegin (o .answer) ≡ answer.Recovering x → flight.Recovery x ≡ recoveryWaits id q j .waiting)
+      begin-all id q s store (λ (o : Begun). ofBegin (o .answer) ≡ Answer.Recovering x → InFlight.Recovery x ≡ recoveryWaits id q j .waiting)
       (λ n e. refused) (λ i lt hit m. refused)
       (λ i lt hit a m y.
       let n : recoveryOf id q (rowIn (store .rows) i) ≡ x = cc in
-      ap flight.Recovery (sym n)
-      ∙ ap (λ (v : View). flight.Recovery (recoveryAs id q v)) (sym (its-view id i lt hit (access-held id (rowIn (store .rows) i) hit a))))
+      ap InFlight.Recovery (sym n)
+      ∙ ap (λ (v : View). InFlight.Recovery (recoveryAs id q v)) (sym (its-view id i lt hit (access-held id (rowIn (store .rows) i) hit a))))
     where
-      refused : {f : Refusal} {A : Type 0} → answer.Refused f ≡ answer.Recovering x → A
+      refused : {f : Refusal} {A : Type 0} → Answer.Refused f ≡ Answer.Recovering x → A
       refused e = let z : _≡_ {A = ℕ} 0 1 = cc in absurd (omega arith)
 
 -- ---- the reply
@@ -138,12 +123,12 @@ module _ (s : Session) (j : Journal) (seen : List ℕ) (m : Memory) (k : Inv s (
 
   -- the session without the recovery
   abbrev quiet : Session
-  quiet = withFlight s flight.Nothing
+  quiet = withFlight s InFlight.Nothing
 
   refused-kept : Inv (marked quiet) (m .store .rows) (idle j) seen
-  refused-kept = marks quiet (m .store .rows) (idle j) seen (waits-for s (m .store .rows) j seen k flight.Nothing)
+  refused-kept = marks quiet (m .store .rows) (idle j) seen (waits-for s (m .store .rows) j seen k InFlight.Nothing)
 
-  module _ (x : Recovery) (own : s .«in_flight» ≡ flight.Recovery x) where
+  module _ (x : Recovery) (own : s .«in_flight» ≡ InFlight.Recovery x) where
     abbrev entries′ : List Entry
     entries′ = releasesAll (meantView (affectedViews (x .device) (x .endpoint) (j .entries))) l (j .entries)
 
@@ -151,7 +136,7 @@ module _ (s : Session) (j : Journal) (seen : List ℕ) (m : Memory) (k : Inv s (
     about = ap (λ (f : InFlight). releasedIn f l (j .entries)) (k .agree ∙ own)
 
     abbrev released : Journal
-    released = record { entries = entries′; waiting = flight.Nothing }
+    released = record { entries = entries′; waiting = InFlight.Nothing }
 
     module _ (rows′ : List Row) (kept : Kept (m .store .rows) (j .entries) rows′ entries′) where
       base : Inv quiet rows′ released seen
@@ -160,10 +145,10 @@ module _ (s : Session) (j : Journal) (seen : List ℕ) (m : Memory) (k : Inv s (
       concluded : (v : Verdict) → LateBy v → (o : Outcome) (report : AbortReport) (ids : Ids)
           → Inv (concludedBy v (ended quiet x o) report ids rows′ .session) rows′ (recoveredJournal (ofRecovery (concludedBy v (ended quiet x o) report ids rows′ .answer)) l j) seen
       unfolding concludedBy refusedAfter
-      concluded (verdict.Refused r) late o report ids =
+      concluded (Verdict.Refused r) late o report ids =
           let (two, three, lists, error, scope) = late-numbers (r .number) late in
           rw (two, three, lists, error, scope, about) (if-all (λ (y : Session). Inv y rows′ released seen) _ _ _ (marks quiet rows′ released seen base) base)
-      concluded verdict.Pass late o report ids = rw about (after-kept rows′ released seen quiet base x o rows′)
+      concluded Verdict.Pass late o report ids = rw about (after-kept rows′ released seen quiet base x o rows′)
 
     settled-kept : (o : Outcome) → inScope (isWhole o) (ownTokens (x .device) (x .endpoint) (m .store .rows)) (l .tokens ++ l .aborted) ≡ true
         → Reply-kept (settledOf (ended quiet x o) (rowsMeant (placeMeant (x .device) (x .endpoint) (m .store .rows)) l) m)

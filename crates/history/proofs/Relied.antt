@@ -3,11 +3,10 @@
 use Prim.Native.Nat.{ℕ}
 use mathlib.Core.List.{List, [], _∷_}
 use mathlib.Core.Path.{_≡_}
-use Rattle.session.specs.declared.Session.{Session}
-use Rattle.session.specs.declared.lifecycle.Opening.{Opening}
+use Rattle.session.specs.declared.{Session.Session, lifecycle.Opening.Opening}
 use Rattle.calls.specs.Calls.{Open}
 use Rattle.calls.specs.Step.{World, stepOf}
-use Rattle.calls.specs.declared.Answer.the-variants as answer
+use Rattle.calls.specs.declared.{Answer.Answer}
 use Rattle.runs.specs.Run.{Event, next, endOf, Follows, Fresh}
 use Rattle.runs.proofs.Run.{lent-rows, sound-run, fitted-run}
 use Rattle.history.specs.Watcher.{Watched}
@@ -20,7 +19,7 @@ use Rattle.history.proofs.Grabber.{bytes-safe}
 use Rattle.history.proofs.Reset.{reset-spares}
 use Rattle.history.proofs.Operator.{withdraws-in}
 
-module _ (o : Opening) (s : Session) (bus rows area : List ℕ) (es : List Event) (pass : stepOf (Open o) (worldOf s bus rows area) .result .answer ≡ answer.Pass)
+module _ (o : Opening) (s : Session) (bus rows area : List ℕ) (es : List Event) (pass : stepOf (Open o) (worldOf s bus rows area) .result .answer ≡ Answer.Pass)
     (follows : Follows es) (fresh : Fresh (o .session ∷ []) es) where
   abbrev start : World
   start = next (stepOf (Open o) (worldOf s bus rows area))

@@ -6,62 +6,50 @@ use mathlib.Core.List.{List}
 use lib.ListN.{length, set}
 use Rattle.chain.specs.After.{After, after}
 use Rattle.chain.proofs.Chain.{if-all}
-use Rattle.words.specs.declared.OptionU32.{OptionU32}
+use Rattle.words.specs.declared.{OptionU32.OptionU32}
 use Rattle.models.specs.Refusals.{invalidCompletion}
 use Rattle.models.specs.Requests.{isPending}
-use Rattle.models.specs.declared.BackendCompletion.{BackendCompletion}
-use Rattle.models.specs.declared.OperationError.{OperationError}
-use Rattle.models.specs.declared.OptionError.{OptionError}
-use Rattle.models.specs.declared.OptionError.the-variants as error
-use Rattle.models.specs.declared.RequestId.{RequestId}
+use Rattle.models.specs.declared.{BackendCompletion.BackendCompletion, OperationError.OperationError, OptionError.OptionError, RequestId.RequestId}
 use Rattle.models.specs.declared.RequestState.the-variants.{Completed, Failed}
 use Rattle.rows.specs.Store.{Store, putIn}
 use Rattle.rows.specs.Table.{emptyRow, isHeld, rowIn}
-use Rattle.rows.specs.declared.Row.{Row}
+use Rattle.rows.specs.declared.{Row.Row}
 use Rattle.ledger.specs.Apply.{applyBy}
 use Rattle.rules.specs.Rules.{moved, freed, withState, accepted, completed, failed, changeRow}
 use Rattle.ledger.specs.Search.{isAt}
-use Rattle.rules.specs.declared.Change.the-variants as change
-use Rattle.rules.specs.declared.Step.{Step}
+use Rattle.rules.specs.declared.{Change.Change, Step.Step}
 use Rattle.checks.specs.Completion.{testCompletion}
-use Rattle.checks.specs.declared.completion.CompletionTest.{CompletionTest}
-use Rattle.checks.specs.declared.completion.CompletionTest.the-variants as test
+use Rattle.checks.specs.declared.{completion.CompletionTest.CompletionTest}
 use Rattle.session.specs.Session.{marked, withFlight}
 use Rattle.session.specs.Lent.{Memory, memory}
 use Rattle.session.specs.Sizes.{placeOf}
-use Rattle.session.specs.declared.InFlight.{InFlight}
-use Rattle.session.specs.declared.InFlight.the-variants as flight
-use Rattle.session.specs.declared.Session.{Session}
+use Rattle.session.specs.declared.{InFlight.InFlight, Session.Session}
 use Rattle.reports.specs.Answers.{effect}
-use Rattle.reports.specs.declared.Reported.{Reported}
+use Rattle.reports.specs.declared.{Reported.Reported}
 use Rattle.polls.specs.Poll.{pollOf}
 use Rattle.polls.specs.PollReply.{failedAs, invalidAs, judgedTest, judgedBy, judged, settled, pollReplyAt, pollReplyOf}
-use Rattle.polls.specs.declared.Polled.{Polled}
-use Rattle.polls.specs.declared.PollReply.{PollReply}
-use Rattle.polls.specs.declared.PollReply.the-variants as poll
-use Rattle.polls.specs.declared.poll_reply.Judgement.{Judgement}
+use Rattle.polls.specs.declared.{PollReply.PollReply, Polled.Polled, poll_reply.Judgement.Judgement}
 use Rattle.submissions.specs.SubmitReply.{acceptedBy, discardedBy, submitReplyBy, submitReplyOf}
-use Rattle.submissions.specs.declared.SubmitReply.{SubmitReply}
-use Rattle.submissions.specs.declared.SubmitReply.the-variants as submit
-use Rattle.calls.specs.Answers.{ofReport, ofPoll}
+use Rattle.submissions.specs.declared.{SubmitReply.SubmitReply}
+use Rattle.calls.specs.Answers.{ofReport, ofPoll, isAsked}
 use Rattle.runs.specs.Sound.{Sound}
 use Rattle.runs.proofs.Ids.{pending-held}
 use Rattle.runs.proofs.Ways.{apply-all, reply-all, poll-all, finish-all}
 use Rattle.runs.proofs.Facts.{submission-pending, poll-pending}
 use Rattle.runs.proofs.Rules.{while-all}
-use Rattle.history.specs.Journal.{Entry, Journal, entryOf, atEntry, release, markFailed, acceptedAs, testedAs, settledBy, isAsked, endsBy, atWaiting, endedWith, idle, polledBy, pollWaits, View}
+use Rattle.history.specs.Journal.{Entry, Journal, entryOf, atEntry, release, markFailed, acceptedAs, testedAs, settledBy, endsBy, atWaiting, endedWith, idle, polledBy, pollWaits, View}
 use Rattle.history.proofs.Led.{rowW, entryW, lengthOf, Changed, entry-is}
 use Rattle.history.proofs.Changes.{view-is, discard-change, token-change, settle-change, fail-change}
 use Rattle.history.proofs.Inv.{Inv, marks, effects, waits-for, ends-at}
 
 -- ---- what a completion makes of a Pending row
-complete-to : (r : Row) (actual code : ℕ) → isPending (r .state) ≡ true → (c : Bool) × (changeRow r (change.Complete actual code) ≡ moved (withState r (Completed actual code c)))
+complete-to : (r : Row) (actual code : ℕ) → isPending (r .state) ≡ true → (c : Bool) × (changeRow r (Change.Complete actual code) ≡ moved (withState r (Completed actual code c)))
 unfolding changeRow completed
 complete-to r actual code p =
     while-all (r .state) _ (λ (x : Step). (c : Bool) × (x ≡ moved (withState r (Completed actual code c)))) (λ e. absurd (false≢true (sym e ∙ p))) (λ cancel late e. (cancel, refl))
 
 fail-to : (r : Row) (x : OperationError) (code : OptionU32) (quiescent : Bool) → isPending (r .state) ≡ true
-    → changeRow r (change.Fail x code quiescent) ≡ moved (withState r (Failed x code quiescent))
+    → changeRow r (Change.Fail x code quiescent) ≡ moved (withState r (Failed x code quiescent))
 unfolding changeRow failed
 fail-to r x code quiescent p =
     while-all (r .state) _ (λ (y : Step). y ≡ moved (withState r (Failed x code quiescent))) (λ e. absurd (false≢true (sym e ∙ p))) (λ cancel late e. refl)
@@ -71,7 +59,7 @@ module _ (s : Session) (store : Store) (sound : Sound s store) (j : Journal) (se
   abbrev Reply-kept : SubmitReply → After Reported Store → Type 0
   Reply-kept x o = Inv (o .result .session) (o .lent .rows) (cond (endsBy (ofReport (o .result .answer))) (endedWith (acceptedAs x) j) j) seen
 
-  module _ (id : RequestId) (own : s .«in_flight» ≡ flight.Submission id) (i : ℕ) (lt : i < length (store .rows)) (hit : isAt id (rowIn (store .rows) i) ≡ true) where
+  module _ (id : RequestId) (own : s .«in_flight» ≡ InFlight.Submission id) (i : ℕ) (lt : i < length (store .rows)) (hit : isAt id (rowIn (store .rows) i) ≡ true) where
     abbrev replied : Row
     replied = rowIn (store .rows) i
 
@@ -84,25 +72,25 @@ module _ (s : Session) (store : Store) (sound : Sound s store) (j : Journal) (se
     about : (g : Entry → Entry) → atWaiting (j .waiting) g (j .entries) ≡ atEntry id g (j .entries)
     about g = ap (λ (f : InFlight). atWaiting f g (j .entries)) (k .agree ∙ own)
 
-    token-kept : (t : ℕ) → Reply-kept (submit.Token t)
-        (after (acceptedBy (applyBy (changeRow replied (change.Accept t)) i store .result) s) (applyBy (changeRow replied (change.Accept t)) i store .lent))
+    token-kept : (t : ℕ) → Reply-kept (SubmitReply.Token t)
+        (after (acceptedBy (applyBy (changeRow replied (Change.Accept t)) i store .result) s) (applyBy (changeRow replied (Change.Accept t)) i store .lent))
     unfolding applyBy changeRow accepted moved acceptedBy putIn
-    token-kept t = ends-at s (store .rows) j seen k id i lt hit (acceptedAs (submit.Token t))
-        (about (acceptedAs (submit.Token t))) _ (token-change replied its replied-held (entry-is (store .rows) (j .entries) (k .led) id i lt hit) t)
+    token-kept t = ends-at s (store .rows) j seen k id i lt hit (acceptedAs (SubmitReply.Token t))
+        (about (acceptedAs (SubmitReply.Token t))) _ (token-change replied its replied-held (entry-is (store .rows) (j .entries) (k .led) id i lt hit) t)
 
-    error-kept : (e : OperationError) → Reply-kept (submit.Error e)
-        (after (discardedBy (applyBy (changeRow replied change.Discard) i store .result) e s) (applyBy (changeRow replied change.Discard) i store .lent))
+    error-kept : (e : OperationError) → Reply-kept (SubmitReply.Error e)
+        (after (discardedBy (applyBy (changeRow replied Change.Discard) i store .result) e s) (applyBy (changeRow replied Change.Discard) i store .lent))
     unfolding applyBy changeRow freed discardedBy putIn
-    error-kept e = ends-at (effect e s) (store .rows) j seen (effects s (store .rows) j seen k e) id i lt hit (acceptedAs (submit.Error e))
-        (about (acceptedAs (submit.Error e))) emptyRow (discard-change replied its replied-held (entry-is (store .rows) (j .entries) (k .led) id i lt hit))
+    error-kept e = ends-at (effect e s) (store .rows) j seen (effects s (store .rows) j seen k e) id i lt hit (acceptedAs (SubmitReply.Error e))
+        (about (acceptedAs (SubmitReply.Error e))) emptyRow (discard-change replied its replied-held (entry-is (store .rows) (j .entries) (k .led) id i lt hit))
 
-  reply-by : (x : SubmitReply) (id : RequestId) → s .«in_flight» ≡ flight.Submission id → Reply-kept x (submitReplyBy x id s store)
+  reply-by : (x : SubmitReply) (id : RequestId) → s .«in_flight» ≡ InFlight.Submission id → Reply-kept x (submitReplyBy x id s store)
   unfolding submitReplyBy acceptedBy discardedBy
-  reply-by (submit.Token t) id own =
-      apply-all id (change.Accept t) store (λ a. Reply-kept (submit.Token t) (after (acceptedBy (a .result) s) (a .lent))) k
+  reply-by (SubmitReply.Token t) id own =
+      apply-all id (Change.Accept t) store (λ a. Reply-kept (SubmitReply.Token t) (after (acceptedBy (a .result) s) (a .lent))) k
       (λ i lt hit. token-kept id own i lt hit t)
-  reply-by (submit.Error x) id own =
-      apply-all id change.Discard store (λ a. Reply-kept (submit.Error x) (after (discardedBy (a .result) x s) (a .lent))) k
+  reply-by (SubmitReply.Error x) id own =
+      apply-all id Change.Discard store (λ a. Reply-kept (SubmitReply.Error x) (after (discardedBy (a .result) x s) (a .lent))) k
       (λ i lt hit. error-kept id own i lt hit x)
 
   pub reply-kept : (x : SubmitReply) → Reply-kept x (submitReplyOf x s store)
@@ -113,13 +101,13 @@ module _ (s : Session) (store : Store) (sound : Sound s store) (j : Journal) (se
   Poll-kept id o = Inv (o .session) (store .rows) (cond (isAsked (ofPoll (o .answer))) (pollWaits id j) j) seen
 
   pub poll-kept : (id : RequestId) → Poll-kept id (pollOf id s store)
-  poll-kept id = poll-all id s store (Poll-kept id) (λ x. k) (λ i. k) (λ i lt hit p r. waits-for s (store .rows) j seen k (flight.Poll id))
+  poll-kept id = poll-all id s store (Poll-kept id) (λ x. k) (λ i. k) (λ i lt hit p r. waits-for s (store .rows) j seen k (InFlight.Poll id))
 
   -- ---- the reply to a poll
   abbrev Finish-kept : Journal → After Reported Memory → Type 0
   Finish-kept left o = Inv (o .result .session) (o .lent .store .rows) (cond (endsBy (ofReport (o .result .answer))) left j) seen
 
-  module _ (id : RequestId) (own : s .«in_flight» ≡ flight.Poll id) (i : ℕ) (lt : i < length (store .rows))
+  module _ (id : RequestId) (own : s .«in_flight» ≡ InFlight.Poll id) (i : ℕ) (lt : i < length (store .rows))
       (hit : isAt id (rowIn (store .rows) i) ≡ true) (bytes area : List ℕ) where
     abbrev row : Row
     row = rowIn (store .rows) i
@@ -129,7 +117,7 @@ module _ (s : Session) (store : Store) (sound : Sound s store) (j : Journal) (se
 
     -- the session without the poll
     abbrev quiet : Session
-    quiet = withFlight s flight.Nothing
+    quiet = withFlight s InFlight.Nothing
 
     polled : isPending (row .state) ≡ true
     polled = poll-pending sound id i lt hit own
@@ -169,18 +157,18 @@ module _ (s : Session) (store : Store) (sound : Sound s store) (j : Journal) (se
     tested-kept : (c : BackendCompletion) (g : Entry → Entry) (t : CompletionTest) → g entry ≡ testedAs t entry
         → Judged-kept g (judgedTest t quiet c)
     unfolding judgedTest invalidAs
-    tested-kept c g (test.Valid actual code) e =
+    tested-kept c g (CompletionTest.Valid actual code) e =
         let p = complete-to row actual code polled in
         settles g _ _ (p .1)
         (subst (λ (y : Entry). Changed row (withState row (Completed actual code (p .0))) entry y) (sym e)
         (settle-change row entry held is (Completed actual code (p .0)) refl))
         (λ rows′ j′ h. h)
-    tested-kept c g test.MissingLength e =
+    tested-kept c g CompletionTest.MissingLength e =
         settles g _ _ (fail-to row _ _ false polled)
         (subst (λ (y : Entry). Changed row (withState row (Failed (invalidCompletion (c .«completion_code») .error) (c .«completion_code») false)) entry y) (sym e)
         (fail-both _ _ false))
         marked-too
-    tested-kept c g test.Invalid e =
+    tested-kept c g CompletionTest.Invalid e =
         settles g _ _ (fail-to row _ _ false polled)
         (subst (λ (y : Entry). Changed row (withState row (Failed (invalidCompletion (c .«completion_code») .error) (c .«completion_code») false)) entry y) (sym e)
         (fail-both _ _ false))
@@ -189,22 +177,22 @@ module _ (s : Session) (store : Store) (sound : Sound s store) (j : Journal) (se
     judged-kept : (o : OptionError) (c : BackendCompletion) (given : ℕ)
         → Judged-kept (settledBy o c given) (judgedBy o quiet row c given)
     unfolding judgedBy failedAs
-    judged-kept (error.Some x) c given =
-        if-all (Judged-kept (settledBy (error.Some x) c given)) _ (c .quiescent) _
-        (settles (settledBy (error.Some x) c given) _ _ (fail-to row x (c .«completion_code») (c .quiescent) polled)
+    judged-kept (OptionError.Some x) c given =
+        if-all (Judged-kept (settledBy (OptionError.Some x) c given)) _ (c .quiescent) _
+        (settles (settledBy (OptionError.Some x) c given) _ _ (fail-to row x (c .«completion_code») (c .quiescent) polled)
         (fail-both x (c .«completion_code») (c .quiescent)) (λ rows′ j′ h. h))
-        (settles (settledBy (error.Some x) c given) _ _ (fail-to row x (c .«completion_code») (c .quiescent) polled)
+        (settles (settledBy (OptionError.Some x) c given) _ _ (fail-to row x (c .«completion_code») (c .quiescent) polled)
         (fail-both x (c .«completion_code») (c .quiescent)) marked-too)
-    judged-kept error.None c given =
-        tested-kept c (settledBy error.None c given) (testCompletion c given (row .metadata .«requested_length»))
+    judged-kept OptionError.None c given =
+        tested-kept c (settledBy OptionError.None c given) (testCompletion c given (row .metadata .«requested_length»))
         (ap (λ (n : ℕ). testedAs (testCompletion c given n) entry)
         (view-is row entry held is lengthOf))
 
     finish-at : (x : PollReply) → Finish-kept (polledBy x (length bytes) j) (pollReplyAt x row (placeOf (s .size) i) bytes quiet (memory store area))
     unfolding pollReplyAt judged
-    finish-at poll.Nothing = waits-for s (store .rows) j seen k flight.Nothing
-    finish-at (poll.Error e) = effects quiet (store .rows) (idle j) seen (waits-for s (store .rows) j seen k flight.Nothing) e
-    finish-at (poll.Completion c) = judged-kept (c .error) c (length bytes)
+    finish-at PollReply.Nothing = waits-for s (store .rows) j seen k InFlight.Nothing
+    finish-at (PollReply.Error e) = effects quiet (store .rows) (idle j) seen (waits-for s (store .rows) j seen k InFlight.Nothing) e
+    finish-at (PollReply.Completion c) = judged-kept (c .error) c (length bytes)
 
   pub finish-kept : (x : PollReply) (bytes area : List ℕ) → Finish-kept (polledBy x (length bytes) j) (pollReplyOf x bytes s (memory store area))
   finish-kept x bytes area =

@@ -7,14 +7,10 @@ use borrow.Author.Tests.{eqb-true}
 use lib.Dec.{eqb}
 use Rattle.chain.proofs.Chain.{caseB, and3}
 use Rattle.models.specs.Requests.{sameDevice}
-use Rattle.models.specs.declared.DeviceId.{DeviceId}
-use Rattle.models.specs.declared.RequestId.{RequestId}
+use Rattle.models.specs.declared.{DeviceId.DeviceId, RequestId.RequestId}
 use Rattle.rows.specs.Table.{isHeld}
-use Rattle.rows.specs.declared.Row.{Row}
-use Rattle.session.specs.declared.InFlight.{InFlight}
-use Rattle.session.specs.declared.InFlight.the-variants as flight
-use Rattle.session.specs.declared.Recovery.{Recovery}
-use Rattle.session.specs.declared.RecoveryKind.{RecoveryKind}
+use Rattle.rows.specs.declared.{Row.Row}
+use Rattle.session.specs.declared.{InFlight.InFlight, Recovery.Recovery, RecoveryKind.RecoveryKind}
 use Rattle.scope.specs.Affected.{isAffected}
 use Rattle.calls.specs.Step.{World, begunOf, stepOf, worldStore}
 use Rattle.runs.specs.Run.{Handed, own, rowsOnly, other, Event, endOf, historyOf}
@@ -41,10 +37,10 @@ unaffected x r k =
     go (inr apart) e = apart (eqb-true _ _ (e .2))
 
 others-same : (f : InFlight) (rows rows′ : List Row) → Spared f rows rows′ → OthersSame f rows rows′
-others-same flight.Nothing rows rows′ k = k
-others-same (flight.Submission id) rows rows′ k = k
-others-same (flight.Poll id) rows rows′ k = k
-others-same (flight.Recovery x) rows rows′ k = λ i h e. k .equal i h (unaffected x _ e)
+others-same InFlight.Nothing rows rows′ k = k
+others-same (InFlight.Submission id) rows rows′ k = k
+others-same (InFlight.Poll id) rows rows′ k = k
+others-same (InFlight.Recovery x) rows rows′ k = λ i h e. k .equal i h (unaffected x _ e)
 
 -- a start leaves the rows
 start-leaves : (h : Handed) (w : World) (q : RecoveryKind) (id : RequestId) → rowsBy w (starts q id h) ≡ worldStore w .rows

@@ -9,18 +9,18 @@ use lib.Dec.{eqb}
 use lib.ListN.{length, getD, length-map, List·getD-map}
 use Rattle.chain.specs.Lists.{count, find, isAmong}
 use Rattle.chain.proofs.Lists.{find-hit, getD-any}
-use Rattle.models.specs.declared.DeviceId.{DeviceId}
+use Rattle.models.specs.declared.{DeviceId.DeviceId}
 use Rattle.rows.specs.Table.{isHeld, rowIn, tokenIn}
-use Rattle.rows.specs.declared.Row.{Row}
+use Rattle.rows.specs.declared.{Row.Row}
 use Rattle.scope.specs.Affected.{affectedOf}
 use Rattle.scope.specs.Scope.{slotOf, inScope}
 use Rattle.session.specs.Lent.{Memory}
-use Rattle.session.specs.declared.Size.{Size}
+use Rattle.session.specs.declared.{Size.Size}
 use Rattle.recovery.specs.RecoveryReply.{ReplyLists, rowsMeant}
 use Rattle.recovery.specs.Entries.{applyAll}
 use Rattle.runs.proofs.Affected.{affected-is-held, meant-affected, meant-below, slot-in, ownTokens, placeMeant}
 use Rattle.runs.proofs.Tokens.{scope-each, scope-distinct}
-use Rattle.history.specs.Journal.{Entry, noEntry, affectedViews, meantView, releasesAll, View, entryView}
+use Rattle.history.specs.Journal.{Entry, noEntry, affectedViews, meantView, releasesAll, View}
 use Rattle.history.specs.Claim.{rowView}
 use Rattle.history.proofs.Led.{Led}
 use Rattle.history.proofs.Affects.{seen, affected-same}
@@ -47,9 +47,9 @@ module _ (d : DeviceId) (endpoint : ℕ) (rows : List Row) (entries : List Entry
     view-at : rowView (rowIn rows (place t)) ≡ view t
     view-at =
         let a : getD (map (seen d endpoint rows) affected) (slotOf own t) (seen d endpoint rows 0) ≡ seen d endpoint rows (place t) = List·getD-map (seen d endpoint rows) affected (slotOf own t) 0 in
-        let b = getD-any (map (seen d endpoint rows) affected) (slotOf own t) (seen d endpoint rows 0) (entryView noEntry) (omega (arith, slot-in d endpoint rows t e, length-map affected (seen d endpoint rows))) in
-        sym a ∙ b ∙ ap (λ (l : List View). getD l (slotOf own t) (entryView noEntry)) (affected-same d endpoint rows entries few k)
-        ∙ ap (λ (l : List ℕ). getD (affectedViews d endpoint entries) (find (eqb t) l) (entryView noEntry)) (sym own-is)
+        let b = getD-any (map (seen d endpoint rows) affected) (slotOf own t) (seen d endpoint rows 0) (noEntry .view) (omega (arith, slot-in d endpoint rows t e, length-map affected (seen d endpoint rows))) in
+        sym a ∙ b ∙ ap (λ (l : List View). getD l (slotOf own t) (noEntry .view)) (affected-same d endpoint rows entries few k)
+        ∙ ap (λ (l : List ℕ). getD (affectedViews d endpoint entries) (find (eqb t) l) (noEntry .view)) (sym own-is)
 
     token-at : view t .token ≡ t
     token-at =

@@ -13,72 +13,57 @@ use Rattle.chain.specs.Lists.{sumBy, count, isAmong, allIn}
 use Rattle.chain.specs.After.{After}
 use Rattle.chain.proofs.Chain.{caseB, if-by, both}
 use Rattle.chain.proofs.Lists.{sum-part, find-hit, getD-any, in-cons, in-append, all-in}
-use Rattle.words.specs.declared.OptionU32.{OptionU32}
-use Rattle.words.specs.declared.OptionU32.the-variants as u32
-use Rattle.words.specs.declared.OptionU64.{OptionU64}
-use Rattle.words.specs.declared.OptionU64.the-variants as u64
+use Rattle.words.specs.declared.{OptionU32.OptionU32, OptionU64.OptionU64}
 use Rattle.models.specs.Requests.{deviceMayAccess}
-use Rattle.models.specs.declared.BackendCompletion.{BackendCompletion}
-use Rattle.models.specs.declared.DeviceId.{DeviceId}
-use Rattle.models.specs.declared.RequestState.{RequestState}
+use Rattle.models.specs.declared.{BackendCompletion.BackendCompletion, DeviceId.DeviceId, Refusal.Refusal, RequestState.RequestState, Verdict.Verdict}
 use Rattle.models.specs.declared.RequestState.the-variants.{Pending, Completed, Failed, Aborted}
-use Rattle.models.specs.declared.Verdict.{Verdict}
-use Rattle.models.specs.declared.Verdict.the-variants as verdict
-use Rattle.models.specs.declared.Refusal.{Refusal}
 use Rattle.rows.specs.Store.{Store, putIn}
+use Rattle.rows.specs.InPlace.{cancelIn}
 use Rattle.rows.specs.Table.{emptyRow, isHeld, rowIn, tokenIn}
-use Rattle.rows.specs.declared.Row.{Row}
+use Rattle.rows.specs.declared.{Row.Row}
 use Rattle.rules.specs.Rules.{changeRow, completed, whilePending, abortConfirmed, moved, withState, refusedBy}
-use Rattle.rules.specs.declared.Step.{Step}
+use Rattle.rules.specs.declared.{Step.Step}
 use Rattle.checks.specs.Completion.{hasError, codeTested, testCode, testLength, testCompletion}
-use Rattle.checks.specs.declared.completion.CompletionTest.{CompletionTest}
-use Rattle.checks.specs.declared.completion.CompletionTest.the-variants as test
+use Rattle.checks.specs.declared.{completion.CompletionTest.CompletionTest}
 use Rattle.session.specs.Session.{withFlight}
 use Rattle.session.specs.Lent.{Memory, memory}
-use Rattle.session.specs.declared.InFlight.{InFlight}
-use Rattle.session.specs.declared.InFlight.the-variants as flight
-use Rattle.session.specs.declared.Session.{Session}
+use Rattle.session.specs.declared.{InFlight.InFlight, Recovery.Recovery, Session.Session, Size.Size}
 use Rattle.scope.specs.Affected.{isAffected, affectedOf, tokensOf}
 use Rattle.scope.specs.Scope.{slotOf, eachOnce, inScope}
 use Rattle.scope.specs.Returned.{Returned}
-use Rattle.session.specs.declared.Size.{Size}
-use Rattle.session.specs.declared.Recovery.{Recovery}
 use Rattle.recovery.specs.Entries.{rowCompletedBy, testedBy, completeOne, abortedBy, abortOne, applyAll}
 use Rattle.recovery.specs.RecoveryReply.{ReplyLists, rowsMeant, ended, isWhole, abortReport, concludedBy, settledOf, recoveryReplyOf}
-use Rattle.recovery.specs.declared.AbortReport.{AbortReport}
-use Rattle.recovery.specs.declared.Ids.{Ids}
-use Rattle.recovery.specs.declared.Outcome.{Outcome}
+use Rattle.recovery.specs.declared.{AbortReport.AbortReport, Ids.Ids, Outcome.Outcome, RecoveryReply.RecoveryReply}
 use Rattle.recovery.specs.declared.Recovered as recovery
-use Rattle.recovery.specs.declared.RecoveryReply.{RecoveryReply}
 use Rattle.calls.specs.Answers.{ofRecovery}
-use Rattle.calls.specs.declared.Answer.the-variants as answer
+use Rattle.calls.specs.declared.{Answer.Answer}
 use Rattle.runs.proofs.Affected.{meant-affected, meant-below, ownTokens, placeMeant}
 use Rattle.runs.proofs.Held.{or-false, or-right}
 use Rattle.runs.proofs.Ways.{recovery-all}
 use Rattle.runs.proofs.Entries.{Onward, entries-all}
 use Rattle.runs.proofs.Tokens.{tokensIn, Each, Distinct, each-last, scope-each, scope-distinct, returnedIn, replyTokens, reply-tokens}
 use Rattle.history.specs.Journal.{View}
-use Rattle.history.specs.Claim.{rowView, lengthIn, codeIn, cancelledIn, completedAs, namedAs, recoveredAs, isSettled, Different, Recovered, ReportOf}
+use Rattle.history.specs.Claim.{rowView, lengthIn, codeIn, completedAs, namedAs, recoveredAs, isSettled, Different, Recovered, ReportOf}
 use Rattle.history.proofs.Led.{rowW}
 use Rattle.history.proofs.Affects.{seen, scoped, affected-cond, affected-weighs}
 use Rattle.history.proofs.Sparing.{Spares, scope-spares}
 
 -- ---- a completion that passes says its length and its code
 abbrev Says : ℕ → ℕ → CompletionTest → Type 0
-Says actual code (test.Valid a n) = (a ≡ actual) × (n ≡ code)
-Says actual code test.MissingLength = Unit {0}
-Says actual code test.Invalid = Unit {0}
+Says actual code (CompletionTest.Valid a n) = (a ≡ actual) × (n ≡ code)
+Says actual code CompletionTest.MissingLength = Unit {0}
+Says actual code CompletionTest.Invalid = Unit {0}
 
 module _ (c : BackendCompletion) (given requested : ℕ) where
   by-code : (actual : ℕ) (o : OptionU32) → Says actual (codeIn o) (codeTested o actual)
   unfolding codeTested
-  by-code actual u32.None = tt
-  by-code actual (u32.Some code) = if-by (Says actual code) _ _ _ (λ e. tt) (λ e. (refl, refl))
+  by-code actual OptionU32.None = tt
+  by-code actual (OptionU32.Some code) = if-by (Says actual code) _ _ _ (λ e. tt) (λ e. (refl, refl))
 
   by-length : (o : OptionU64) → Says (lengthIn o) (codeIn (c .«completion_code»)) (testLength o c given requested)
   unfolding testLength testCode
-  by-length u64.None = tt
-  by-length (u64.Some actual) =
+  by-length OptionU64.None = tt
+  by-length (OptionU64.Some actual) =
       if-by (Says actual (codeIn (c .«completion_code»))) _ _ _ (λ e. tt)
       (λ e. if-by (Says actual (codeIn (c .«completion_code»))) _ _ _ (λ x. tt) (λ x. by-code actual (c .«completion_code»)))
 
@@ -88,11 +73,11 @@ module _ (c : BackendCompletion) (given requested : ℕ) where
 
 -- ---- one entry
 abbrev asCompleted : BackendCompletion → Row → Row
-asCompleted c r = withState r (Completed (lengthIn (c .«actual_length»)) (codeIn (c .«completion_code»)) (cancelledIn (r .state)))
+asCompleted c r = withState r (Completed (lengthIn (c .«actual_length»)) (codeIn (c .«completion_code»)) (cancelIn (r .state)))
 
 abbrev SetBy : Verdict → List Row → List Row → Type 0
-SetBy (verdict.Refused r) l m = Unit {0}
-SetBy verdict.Pass l m = m ≡ l
+SetBy (Verdict.Refused r) l m = Unit {0}
+SetBy Verdict.Pass l m = m ≡ l
 
 module _ (store : Store) (i : ℕ) where
   abbrev Sets : After Verdict Memory → Row → Type 0
@@ -101,7 +86,7 @@ module _ (store : Store) (i : ℕ) where
   module _ (z : Size) (bytes area : List ℕ) where
     row-set : (st : RequestState) (actual n : ℕ)
         → Sets (rowCompletedBy (whilePending st (λ cancel late. withState (rowIn (store .rows) i) (Completed actual n cancel))) z i bytes (memory store area))
-        (withState (rowIn (store .rows) i) (Completed actual n (cancelledIn st)))
+        (withState (rowIn (store .rows) i) (Completed actual n (cancelIn st)))
     unfolding rowCompletedBy whilePending moved putIn
     row-set (Pending cancel late) actual n = refl
     row-set (Completed a b c) actual n = tt
@@ -111,9 +96,9 @@ module _ (store : Store) (i : ℕ) where
     test-set : (c : BackendCompletion) (p : CompletionTest) → Says (lengthIn (c .«actual_length»)) (codeIn (c .«completion_code»)) p
         → Sets (testedBy p (c .«completion_code») z i bytes (memory store area)) (asCompleted c (rowIn (store .rows) i))
     unfolding testedBy changeRow completed
-    test-set c test.MissingLength s = tt
-    test-set c test.Invalid s = tt
-    test-set c (test.Valid a n) s =
+    test-set c CompletionTest.MissingLength s = tt
+    test-set c CompletionTest.Invalid s = tt
+    test-set c (CompletionTest.Valid a n) s =
         let ea = s .0 in
         let en = s .1 in
         rw (sym ea, sym en) (row-set (rowIn (store .rows) i .state) a n)
@@ -240,7 +225,7 @@ module _ (place : ℕ → ℕ) where
         record { each = λ i. one i ∙ k .each i; size = same-size old p h Aborted new q ∙ k .size; named = here; distinct = k .distinct .1 }
 
   applied-rows : (z : Size) (l : ReplyLists) (m : Memory) → Each (Named (m .store .rows)) (replyTokens l)
-      → Distinct (replyTokens l) → applyAll z (rowsMeant place l) m .result ≡ verdict.Pass
+      → Distinct (replyTokens l) → applyAll z (rowsMeant place l) m .result ≡ Verdict.Pass
       → Applied (m .store .rows) (applyAll z (rowsMeant place l) m .lent .store .rows) (returnedIn l) (l .aborted)
   applied-rows z l m a d =
       entries-all place z J P (λ bytes n k e. record { each = k .each; size = k .size })
@@ -261,12 +246,12 @@ module _ (place : ℕ → ℕ) where
       J rest ts bytes n = Left (m .store .rows) es (l .aborted) rest ts (n .store .rows)
 
       P : Verdict → Memory → Type 0
-      P v n = v ≡ verdict.Pass → Applied (m .store .rows) (n .store .rows) es (l .aborted)
+      P v n = v ≡ Verdict.Pass → Applied (m .store .rows) (n .store .rows) es (l .aborted)
 
       on : (v : Verdict) (rest : List Returned) (ts bytes : List ℕ) (rows : List Row) (n : Memory) → SetBy v rows (n .store .rows)
           → (n .store .rows ≡ rows → Left (m .store .rows) es (l .aborted) rest ts (n .store .rows)) → Onward place z J P v rest ts bytes n
-      on (verdict.Refused r) rest ts bytes rows n q k = λ e. let z : _≡_ {A = ℕ} 0 1 = cc in absurd (omega arith)
-      on verdict.Pass rest ts bytes rows n q k = k q
+      on (Verdict.Refused r) rest ts bytes rows n q k = λ e. let z : _≡_ {A = ℕ} 0 1 = cc in absurd (omega arith)
+      on Verdict.Pass rest ts bytes rows n q k = k q
 
   -- ---- by the row's own token
   module _ (rows : List Row) (i : ℕ) where
@@ -393,7 +378,7 @@ module _ (d : DeviceId) (endpoint : ℕ) (rows : List Row) (few : count isHeld r
         }
 
 -- ---- the reply
-pub no-report : (f : Refusal) (x : AbortReport) (A : Type 0) → answer.Refused f ≡ answer.Recovered x → A
+pub no-report : (f : Refusal) (x : AbortReport) (A : Type 0) → Answer.Refused f ≡ Answer.Recovered x → A
 no-report f x A e = let z : _≡_ {A = ℕ} 0 1 = cc in absurd (omega arith)
 
 -- what the claim says of a report
@@ -403,25 +388,25 @@ Settles l rows rows′ x =
 
 module _ (l : ReplyLists) (s : Session) (m : Memory) (x : AbortReport) where
   abbrev quiet : Session
-  quiet = withFlight s flight.Nothing
+  quiet = withFlight s InFlight.Nothing
 
   abbrev rows : List Row
   rows = m .store .rows
 
   module _ (few : count isHeld rows ≤ 128) where
     abbrev Told : After recovery.Recovered Memory → Type 0
-    Told o = ofRecovery (o .result .answer) ≡ answer.Recovered x → Settles l rows (o .lent .store .rows) x
+    Told o = ofRecovery (o .result .answer) ≡ Answer.Recovered x → Settles l rows (o .lent .store .rows) x
 
     whole-is : (a b : Bool) → a ≡ true → b ≡ false → (a && not b) ≡ true
     whole-is a b e f = rw (e, f)
 
     concluded-told : (y : Recovery) (o : Outcome) → inScope (isWhole o) (ownTokens (y .device) (y .endpoint) rows) (l .tokens ++ l .aborted) ≡ true → (v : Verdict)
         (done : After Verdict Memory) → done ≡ applyAll (s .size) (rowsMeant (placeMeant (y .device) (y .endpoint) rows) l) m → done .result ≡ v → (a b : ℕ) (ids : Ids)
-        → ofRecovery (concludedBy v (ended quiet y o) (abortReport (ended quiet y o) a b) ids (done .lent .store .rows) .answer) ≡ answer.Recovered x
+        → ofRecovery (concludedBy v (ended quiet y o) (abortReport (ended quiet y o) a b) ids (done .lent .store .rows) .answer) ≡ Answer.Recovered x
         → Settles l rows (done .lent .store .rows) x
     unfolding concludedBy
-    concluded-told y o sc (verdict.Refused r) done ew ev a b ids e = no-report r x _ e
-    concluded-told y o sc verdict.Pass done ew ev a b ids e =
+    concluded-told y o sc (Verdict.Refused r) done ew ev a b ids e = no-report r x _ e
+    concluded-told y o sc Verdict.Pass done ew ev a b ids e =
         let q : abortReport (ended quiet y o) a b ≡ x = cc in
         subst (Settles l rows (done .lent .store .rows)) q
         (λ ready fine different.
@@ -443,16 +428,16 @@ module _ (l : ReplyLists) (s : Session) (m : Memory) (x : AbortReport) where
 
   -- ---- the report is of the operation that waited
   concluded-same : (y : Recovery) (o : Outcome) (v : Verdict) (a b : ℕ) (ids : Ids) (rows′ : List Row)
-      → ofRecovery (concludedBy v (ended quiet y o) (abortReport (ended quiet y o) a b) ids rows′ .answer) ≡ answer.Recovered x → ReportOf (flight.Recovery y) x
+      → ofRecovery (concludedBy v (ended quiet y o) (abortReport (ended quiet y o) a b) ids rows′ .answer) ≡ Answer.Recovered x → ReportOf (InFlight.Recovery y) x
   unfolding concludedBy
-  concluded-same y o (verdict.Refused r) a b ids rows′ e = no-report r x _ e
-  concluded-same y o verdict.Pass a b ids rows′ e =
+  concluded-same y o (Verdict.Refused r) a b ids rows′ e = no-report r x _ e
+  concluded-same y o Verdict.Pass a b ids rows′ e =
       let q : abortReport (ended quiet y o) a b ≡ x = cc in
-      subst (ReportOf (flight.Recovery y)) q (y .kind, refl)
+      subst (ReportOf (InFlight.Recovery y)) q (y .kind, refl)
 
-  pub waited-told : (r : RecoveryReply) → ofRecovery (recoveryReplyOf r l s m .result .answer) ≡ answer.Recovered x → ReportOf (s .«in_flight») x
+  pub waited-told : (r : RecoveryReply) → ofRecovery (recoveryReplyOf r l s m .result .answer) ≡ Answer.Recovered x → ReportOf (s .«in_flight») x
   unfolding settledOf
   waited-told r =
-      recovery-all l s m (λ (o : After recovery.Recovered Memory). ofRecovery (o .result .answer) ≡ answer.Recovered x → ReportOf (s .«in_flight») x)
+      recovery-all l s m (λ (o : After recovery.Recovered Memory). ofRecovery (o .result .answer) ≡ Answer.Recovered x → ReportOf (s .«in_flight») x)
       (no-report _ x _) (no-report _ x _) (no-report _ x _) (λ e. no-report _ x _) (no-report _ x _)
       (λ y own o n e. subst (λ (f : InFlight). ReportOf f x) (sym own) (concluded-same y o _ _ _ _ _ e)) r

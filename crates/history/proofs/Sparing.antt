@@ -6,31 +6,22 @@ use mathlib.Core.List.{List, [], _∷_, _++_}
 use lib.ListN.{length, set, take, drop, length-set}
 use lib.Seq.{getD-set-other}
 use Rattle.chain.specs.After.{After}
-use Rattle.words.specs.declared.OptionU32.{OptionU32}
-use Rattle.models.specs.declared.DeviceId.{DeviceId}
-use Rattle.models.specs.declared.Verdict.{Verdict}
-use Rattle.models.specs.declared.Verdict.the-variants as verdict
+use Rattle.words.specs.declared.{OptionU32.OptionU32}
+use Rattle.models.specs.declared.{DeviceId.DeviceId, Verdict.Verdict}
 use Rattle.rows.specs.Store.{Store, putIn}
 use Rattle.rows.specs.Table.{emptyRow, rowIn}
-use Rattle.rows.specs.declared.Row.{Row}
+use Rattle.rows.specs.declared.{Row.Row}
 use Rattle.rules.specs.Rules.{changeRow}
-use Rattle.rules.specs.declared.Change.the-variants as change
-use Rattle.rules.specs.declared.Step.{Step}
-use Rattle.rules.specs.declared.Step.the-variants as step
-use Rattle.checks.specs.declared.completion.CompletionTest.{CompletionTest}
-use Rattle.checks.specs.declared.completion.CompletionTest.the-variants as test
+use Rattle.rules.specs.declared.{Change.Change, Step.Step}
+use Rattle.checks.specs.declared.{completion.CompletionTest.CompletionTest}
 use Rattle.session.specs.Lent.{Memory, memory}
-use Rattle.session.specs.declared.InFlight.{InFlight}
-use Rattle.session.specs.declared.InFlight.the-variants as flight
-use Rattle.session.specs.declared.Session.{Session}
+use Rattle.session.specs.declared.{InFlight.InFlight, Session.Session, Size.Size}
 use Rattle.scope.specs.Affected.{isAffected}
 use Rattle.scope.specs.Scope.{inScope}
 use Rattle.scope.specs.Returned.{Returned}
-use Rattle.session.specs.declared.Size.{Size}
 use Rattle.recovery.specs.Entries.{rowCompletedBy, testedBy, completeOne, abortedBy, abortOne, applyAll}
 use Rattle.recovery.specs.RecoveryReply.{ReplyLists, rowsMeant, isWhole, settledOf, recoveryReplyOf}
-use Rattle.recovery.specs.declared.RecoveryReply.{RecoveryReply}
-use Rattle.recovery.specs.declared.Recovered.{Recovered}
+use Rattle.recovery.specs.declared.{Recovered.Recovered, RecoveryReply.RecoveryReply}
 use Rattle.runs.proofs.Affected.{meant-affected, ownTokens, placeMeant}
 use Rattle.runs.proofs.Ways.{recovery-all}
 use Rattle.runs.proofs.Entries.{Onward, entries-all}
@@ -58,19 +49,19 @@ module _ (marks : ℕ → Bool) where
 
     completed-row : (n : Step) (z : Size) (bytes area : List ℕ) → Spares (store .rows) (rowCompletedBy n z p bytes (memory store area) .lent .store .rows)
     unfolding rowCompletedBy putIn
-    completed-row (step.Refused r) z bytes area = none (store .rows)
-    completed-row (step.To next report) z bytes area = one-put next
+    completed-row (Step.Refused r) z bytes area = none (store .rows)
+    completed-row (Step.To next report) z bytes area = one-put next
 
     tested-row : (t : CompletionTest) (code : OptionU32) (z : Size) (bytes area : List ℕ) → Spares (store .rows) (testedBy t code z p bytes (memory store area) .lent .store .rows)
     unfolding testedBy
-    tested-row test.MissingLength code z bytes area = none (store .rows)
-    tested-row test.Invalid code z bytes area = none (store .rows)
-    tested-row (test.Valid actual n) code z bytes area = completed-row (changeRow (rowIn (store .rows) p) (change.Complete actual n)) z bytes area
+    tested-row CompletionTest.MissingLength code z bytes area = none (store .rows)
+    tested-row CompletionTest.Invalid code z bytes area = none (store .rows)
+    tested-row (CompletionTest.Valid actual n) code z bytes area = completed-row (changeRow (rowIn (store .rows) p) (Change.Complete actual n)) z bytes area
 
     aborted-row : (n : Step) → Spares (store .rows) (abortedBy n p store .lent .rows)
     unfolding abortedBy putIn
-    aborted-row (step.Refused r) = none (store .rows)
-    aborted-row (step.To next report) = one-put next
+    aborted-row (Step.Refused r) = none (store .rows)
+    aborted-row (Step.To next report) = one-put next
 
   module _ (place : ℕ → ℕ) where
     -- the rows that tokens mean are marked
@@ -97,8 +88,8 @@ module _ (marks : ℕ → Bool) where
 
         on : (v : Verdict) (es : List Returned) (ts bytes : List ℕ) (n n′ : Memory) {t : ℕ} → Spares (m .store .rows) (n .store .rows) × Each Marked (t ∷ (tokensIn es ++ ts))
             → Spares (n .store .rows) (n′ .store .rows) → Onward place z J P v es ts bytes n′
-        on (verdict.Refused r) es ts bytes n n′ h o = further (m .store .rows) (n .store .rows) (n′ .store .rows) (h .0) o
-        on verdict.Pass es ts bytes n n′ h o = (further (m .store .rows) (n .store .rows) (n′ .store .rows) (h .0) o, h .1 .1)
+        on (Verdict.Refused r) es ts bytes n n′ h o = further (m .store .rows) (n .store .rows) (n′ .store .rows) (h .0) o
+        on Verdict.Pass es ts bytes n n′ h o = (further (m .store .rows) (n .store .rows) (n′ .store .rows) (h .0) o, h .1 .1)
 
 -- ---- in scope, the tokens mean affected rows
 module _ (d : DeviceId) (endpoint : ℕ) (m : Memory) where
@@ -113,10 +104,10 @@ module _ (d : DeviceId) (endpoint : ℕ) (m : Memory) where
 
 -- ---- the reply
 pub all-spared : (f : InFlight) (rows : List Row) → Spared f rows rows
-all-spared flight.Nothing rows = refl
-all-spared (flight.Submission id) rows = refl
-all-spared (flight.Poll id) rows = refl
-all-spared (flight.Recovery x) rows = record { number = refl; equal = λ i h e. refl }
+all-spared InFlight.Nothing rows = refl
+all-spared (InFlight.Submission id) rows = refl
+all-spared (InFlight.Poll id) rows = refl
+all-spared (InFlight.Recovery x) rows = record { number = refl; equal = λ i h e. refl }
 
 pub reply-spares : (r : RecoveryReply) (l : ReplyLists) (s : Session) (m : Memory)
     → Spared (s .«in_flight») (m .store .rows) (recoveryReplyOf r l s m .lent .store .rows)

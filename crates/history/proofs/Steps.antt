@@ -8,42 +8,35 @@ use lib.ListN.{length}
 use Rattle.chain.specs.Lists.{count, isAmong}
 use Rattle.chain.specs.After.{After, after}
 use Rattle.chain.proofs.Chain.{if-all, if-by}
-use Rattle.words.specs.declared.OptionU64.{OptionU64}
-use Rattle.words.specs.declared.OptionU64.the-variants as u64
+use Rattle.words.specs.declared.{OptionU64.OptionU64}
 use Rattle.models.specs.Requests.{deviceMayAccess, isPending}
-use Rattle.models.specs.declared.OptionError.{OptionError}
-use Rattle.models.specs.declared.OptionError.the-variants as error
-use Rattle.models.specs.declared.RequestId.{RequestId}
+use Rattle.models.specs.declared.{OptionError.OptionError, RequestId.RequestId}
 use Rattle.rows.specs.Store.{Store, putIn, emptied}
 use Rattle.rows.specs.InPlace.{lateIn}
 use Rattle.rows.specs.Table.{isHeld, rowIn}
-use Rattle.rows.specs.declared.Row.{Row}
+use Rattle.rows.specs.declared.{Row.Row}
 use Rattle.ledger.specs.Apply.{applyBy}
 use Rattle.rules.specs.Rules.{moved, freed, logicalCancel, cancelWithdrawn, timeOut, reclaimed, changeRow}
 use Rattle.rules.specs.declared.Change as rules
-use Rattle.rules.specs.declared.Step.{Step}
-use Rattle.rules.specs.declared.Step.the-variants as step
+use Rattle.rules.specs.declared.{Step.Step}
 use Rattle.session.specs.Session.{isClosed, isBusy, marked}
 use Rattle.session.specs.Lifecycle.{acquiredBy, acquireOf, initializedBy, initializeOf, closedBy, freshBy, closeOf}
 use Rattle.session.specs.Start.{guarded}
 use Rattle.session.specs.Lent.{Lent}
-use Rattle.session.specs.declared.Called.{Called}
-use Rattle.session.specs.declared.Session.{Session}
-use Rattle.session.specs.declared.lifecycle.AcquireReply.{AcquireReply}
-use Rattle.session.specs.declared.lifecycle.AcquireReply.the-variants as acquire
+use Rattle.session.specs.declared.{Called.Called, Session.Session, lifecycle.AcquireReply.AcquireReply}
 use Rattle.reports.specs.Change.{reportedBy, changeOf}
-use Rattle.reports.specs.declared.Reported.{Reported}
-use Rattle.calls.specs.Answers.{ofVerdict}
+use Rattle.reports.specs.declared.{Reported.Reported}
+use Rattle.calls.specs.Answers.{ofVerdict, isPass}
 use Rattle.calls.specs.Calls.{Changing, Cancel, Timeout, Reclaim, Withdraw, Call, Open, Place, Move, Acquire, Initialize, Close, Begin, Submit, SubmitPlan, Poll, Recover, Reply, ToSubmit, ToPoll, ToRecovery, Change, Read}
 use Rattle.calls.specs.Step.{World, movedOf, begunOf, repliedOf, changeBy, stepOf, worldStore}
-use Rattle.calls.specs.declared.Outcome.{Outcome}
+use Rattle.calls.specs.declared.{Outcome.Outcome}
 use Rattle.runs.specs.Run.{isOpening, numberOf, isNew, noted}
 use Rattle.runs.specs.Sound.{Sound}
 use Rattle.runs.proofs.Held.{unheld-row}
 use Rattle.runs.proofs.Ways.{change-all}
 use Rattle.runs.proofs.Facts.{closed-unheld}
 use Rattle.runs.proofs.Rules.{while-all}
-use Rattle.history.specs.Journal.{Journal, isPass, releasedAll, journalStep}
+use Rattle.history.specs.Journal.{Journal, releasedAll, journalStep}
 use Rattle.history.proofs.Led.{Alike}
 use Rattle.history.proofs.Changes.{flag-alike, empty-alike}
 use Rattle.history.proofs.Inv.{Inv, marks, quietly, seen-more, closed-again, closed-anew}
@@ -53,8 +46,8 @@ use Rattle.history.proofs.Recovery.{begin-kept, recovery-kept}
 
 -- ---- cancel, its withdrawal, timeout and reclaim: the row they lead to weighs what it did
 abbrev pub Stays : Row → Step → Type 0
-Stays r (step.Refused x) = Unit {0}
-Stays r (step.To next x) = Alike r next
+Stays r (Step.Refused x) = Unit {0}
+Stays r (Step.To next x) = Alike r next
 
 change-stays : (c : Changing) (r : Row) → Stays r (changeRow r (changeBy c))
 unfolding changeRow logicalCancel cancelWithdrawn timeOut reclaimed freed moved
@@ -77,8 +70,8 @@ module _ (s : Session) (j : Journal) (seen : List ℕ) (store : Store) (k : Inv 
     where
       by-step : (i : ℕ) → i < length (store .rows) → (t : Step) → Stays (rowIn (store .rows) i) t
           → Change-kept (after (reportedBy (applyBy t i store .result) s) (applyBy t i store .lent))
-      by-step i lt (step.Refused x) h = k
-      by-step i lt (step.To next x) h = quietly s (store .rows) j seen k i lt next h
+      by-step i lt (Step.Refused x) h = k
+      by-step i lt (Step.To next x) h = quietly s (store .rows) j seen k i lt next h
 
   -- ---- the lifecycle
   abbrev Called-kept : Called → Type 0
@@ -89,16 +82,16 @@ module _ (s : Session) (j : Journal) (seen : List ℕ) (store : Store) (k : Inv 
   acquire-kept x = if-all Called-kept _ _ _ k (if-all Called-kept _ _ _ k (go x))
     where
       go : (x : AcquireReply) → Called-kept (acquiredBy x s)
-      go acquire.Acquired = k
-      go (acquire.Failed e retained) = if-all Called-kept _ _ _ k k
+      go AcquireReply.Acquired = k
+      go (AcquireReply.Failed e retained) = if-all Called-kept _ _ _ k k
 
   initialize-kept : (x : OptionError) → Called-kept (initializeOf x s)
   unfolding initializeOf initializedBy
   initialize-kept x = if-all Called-kept _ _ _ k (if-all Called-kept _ _ _ k (go x))
     where
       go : (x : OptionError) → Called-kept (initializedBy x s)
-      go error.None = k
-      go (error.Some e) = marks s (store .rows) j seen k
+      go OptionError.None = k
+      go (OptionError.Some e) = marks s (store .rows) j seen k
 
   abbrev Close-kept : OptionU64 → After Called Store → Type 0
   Close-kept n o = Inv (o .result .session) (o .lent .rows) (cond (isPass (ofVerdict (o .result .answer))) (releasedAll j) j) (noted n seen)
@@ -114,9 +107,9 @@ module _ (s : Session) (j : Journal) (seen : List ℕ) (store : Store) (k : Inv 
       (λ c. go y n new x)))
     where
       go : isBusy (s .«in_flight») ≡ false → (n : OptionU64) → isNew n seen ≡ true → (x : OptionError) → Close-kept n (freshBy n x s store)
-      go y u64.None new x = k
-      go y (u64.Some n) new (error.Some e) = seen-more (marked s) (store .rows) j seen (marks s (store .rows) j seen k) (u64.Some n)
-      go y (u64.Some n) new error.None = closed-anew s (store .rows) j seen k n (length (store .rows)) (not-true (isAmong n seen) new) y
+      go y OptionU64.None new x = k
+      go y (OptionU64.Some n) new (OptionError.Some e) = seen-more (marked s) (store .rows) j seen (marks s (store .rows) j seen k) (OptionU64.Some n)
+      go y (OptionU64.Some n) new OptionError.None = closed-anew s (store .rows) j seen k n (length (store .rows)) (not-true (isAmong n seen) new) y
 
 -- ---- any call
 abbrev pub Kept : Call → Journal → List ℕ → After Outcome Lent → Type 0

@@ -13,46 +13,35 @@ use Rattle.chain.proofs.Chain.{caseB, if-by}
 use Rattle.chain.proofs.Lists.{sum-eq, sum-le, sum-one, sum-none, count-pos, find-hit, find-some}
 use Rattle.models.specs.Refusals.{refusalOf}
 use Rattle.models.specs.Requests.{deviceMayAccess, sameRequest}
-use Rattle.models.specs.declared.Refusal.{Refusal}
-use Rattle.models.specs.declared.RequestId.{RequestId}
-use Rattle.models.specs.declared.RequestReport.{RequestReport}
+use Rattle.models.specs.declared.{Refusal.Refusal, RequestId.RequestId, RequestReport.RequestReport}
 use Rattle.rows.specs.Store.{storeOf, emptied, Store}
 use Rattle.rows.specs.Table.{emptyRow, isHeld, rowIn}
-use Rattle.rows.specs.declared.Row.{Row}
+use Rattle.rows.specs.declared.{Row.Row}
 use Rattle.ledger.specs.Apply.{applyBy}
 use Rattle.rules.specs.Rules.{reclaimed, changeRow}
 use Rattle.ledger.specs.Search.{isAt}
 use Rattle.rules.specs.declared.Change.the-variants as change
-use Rattle.rules.specs.declared.Step.{Step}
+use Rattle.rules.specs.declared.{Step.Step}
 use Rattle.bus.specs.Tables.{Bus, busOf}
 use Rattle.session.specs.Lifecycle.{newSession, openOf}
 use Rattle.session.specs.Lent.{Lent, lent, memory}
-use Rattle.session.specs.declared.InFlight.{InFlight}
-use Rattle.session.specs.declared.InFlight.the-variants as flight
-use Rattle.session.specs.declared.RecoveryKind.{RecoveryKind}
-use Rattle.session.specs.declared.Session.{Session}
-use Rattle.session.specs.declared.lifecycle.Opening.{Opening}
-use Rattle.session.specs.declared.Recovery.{Recovery}
-use Rattle.session.specs.declared.lifecycle.Opened.{Opened}
+use Rattle.session.specs.declared.{InFlight.InFlight, Recovery.Recovery, RecoveryKind.RecoveryKind, Session.Session, lifecycle.Opened.Opened, lifecycle.Opening.Opening}
 use Rattle.reports.specs.Change.{reportedBy, changeOf}
 use Rattle.reports.specs.Status.{tallyOf}
-use Rattle.reports.specs.declared.HeldAnswer.{HeldAnswer}
-use Rattle.reports.specs.declared.Reported.{Reported}
+use Rattle.reports.specs.declared.{HeldAnswer.HeldAnswer, Reported.Reported}
 use Rattle.recovery.specs.RecoveryReply.{ReplyLists}
-use Rattle.recovery.specs.declared.AbortReport.{AbortReport}
-use Rattle.recovery.specs.declared.RecoveryReply.{RecoveryReply}
+use Rattle.recovery.specs.declared.{AbortReport.AbortReport, RecoveryReply.RecoveryReply}
 use Rattle.calls.specs.Answers.{ofReport, ofTally}
 use Rattle.calls.specs.Calls.{Call, Open, Begin, Recover, Change, Reclaim}
 use Rattle.calls.specs.Step.{World, world, begunOf, repliedOf, stepOf, opens, readOf, worldStore}
-use Rattle.calls.specs.declared.Answer.{Answer}
-use Rattle.calls.specs.declared.Answer.the-variants as answer
+use Rattle.calls.specs.declared.{Answer.Answer}
 use Rattle.runs.specs.Run.{Handed, Event, next, answerTo, leftBy, endOf, historyOf, Handing, Follows, numberOf, isNew, noted, Fresh, beside}
 use Rattle.runs.proofs.Held.{and-less, any-count, unheld-row}
 use Rattle.runs.proofs.Handings.{by-handed, follows-at, follows-front, fresh-front}
 use Rattle.runs.proofs.Ways.{change-all}
 use Rattle.runs.proofs.Run.{Whole, lent-rows, sound-open, left-leads, sound-run, fitted-run, SoundIn}
 use Rattle.runs.proofs.Tally.{count-answer, bytes-answer}
-use Rattle.history.specs.Journal.{Entry, Journal, blank, isNone, isOpen, isEntry, noEntry, entryOf, recoveryWaits, journalStep, journalOf, View, entryView}
+use Rattle.history.specs.Journal.{Entry, Journal, blank, isNone, isOpen, isEntry, noEntry, entryOf, recoveryWaits, journalStep, journalOf, View}
 use Rattle.history.specs.Claim.{rowView, heldAs, openAs, Agrees, releasesOf, rowsBy, entriesAfter, reclaims, starts, returns, Spared, Claim, ReportOf}
 use Rattle.history.proofs.Led.{cond-and, rowW, entryW, each, lengthOf, at, twice, Led, row-none, known-in, entry-is}
 use Rattle.history.proofs.Changes.{none-held, none-at}
@@ -79,18 +68,18 @@ entry-ids false true q = refl
 entry-ids false false q = refl
 
 module _ (rows : List Row) (entries : List Entry) (k : Led rows entries) where
-  weigh-as : (p : View → Bool) (w : View → ℕ) → sumBy (only (heldAs p) (λ r. w (rowView r))) rows ≡ sumBy (only (openAs p) (λ e. w (entryView e))) entries
+  weigh-as : (p : View → Bool) (w : View → ℕ) → sumBy (only (heldAs p) (λ r. w (rowView r))) rows ≡ sumBy (only (openAs p) (λ e. w (e .view))) entries
   weigh-as p w =
       sum-eq (only (heldAs p) (λ r. w (rowView r))) (rowW (only p w)) rows (λ r. cond-and (isHeld r) (p (rowView r)) (w (rowView r)))
       ∙ k .same (only p w)
-      ∙ sym (sum-eq (only (openAs p) (λ e. w (entryView e))) (entryW (only p w)) entries (λ e. cond-and (isOpen e) (p (entryView e)) (w (entryView e))))
+      ∙ sym (sum-eq (only (openAs p) (λ e. w (e .view))) (entryW (only p w)) entries (λ e. cond-and (isOpen e) (p (e .view)) (w (e .view))))
 
   held-ids : (p : View → Bool) (x : RequestId) → count (λ r. isAt x r && heldAs p r) rows ≡ sumBy (rowW (at x (only p each))) rows
   unfolding isAt isHeld
   held-ids p x = sum-eq _ (rowW (at x (only p each))) rows (λ r. row-ids (r .used) (deviceMayAccess (r .state)) (sameRequest (r .id) x) (p (rowView r)))
 
   open-ids : (p : View → Bool) (x : RequestId) → count (λ e. isEntry x e && openAs p e) entries ≡ sumBy (entryW (at x (only p each))) entries
-  open-ids p x = sum-eq _ (entryW (at x (only p each))) entries (λ e. entry-ids (isEntry x e) (isOpen e) (p (entryView e)))
+  open-ids p x = sum-eq _ (entryW (at x (only p each))) entries (λ e. entry-ids (isEntry x e) (isOpen e) (p (e .view)))
 
   pub agreed : count isHeld rows ≤ 128 → (p : View → Bool) → Agrees p rows entries
   agreed few p = record {
@@ -147,10 +136,10 @@ run-kept (e ∷ es) w j seen sound k f n =
     (left-leads (e .handed) (e .call) w sound (f .0) .sound) (event-kept (e .handed) (e .call) w sound j seen k (f .0) (n .0)) (f .1) (n .1)
 
 -- an opening that passed
-pub opened-holds : (o : Opening) (w : World) → stepOf (Open o) w .result .answer ≡ answer.Pass → Holds (next (stepOf (Open o) w)) blank (o .session ∷ [])
+pub opened-holds : (o : Opening) (w : World) → stepOf (Open o) w .result .answer ≡ Answer.Pass → Holds (next (stepOf (Open o) w)) blank (o .session ∷ [])
 unfolding stepOf openOf emptied
 opened-holds o w =
-    if-by (λ (x : After Opened Lent). opens x w .result .answer ≡ answer.Pass → Holds (next (opens x w)) blank (o .session ∷ [])) _ _ _
+    if-by (λ (x : After Opened Lent). opens x w .result .answer ≡ Answer.Pass → Holds (next (opens x w)) blank (o .session ∷ [])) _ _ _
     (λ y e. let z : _≡_ {A = ℕ} 0 1 = cc in absurd (omega arith)) (λ y e. begins)
   where
     begins : Inv (newSession o) (replicate (length (worldStore w .rows)) emptyRow) blank (o .session ∷ [])
@@ -169,7 +158,7 @@ opened-holds o w =
 
 -- ---- what a reclaim that passed tells
 reclaim-told : (s : Session) (store : Store) (x : RequestId) (r : RequestReport) (entries : List Entry) → Led (store .rows) entries
-    → ofReport (changeOf x change.Reclaim s store .result .answer) ≡ answer.Report r → releasesOf x entries ≡ 1
+    → ofReport (changeOf x change.Reclaim s store .result .answer) ≡ Answer.Report r → releasesOf x entries ≡ 1
 unfolding reportedBy applyBy changeRow reclaimed
 reclaim-told s store x r entries k =
     change-all x change.Reclaim s store Told (λ f e. refuses e)
@@ -178,13 +167,13 @@ reclaim-told s store x r entries k =
     (λ y e. unheld-once (store .rows) entries k x i lt hit (unheld-row (rowIn (store .rows) i) y)))
   where
     Told : After Reported Store → Type 0
-    Told o = ofReport (o .result .answer) ≡ answer.Report r → releasesOf x entries ≡ 1
+    Told o = ofReport (o .result .answer) ≡ Answer.Report r → releasesOf x entries ≡ 1
 
-    refuses : {f : Refusal} → answer.Refused f ≡ answer.Report r → releasesOf x entries ≡ 1
+    refuses : {f : Refusal} → Answer.Refused f ≡ Answer.Report r → releasesOf x entries ≡ 1
     refuses e = let z : _≡_ {A = ℕ} 0 1 = cc in absurd (omega arith)
 
 -- ---- the theorem
-module _ (o : Opening) (w : World) (es : List Event) (pass : stepOf (Open o) w .result .answer ≡ answer.Pass) (follows : Follows es)
+module _ (o : Opening) (w : World) (es : List Event) (pass : stepOf (Open o) w .result .answer ≡ Answer.Pass) (follows : Follows es)
     (fresh : Fresh (o .session ∷ []) es) where
   abbrev start : World
   start = next (stepOf (Open o) w)
@@ -203,24 +192,24 @@ module _ (o : Opening) (w : World) (es : List Event) (pass : stepOf (Open o) w .
         (fresh-front seen before (e ∷ after) (subst (Fresh seen) is fresh))
 
   reclaim-at : (before after : List Event) (h : Handed) (x : RequestId) (r : RequestReport) → es ≡ before ++ (reclaims x h ∷ after)
-      → answerTo (endOf start before) (reclaims x h) ≡ answer.Report r → releasesOf x (entriesAfter start before) ≡ 1
+      → answerTo (endOf start before) (reclaims x h) ≡ Answer.Report r → releasesOf x (entriesAfter start before) ≡ 1
   unfolding stepOf
   reclaim-at before after h x r is =
       let at = endOf start before in
       let k = holds before after (reclaims x h) is .1 .led in
-      by-handed h (Change x Reclaim) at (λ a v. a ≡ answer.Report r → releasesOf x (entriesAfter start before) ≡ 1) (handing before after (reclaims x h) is)
+      by-handed h (Change x Reclaim) at (λ a v. a ≡ Answer.Report r → releasesOf x (entriesAfter start before) ≡ 1) (handing before after (reclaims x h) is)
       (λ first bus area. reclaim-told (at .session) (worldStore at) x r _ k)
       (λ e. let z : _≡_ {A = ℕ} 0 1 = cc in absurd (omega arith))
 
   started-at : (before after : List Event) (h : Handed) (q : RecoveryKind) (id : RequestId) → es ≡ before ++ (starts q id h ∷ after) → (x : Recovery)
-      → answerTo (endOf start before) (starts q id h) ≡ answer.Recovering x
-      → flight.Recovery x ≡ recoveryWaits id q (journalOf (historyOf start before) blank) .waiting
+      → answerTo (endOf start before) (starts q id h) ≡ Answer.Recovering x
+      → InFlight.Recovery x ≡ recoveryWaits id q (journalOf (historyOf start before) blank) .waiting
   unfolding stepOf begunOf
   started-at before after h q id is x =
       let mid = endOf start before in
       let k = holds before after (starts q id h) is in
       by-handed h (Begin (Recover id q)) mid
-      (λ a v. a ≡ answer.Recovering x → flight.Recovery x ≡ recoveryWaits id q (journalOf (historyOf start before) blank) .waiting)
+      (λ a v. a ≡ Answer.Recovering x → InFlight.Recovery x ≡ recoveryWaits id q (journalOf (historyOf start before) blank) .waiting)
       (handing before after (starts q id h) is)
       (λ first bus area a. begin-names (mid .session) (journalOf (historyOf start before) blank) (k .0) (worldStore mid) (k .1) x id q a)
       (λ a. let z : _≡_ {A = ℕ} 0 1 = cc in absurd (omega arith))
@@ -234,20 +223,20 @@ module _ (o : Opening) (w : World) (es : List Event) (pass : stepOf (Open o) w .
 
     by-reply : (P : Answer → World → Type 0)
         → ((bus : Bus) (area : List ℕ) → P (stepOf (ending .call) (beside bus area mid) .result .answer) (next (stepOf (ending .call) (beside bus area mid))))
-        → P (answer.Refused (refusalOf 3)) mid → P (answerTo mid ending) (leftBy h (ending .call) mid)
+        → P (Answer.Refused (refusalOf 3)) mid → P (answerTo mid ending) (leftBy h (ending .call) mid)
     by-reply P ours = by-handed h (ending .call) mid P (handing before after ending is) (λ first. ours)
 
-    recovered-at : (x : AbortReport) → answerTo mid ending ≡ answer.Recovered x → Settles l (worldStore mid .rows) (rowsBy mid ending) x
+    recovered-at : (x : AbortReport) → answerTo mid ending ≡ Answer.Recovered x → Settles l (worldStore mid .rows) (rowsBy mid ending) x
     unfolding stepOf repliedOf
     recovered-at x =
-        by-reply (λ a v. a ≡ answer.Recovered x → Settles l (worldStore mid .rows) (worldStore v .rows) x)
+        by-reply (λ a v. a ≡ Answer.Recovered x → Settles l (worldStore mid .rows) (worldStore v .rows) x)
         (λ bus area. recovered-told l (mid .session) (memory (worldStore mid) area) x (sound-run o w before pass (follows-front before (ending ∷ after) (subst Follows is follows)) .held) reply)
         (no-report (refusalOf 3) x _)
 
-    reported-at : (x : AbortReport) → answerTo mid ending ≡ answer.Recovered x → ReportOf (journalOf (historyOf start before) blank .waiting) x
+    reported-at : (x : AbortReport) → answerTo mid ending ≡ Answer.Recovered x → ReportOf (journalOf (historyOf start before) blank .waiting) x
     unfolding stepOf repliedOf
     reported-at x e =
-        let q = by-reply (λ a v. a ≡ answer.Recovered x → ReportOf (mid .session .«in_flight») x)
+        let q = by-reply (λ a v. a ≡ Answer.Recovered x → ReportOf (mid .session .«in_flight») x)
         (λ bus area. waited-told l (mid .session) (memory (worldStore mid) area) x reply) (no-report (refusalOf 3) x _) e in
         (q .0, holds before after ending is .1 .agree ∙ q .1)
 
@@ -266,8 +255,8 @@ module _ (o : Opening) (w : World) (es : List Event) (pass : stepOf (Open o) w .
       let k = run-kept es start blank seen (sound-open o w pass) (opened-holds o w pass) follows fresh .1 .led in
       record {
         agrees = agreed _ _ k (sound .held);
-        count-is = ap (λ (a : HeldAnswer). ofTally (tallyOf a)) (count-answer sound fitted) ∙ ap (λ (n : ℕ). answer.Number n) (k .same each);
-        bytes-is = ap ofTally (bytes-answer sound fitted) ∙ ap (λ (n : ℕ). answer.Number n) (k .same lengthOf);
+        count-is = ap (λ (a : HeldAnswer). ofTally (tallyOf a)) (count-answer sound fitted) ∙ ap (λ (n : ℕ). Answer.Number n) (k .same each);
+        bytes-is = ap ofTally (bytes-answer sound fitted) ∙ ap (λ (n : ℕ). Answer.Number n) (k .same lengthOf);
         one-entry = k .once;
         one-release = release-once _ _ k;
         reclaimed = reclaim-at;
@@ -285,6 +274,6 @@ worldOf s bus rows area = world s (lent (busOf bus) (memory (storeOf rows) area)
 
 -- the theorem: lent slices always have as many rows as their words say
 pub history-claim : (o : Opening) (s : Session) (bus rows area : List ℕ) (es : List Event)
-    → stepOf (Open o) (worldOf s bus rows area) .result .answer ≡ answer.Pass → Follows es → Fresh (o .session ∷ []) es
+    → stepOf (Open o) (worldOf s bus rows area) .result .answer ≡ Answer.Pass → Follows es → Fresh (o .session ∷ []) es
     → Claim (next (stepOf (Open o) (worldOf s bus rows area))) es
 history-claim o s bus rows area es pass follows fresh = whole-claim o (worldOf s bus rows area) es pass follows fresh (lent-rows rows)

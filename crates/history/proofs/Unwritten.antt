@@ -7,59 +7,41 @@ use mathlib.Core.Path.{_≡_, refl, sym, ap, _∙_}
 use native.Mathlib.Omega.{arith}
 use lib.ListN.{length, set, take, drop, length-set, length-take, length-replicate}
 use lib.Seq.{getD-set-same, getD-set-other}
-use Rattle.chain.specs.After.{After, after}
+use Rattle.chain.specs.After.{After}
 use Rattle.chain.specs.Chain.{_if_else_}
 use Rattle.chain.proofs.Chain.{caseB, if-all, if-by}
 use Rattle.chain.proofs.Lists.{inside}
 use Rattle.words.specs.Records.{splice, spliceCut}
-use Rattle.words.specs.declared.OptionU32.{OptionU32}
+use Rattle.words.specs.declared.{OptionU32.OptionU32}
 use Rattle.words.proofs.Records.{splice-length, part-splice-apart, record-in, record-apart}
-use Rattle.models.specs.declared.BackendCompletion.{BackendCompletion}
-use Rattle.models.specs.declared.ControlPlan.{ControlPlan}
-use Rattle.models.specs.declared.DeviceId.{DeviceId}
-use Rattle.models.specs.declared.OptionError.{OptionError}
-use Rattle.models.specs.declared.OptionError.the-variants as error
-use Rattle.models.specs.declared.PortReading.{PortReading}
-use Rattle.models.specs.declared.Refusal.{Refusal}
-use Rattle.models.specs.declared.RequestMetadata.{RequestMetadata}
+use Rattle.models.specs.declared.{BackendCompletion.BackendCompletion, ControlPlan.ControlPlan, DeviceId.DeviceId, OptionError.OptionError, PortReading.PortReading, RequestMetadata.RequestMetadata, Verdict.Verdict}
 use Rattle.models.specs.declared.RequestState.the-variants.{Completed, Aborted}
-use Rattle.models.specs.declared.Verdict.{Verdict}
-use Rattle.models.specs.declared.Verdict.the-variants as verdict
 use Rattle.rows.specs.Store.{Store, putIn}
 use Rattle.rows.specs.Table.{emptyRow, isHeld, rowIn}
-use Rattle.rows.specs.declared.Row.{Row}
+use Rattle.rows.specs.declared.{Row.Row}
 use Rattle.rules.specs.Rules.{moved, completed, abortConfirmed, changeRow, withState}
 use Rattle.rules.specs.declared.Change.the-variants as change
-use Rattle.rules.specs.declared.Step.{Step}
-use Rattle.rules.specs.declared.Step.the-variants as step
+use Rattle.rules.specs.declared.{Step.Step}
 use Rattle.checks.specs.Completion.{testCompletion}
 use Rattle.checks.specs.Plan.{planOf}
 use Rattle.checks.specs.Prepare.{metadataOf}
-use Rattle.checks.specs.declared.completion.CompletionTest.{CompletionTest}
-use Rattle.checks.specs.declared.completion.CompletionTest.the-variants as test
+use Rattle.checks.specs.declared.{completion.CompletionTest.CompletionTest}
 use Rattle.session.specs.Lent.{Memory, Lent, memory, lent, memoryFits, lentFits}
 use Rattle.session.specs.Session.{withFlight}
 use Rattle.session.specs.Sizes.{placeOf}
-use Rattle.session.specs.Start.{guarded}
-use Rattle.session.specs.declared.InFlight.{InFlight}
-use Rattle.session.specs.declared.InFlight.the-variants as flight
-use Rattle.session.specs.declared.Session.{Session}
-use Rattle.session.specs.declared.Size.{Size}
+use Rattle.session.specs.declared.{InFlight.InFlight, Session.Session, Size.Size}
 use Rattle.session.proofs.sizes.Laws.{area-bytes, lent-memory}
-use Rattle.reports.specs.declared.Reported.{Reported}
+use Rattle.reports.specs.declared.{Reported.Reported}
 use Rattle.polls.specs.PollReply.{failedAs, invalidAs, judgedTest, judgedBy, judged, storedIn, settled, pollReplyAt, pollReplyFound, pollReplyIn, pollReplyOf}
-use Rattle.polls.specs.declared.PollReply.{PollReply}
-use Rattle.polls.specs.declared.PollReply.the-variants as reply
-use Rattle.polls.specs.declared.poll_reply.Judgement.{Judgement}
+use Rattle.polls.specs.declared.{PollReply.PollReply, poll_reply.Judgement.Judgement}
 use Rattle.submissions.specs.Begin.{draft, bufferOf, writeOf}
-use Rattle.submissions.specs.Submit.{Request, submitRefused, submitOf}
-use Rattle.submissions.specs.Plan.{planRefused, submitPlanOf}
+use Rattle.submissions.specs.Submit.{Request, submitTarget, submitBy, submitOf}
+use Rattle.submissions.specs.Plan.{planTarget, submitPlanBy, submitPlanOf}
 use Rattle.scope.specs.Returned.{Returned}
 use Rattle.scope.specs.Scope.{inScope}
 use Rattle.recovery.specs.Entries.{rowCompletedBy, testedBy, completeOne, abortedBy, abortOne, applyAll}
 use Rattle.recovery.specs.RecoveryReply.{ReplyLists, rowsMeant, isWhole, settledOf, replySized, replyIn, recoveryReplyOf}
-use Rattle.recovery.specs.declared.Recovered.{Recovered}
-use Rattle.recovery.specs.declared.RecoveryReply.{RecoveryReply}
+use Rattle.recovery.specs.declared.{Recovered.Recovered, RecoveryReply.RecoveryReply}
 use Rattle.calls.specs.Calls.{Submit, SubmitPlan, Poll, Recover, ToSubmit, ToPoll, ToRecovery, Call, Open, Place, Move, Begin, Reply, Change, Read}
 use Rattle.calls.specs.Step.{World, begunOf, repliedOf, stepOf}
 use Rattle.runs.specs.Run.{isOpening}
@@ -68,15 +50,16 @@ use Rattle.runs.proofs.Entries.{Onward, entries-all}
 use Rattle.runs.proofs.Held.{unheld-row, free-held, empty-free}
 use Rattle.runs.proofs.Rules.{while-all}
 use Rattle.runs.proofs.Run.{FittedIn}
-use Rattle.runs.proofs.Stages.{Room, submit-all, plan-all, target-all}
+use Rattle.submissions.proofs.Admission.{admit-all, admit-plan-all}
+use Rattle.runs.proofs.Stages.{Room, room-told, target-all}
 use Rattle.runs.proofs.Tokens.{tokensIn, Each, scope-each, replyTokens}
 use Rattle.runs.proofs.Ways.{finish-all, recovery-all}
 use Rattle.history.specs.Grabber.{rowBytes, HeldSame}
 
 -- a step to a row that is not held
 abbrev Frees : Step → Type 0
-Frees (step.Refused r) = Unit {0}
-Frees (step.To next x) = isHeld next ≡ false
+Frees (Step.Refused r) = Unit {0}
+Frees (Step.To next x) = isHeld next ≡ false
 
 complete-frees : (r : Row) (actual code : ℕ) → Frees (changeRow r (change.Complete actual code))
 unfolding changeRow completed moved
@@ -153,46 +136,46 @@ module _ (z : Size) where
   judged-stores s r c given = by-error (c .error)
     where
       by-test : (t : CompletionTest) → Stores r (judgedTest t s c)
-      by-test (test.Valid actual code) = λ e. complete-frees r actual code
-      by-test test.MissingLength = λ e. absurd (false≢true e)
-      by-test test.Invalid = λ e. absurd (false≢true e)
+      by-test (CompletionTest.Valid actual code) = λ e. complete-frees r actual code
+      by-test CompletionTest.MissingLength = λ e. absurd (false≢true e)
+      by-test CompletionTest.Invalid = λ e. absurd (false≢true e)
 
       by-error : (o : OptionError) → Stores r (judgedBy o s r c given)
-      by-error (error.Some e) = if-all (Stores r) _ _ _ (λ t. absurd (false≢true t)) (λ t. absurd (false≢true t))
-      by-error error.None = by-test (testCompletion c given (r .metadata .«requested_length»))
+      by-error (OptionError.Some e) = if-all (Stores r) _ _ _ (λ t. absurd (false≢true t)) (λ t. absurd (false≢true t))
+      by-error OptionError.None = by-test (testCompletion c given (r .metadata .«requested_length»))
 
   module _ (m : Memory) (i : ℕ) (h : Inside (length (m .area)) i) (bytes : List ℕ) (idle : Session) (same : idle .size ≡ z) where
     settled-safe : (t : Step) (j : Judgement) → (j .stored ≡ true → Frees t) → Safe m (settled t j (placeOf z i) bytes idle m .lent)
     unfolding settled storedIn
-    settled-safe (step.Refused r) j off = unwritten m (m .store)
-    settled-safe (step.To next x) j off =
+    settled-safe (Step.Refused r) j off = unwritten m (m .store)
+    settled-safe (Step.To next x) j off =
         rw same
         (if-by (λ (area : List ℕ). Safe m (memory (putIn (m .store) i next) area)) _ _ _
         (λ e. write-safe m m (unwritten m (m .store)) i next (off e) bytes h) (λ e. unwritten m (putIn (m .store) i next)))
 
     polled-safe : (x : PollReply) (r : Row) → Safe m (pollReplyAt x r (placeOf z i) bytes idle m .lent)
     unfolding pollReplyAt
-    polled-safe reply.Nothing r = unwritten m (m .store)
-    polled-safe (reply.Error e) r = unwritten m (m .store)
-    polled-safe (reply.Completion c) r = settled-safe _ (judged idle r c (length bytes)) (judged-stores idle r c (length bytes))
+    polled-safe PollReply.Nothing r = unwritten m (m .store)
+    polled-safe (PollReply.Error e) r = unwritten m (m .store)
+    polled-safe (PollReply.Completion c) r = settled-safe _ (judged idle r c (length bytes)) (judged-stores idle r c (length bytes))
 
   -- an entry of a recovery's reply
   module _ (m n : Memory) (k : Safe m n) (p : ℕ) (h : Inside (length (m .area)) p) where
     completed-safe : (t : Step) → Frees t → (bytes : List ℕ) → Safe m (rowCompletedBy t z p bytes n .lent)
     unfolding rowCompletedBy
-    completed-safe (step.Refused r) off bytes = k
-    completed-safe (step.To next x) off bytes = write-safe m n k p next off bytes h
+    completed-safe (Step.Refused r) off bytes = k
+    completed-safe (Step.To next x) off bytes = write-safe m n k p next off bytes h
 
     tested-safe : (t : CompletionTest) (code : OptionU32) (bytes : List ℕ) → Safe m (testedBy t code z p bytes n .lent)
     unfolding testedBy
-    tested-safe test.MissingLength code bytes = k
-    tested-safe test.Invalid code bytes = k
-    tested-safe (test.Valid actual a) code bytes = completed-safe _ (complete-frees (rowIn (n .store .rows) p) actual a) bytes
+    tested-safe CompletionTest.MissingLength code bytes = k
+    tested-safe CompletionTest.Invalid code bytes = k
+    tested-safe (CompletionTest.Valid actual a) code bytes = completed-safe _ (complete-frees (rowIn (n .store .rows) p) actual a) bytes
 
     aborted-safe : (t : Step) → Frees t → Safe m (memory (abortedBy t p (n .store) .lent) (n .area))
     unfolding abortedBy
-    aborted-safe (step.Refused r) off = k
-    aborted-safe (step.To next x) off = put-safe m n k p next off
+    aborted-safe (Step.Refused r) off = k
+    aborted-safe (Step.To next x) off = put-safe m n k p next off
 
   module _ (place : ℕ → ℕ) (l : ReplyLists) (m : Memory) where
     abbrev Means : ℕ → Type 0
@@ -205,8 +188,8 @@ module _ (z : Size) where
     P v n = Safe m n
 
     on : (v : Verdict) (es : List Returned) (ts bytes : List ℕ) (n : Memory) → J es ts bytes n → Onward place z J P v es ts bytes n
-    on (verdict.Refused r) es ts bytes n h = h .0
-    on verdict.Pass es ts bytes n h = h
+    on (Verdict.Refused r) es ts bytes n h = h .0
+    on Verdict.Pass es ts bytes n h = h
 
     apply-safe : Each Means (replyTokens l) → Safe m (applyAll z (rowsMeant place l) m .lent)
     unfolding completeOne abortOne
@@ -243,16 +226,16 @@ module _ (s : Session) (m : Memory) (whole : length (m .store .rows) ≡ s .size
   finish-unfit x bytes e = by-flight (s .«in_flight»)
     where
       by-flight : (f : InFlight) → Leaves (pollReplyIn f x bytes s m .lent)
-      by-flight flight.Nothing = same
-      by-flight (flight.Submission id) = same
-      by-flight (flight.Recovery y) = same
-      by-flight (flight.Poll id) = unfit (λ (o : After Reported Memory). Leaves (o .lent)) _ _ e same
+      by-flight InFlight.Nothing = same
+      by-flight (InFlight.Submission id) = same
+      by-flight (InFlight.Recovery y) = same
+      by-flight (InFlight.Poll id) = unfit (λ (o : After Reported Memory). Leaves (o .lent)) _ _ e same
 
   finish-safe : (x : PollReply) (bytes : List ℕ) → Leaves (pollReplyOf x bytes s m .lent)
   finish-safe x bytes =
       caseB (memoryFits (s .size) m)
       (λ fits. finish-all x bytes s m (λ (o : After Reported Memory). Leaves (o .lent)) same same
-      (λ id own i h hit. polled-safe (s .size) m i (row-inside fits i h) bytes (withFlight s flight.Nothing) refl x (rowIn (m .store .rows) i)))
+      (λ id own i h hit. polled-safe (s .size) m i (row-inside fits i h) bytes (withFlight s InFlight.Nothing) refl x (rowIn (m .store .rows) i)))
       (λ e. finish-unfit x bytes e)
 
   recovery-unfit : (r : RecoveryReply) (l : ReplyLists) → memoryFits (s .size) m ≡ false → Leaves (recoveryReplyOf r l s m .lent)
@@ -260,10 +243,10 @@ module _ (s : Session) (m : Memory) (whole : length (m .store .rows) ≡ s .size
   recovery-unfit r l e = by-flight (s .«in_flight»)
     where
       by-flight : (f : InFlight) → Leaves (replyIn f r l s m .lent)
-      by-flight flight.Nothing = same
-      by-flight (flight.Submission id) = same
-      by-flight (flight.Poll id) = same
-      by-flight (flight.Recovery x) = unfit (λ (o : After Recovered Memory). Leaves (o .lent)) _ _ e same
+      by-flight InFlight.Nothing = same
+      by-flight (InFlight.Submission id) = same
+      by-flight (InFlight.Poll id) = same
+      by-flight (InFlight.Recovery x) = unfit (λ (o : After Recovered Memory). Leaves (o .lent)) _ _ e same
 
   scope-safe : memoryFits (s .size) m ≡ true → (d : DeviceId) (endpoint : ℕ) (whole : Bool) (l : ReplyLists)
       → inScope whole (ownTokens d endpoint (m .store .rows)) (l .tokens ++ l .aborted) ≡ true
@@ -290,14 +273,6 @@ module _ (s : Session) (l : Lent) (whole : length (l .memory .store .rows) ≡ s
   stays : Keeps l
   stays = λ i was is. refl
 
-  -- 1, 3
-  stopped : {A : Type 0} (refused : Refusal → A) (done : After A Lent) → lentFits (s .size) l ≡ false
-      → Keeps (guarded s (lentFits (s .size) l) (λ r. after (refused r) l) done .lent)
-  unfolding guarded
-  stopped {A} refused done e =
-      let P : After A Lent → Type 0 = λ o. Keeps (o .lent) in
-      if-all P _ _ _ stays (if-by P _ _ _ (λ t. stays) (λ t. absurd (true≢false (sym (ap not e) ∙ t))))
-
   module _ (fits : lentFits (s .size) l ≡ true) (i : ℕ) (room : Room (l .memory .store .rows) i) (d : RequestMetadata) (bytes : List ℕ)
       (small : (d .«requested_length» ≤ s .size .«row_bytes») × (length bytes ≤ s .size .«row_bytes»)) where
     begun-keeps : (j : ℕ) → isHeld (rowIn (l .memory .store .rows) j) ≡ true
@@ -311,25 +286,21 @@ module _ (s : Session) (l : Lent) (whole : length (l .memory .store .rows) ≡ s
         (omega (arith, length-replicate {A = ℕ} (d .«requested_length») 0, small .0)) (small .1))
 
   submit-keeps : (packets : List ℕ) (q : Request) → Keeps (submitOf packets q s l .lent)
-  unfolding submitOf
+  unfolding submitOf submitBy submitTarget
   submit-keeps packets q =
-      caseB (lentFits (s .size) l)
-      (λ fits. submit-all q s l (λ o. Keeps (o .lent)) (λ x early. stays)
-      (λ i room size.
+      admit-all (q .spec) (length (q .bytes)) s l (λ a. Keeps (submitBy a q s l .lent)) (λ r h. stays)
+      (λ fits i room size.
       target-all (draft (placeOf (s .size) i) (metadataOf (q .spec)) (q .bytes)) s (l .memory) (λ o. Keeps (o .lent)) (λ x b. stays)
-      (λ ready next later b j was is. begun-keeps fits i room (metadataOf (q .spec)) (q .bytes) size j was) (q .readings) (l .bus))
-      packets)
-      (λ e. stopped (submitRefused s) _ e)
+      (λ ready next later b j was is. begun-keeps fits i (room-told _ i room) (metadataOf (q .spec)) (q .bytes) size j was) (q .readings) (l .bus))
+      packets (q .given)
 
   plan-keeps : (q : ControlPlan) (bytes : List ℕ) (first : PortReading) → Keeps (submitPlanOf q bytes first s l .lent)
-  unfolding submitPlanOf
+  unfolding submitPlanOf submitPlanBy planTarget
   plan-keeps q bytes first =
-      caseB (lentFits (s .size) l)
-      (λ fits. plan-all q bytes first s l (λ o. Keeps (o .lent)) (λ x early. stays)
-      (λ i room size.
+      admit-plan-all q (length bytes) s l (λ a. Keeps (submitPlanBy a bytes first s l .lent)) (λ r h. stays)
+      (λ fits i room size.
       target-all (draft (placeOf (s .size) i) (planOf q .metadata) bytes) s (l .memory) (λ o. Keeps (o .lent)) (λ x b. stays)
-      (λ ready next later b j was is. begun-keeps fits i room (planOf q .metadata) bytes size j was) _ (l .bus)))
-      (λ e. stopped (planRefused s) _ e)
+      (λ ready next later b j was is. begun-keeps fits i (room-told _ i room) (planOf q .metadata) bytes size j was) _ (l .bus))
 
 pub held-same : (c : Call) (w : World) → FittedIn w → isOpening c ≡ false → HeldSame (w .session .size) (w .lent .memory) (stepOf c w .lent .memory)
 unfolding stepOf begunOf repliedOf

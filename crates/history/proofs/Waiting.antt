@@ -8,40 +8,34 @@ use Rattle.chain.specs.Chain.{_if_else_}
 use Rattle.chain.specs.After.{After, after}
 use Rattle.chain.proofs.Chain.{if-by}
 use Rattle.chain.specs.Lists.{count}
-use Rattle.models.specs.declared.RequestId.{RequestId}
+use Rattle.models.specs.declared.{RequestId.RequestId}
 use Rattle.rows.specs.Store.{Store}
 use Rattle.rows.specs.Table.{isHeld}
 use Rattle.session.specs.Session.{isBusy}
 use Rattle.session.specs.Lifecycle.{acquireOf, initializeOf, closeOf}
 use Rattle.session.specs.Place.{placed, setDeviceOf, setPortOf, setEndpointsOf, setReconcileOf}
 use Rattle.session.specs.Lent.{Lent, Memory}
-use Rattle.session.specs.declared.InFlight.{InFlight}
-use Rattle.session.specs.declared.InFlight.the-variants as flight
-use Rattle.session.specs.declared.RecoveryKind.{RecoveryKind}
-use Rattle.session.specs.declared.Session.{Session}
-use Rattle.session.specs.declared.lifecycle.Opening.{Opening}
-use Rattle.session.specs.declared.Recovery.{Recovery}
+use Rattle.session.specs.declared.{InFlight.InFlight, Recovery.Recovery, RecoveryKind.RecoveryKind, Session.Session, lifecycle.Opening.Opening}
 use Rattle.reports.specs.Change.{changeOf}
 use Rattle.polls.specs.Poll.{pollOf}
 use Rattle.session.specs.Start.{guarded}
 use Rattle.polls.specs.PollReply.{pollReplyIn, pollReplyOf}
-use Rattle.submissions.specs.Submit.{submitOf}
+use Rattle.submissions.specs.Admit.{admitOf, admitPlanOf}
+use Rattle.submissions.specs.Submit.{submitBy, submitOf}
 use Rattle.submissions.specs.SubmitReply.{submitReplyIn, submitReplyOf}
-use Rattle.submissions.specs.Plan.{submitPlanOf}
+use Rattle.submissions.specs.Plan.{submitPlanBy, submitPlanOf}
 use Rattle.recovery.specs.Recover.{recoverOf}
 use Rattle.recovery.specs.RecoveryReply.{ReplyLists, recoveryReplyOf}
-use Rattle.recovery.specs.declared.RecoveryReply.{RecoveryReply}
-use Rattle.recovery.specs.declared.Recovered.{Recovered}
-use Rattle.calls.specs.Answers.{ofRecovery}
+use Rattle.recovery.specs.declared.{Recovered.Recovered, RecoveryReply.RecoveryReply}
+use Rattle.calls.specs.Answers.{ofRecovery, isRecovering}
 use Rattle.calls.specs.Calls.{Call, Open, Place, Device, Port, Endpoints, Reconcile, Move, Acquire, Initialize, Close, Begin, Submit, SubmitPlan, Poll, Recover, Reply, ToSubmit, ToPoll, ToRecovery, Change, Read}
 use Rattle.calls.specs.Step.{World, stepOf, places, moves, submits, plans, reports, polls, finishes, begins, recovers, placedOf, movedOf, begunOf, repliedOf, worldStore}
-use Rattle.calls.specs.declared.Answer.the-variants as answer
-use Rattle.calls.specs.declared.Outcome.{Outcome}
+use Rattle.calls.specs.declared.{Answer.Answer, Outcome.Outcome}
 use Rattle.runs.specs.Run.{Handed, Event, next, leftBy, endOf, answerTo, historyOf, isOpening, Handing, Follows, Fresh, beside}
 use Rattle.runs.proofs.Ways.{recovery-all}
 use Rattle.runs.proofs.Run.{sound-open, sound-run}
 use Rattle.runs.proofs.Handings.{by-handed, follows-at, follows-front, follows-on, fresh-front}
-use Rattle.history.specs.Journal.{Entry, Journal, isRecovering, endsBy, recoveryWaits, journalOf, blank}
+use Rattle.history.specs.Journal.{Entry, Journal, endsBy, recoveryWaits, journalOf, blank}
 use Rattle.history.specs.Claim.{returns, rowsAfter, starts}
 use Rattle.history.proofs.Led.{Led}
 use Rattle.history.proofs.Recovery.{begin-kept, begin-names}
@@ -50,7 +44,7 @@ use Rattle.history.proofs.Never.{settled-ends}
 
 -- ---- a call while a recovery waits
 module _ (w : World) (entries : List Entry) (few : count isHeld (worldStore w .rows) ≤ 128) (k : Led (worldStore w .rows) entries) (x : Recovery)
-    (own : w .session .«in_flight» ≡ flight.Recovery x) where
+    (own : w .session .«in_flight» ≡ InFlight.Recovery x) where
   abbrev Same : After Outcome Lent → Type 0
   Same a = next a ≡ w
 
@@ -68,7 +62,7 @@ module _ (w : World) (entries : List Entry) (few : count isHeld (worldStore w .r
 
   pub stays : (c : Call) → isOpening c ≡ false → ((r : RecoveryReply) (l : ReplyLists) → c ≡ Reply (ToRecovery r l) → endsBy (stepOf c w .result .answer) ≡ false)
       → Same (stepOf c w)
-  unfolding stepOf placedOf movedOf begunOf repliedOf setDeviceOf setPortOf setEndpointsOf setReconcileOf placed guarded acquireOf initializeOf closeOf submitOf submitPlanOf submitReplyOf submitReplyIn pollOf pollReplyOf pollReplyIn recoverOf changeOf
+  unfolding stepOf placedOf movedOf begunOf repliedOf setDeviceOf setPortOf setEndpointsOf setReconcileOf placed guarded acquireOf initializeOf closeOf admitOf submitBy submitOf admitPlanOf submitPlanBy submitPlanOf submitReplyOf submitReplyIn pollOf pollReplyOf pollReplyIn recoverOf changeOf
   stays (Open o) f n = absurd (true≢false f)
   stays (Place (Device d)) f n = refused-1 (λ o. Same (places o w)) _ _ refl
   stays (Place (Port number row)) f n = refused-1 (λ o. Same (places o w)) _ _ refl
@@ -77,8 +71,8 @@ module _ (w : World) (entries : List Entry) (few : count isHeld (worldStore w .r
   stays (Move (Acquire reply)) f n = refused-1 (λ o. Same (moves (after o (worldStore w)) w)) _ _ refl
   stays (Move (Initialize reply)) f n = refused-1 (λ o. Same (moves (after o (worldStore w)) w)) _ _ refl
   stays (Move (Close fresh reply)) f n = refused-1 (λ o. Same (moves o w)) _ _ refl
-  stays (Begin (Submit packets q)) f n = refused-1 (λ o. Same (submits o)) _ _ refl
-  stays (Begin (SubmitPlan q bytes first)) f n = refused-1 (λ o. Same (plans o)) _ _ refl
+  stays (Begin (Submit packets q)) f n = refused-1 (λ a. Same (submits (submitBy a q (w .session) (w .lent)))) _ _ refl
+  stays (Begin (SubmitPlan q bytes first)) f n = refused-1 (λ a. Same (plans (submitPlanBy a bytes first (w .session) (w .lent)))) _ _ refl
   stays (Begin (Poll id)) f n = refused-1 (λ o. Same (polls o w)) _ _ refl
   stays (Begin (Recover id kind)) f n = refused-1 (λ o. Same (begins o w)) _ _ refl
   stays (Reply (ToSubmit reply)) f n = subst (λ (g : InFlight). Same (reports (submitReplyIn g reply (w .session) (worldStore w)) w)) (sym own) refl
@@ -98,7 +92,7 @@ abbrev pub Kept : World → World → Type 0
 Kept w v = (v .session ≡ w .session) × (worldStore v ≡ worldStore w)
 
 abbrev InFlightIs : World → Recovery → Type 0
-InFlightIs w x = w .session .«in_flight» ≡ flight.Recovery x
+InFlightIs w x = w .session .«in_flight» ≡ InFlight.Recovery x
 
 event-stays : (h : Handed) (c : Call) (w : World) (entries : List Entry) → count isHeld (worldStore w .rows) ≤ 128 → Led (worldStore w .rows) entries → (x : Recovery)
     → InFlightIs w x → Handing h c → ((r : RecoveryReply) (l : ReplyLists) → c ≡ Reply (ToRecovery r l) → endsBy (answerTo w (record { call = c; handed = h })) ≡ false)
@@ -126,7 +120,7 @@ end-append : (w : World) (a b : List Event) → endOf w (a ++ b) ≡ endOf (endO
 end-append w [] b = refl
 end-append w (e ∷ a) b = end-append (leftBy (e .handed) (e .call) w) a b
 
-module _ (o : Opening) (w : World) (pass : stepOf (Open o) w .result .answer ≡ answer.Pass) (before more : List Event) (q : RecoveryKind) (id : RequestId)
+module _ (o : Opening) (w : World) (pass : stepOf (Open o) w .result .answer ≡ Answer.Pass) (before more : List Event) (q : RecoveryKind) (id : RequestId)
     (h : Handed) (x : Recovery) where
   abbrev start : World
   start = next (stepOf (Open o) w)
@@ -138,14 +132,14 @@ module _ (o : Opening) (w : World) (pass : stepOf (Open o) w .result .answer ≡
   all = before ++ (starts q id h ∷ more)
 
   -- the rows after `more` are those before the start
-  pub start-unchanged : answerTo mid (starts q id h) ≡ answer.Recovering x → Follows all → Fresh (o .session ∷ []) all → Unended (leftBy h (Begin (Recover id q)) mid) more
+  pub start-unchanged : answerTo mid (starts q id h) ≡ Answer.Recovering x → Follows all → Fresh (o .session ∷ []) all → Unended (leftBy h (Begin (Recover id q)) mid) more
       → rowsAfter start all ≡ rowsAfter start before
   unfolding stepOf begunOf
   start-unchanged a follows fresh unended =
       let e : Event = starts q id h in
       let j : Journal = journalOf (historyOf start before) blank in
       let run = run-kept before start blank (o .session ∷ []) (sound-open o w pass) (opened-holds o w pass) (follows-front before (e ∷ more) follows) (fresh-front (o .session ∷ []) before (e ∷ more) fresh) in
-      let one = by-handed h (Begin (Recover id q)) mid (λ y v. y ≡ answer.Recovering x → (worldStore v ≡ worldStore mid) × InFlightIs v x) (follows-at before more e follows)
+      let one = by-handed h (Begin (Recover id q)) mid (λ y v. y ≡ Answer.Recovering x → (worldStore v ≡ worldStore mid) × InFlightIs v x) (follows-at before more e follows)
       (λ first bus area y.
       let agree = subst (λ (c : Bool). (cond c (recoveryWaits id q j) j) .waiting ≡ recoverOf id q (mid .session) (worldStore mid) .session .«in_flight») (ap isRecovering y)
       (begin-kept (mid .session) j (run .0) (worldStore mid) (run .1) id q .agree) in

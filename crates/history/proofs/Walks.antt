@@ -14,23 +14,18 @@ use Rattle.chain.specs.After.{After}
 use Rattle.chain.proofs.Chain.{both}
 use Rattle.chain.proofs.Lists.{in-cons}
 use Rattle.models.specs.Requests.{deviceMayAccess, isUncertainFailure}
-use Rattle.models.specs.declared.BackendCompletion.{BackendCompletion}
-use Rattle.models.specs.declared.RequestId.{RequestId}
-use Rattle.models.specs.declared.RequestState.{RequestState}
+use Rattle.models.specs.declared.{BackendCompletion.BackendCompletion, RequestId.RequestId, RequestState.RequestState, Verdict.Verdict}
 use Rattle.models.specs.declared.RequestState.the-variants.{Pending, Completed, Failed, Aborted}
-use Rattle.models.specs.declared.Verdict.{Verdict}
-use Rattle.models.specs.declared.Verdict.the-variants as verdict
 use Rattle.rows.specs.Store.{putIn}
 use Rattle.rows.specs.Table.{emptyRow, isHeld, rowIn}
-use Rattle.rows.specs.declared.Row.{Row}
+use Rattle.rows.specs.declared.{Row.Row}
 use Rattle.ledger.specs.Search.{isAt}
 use Rattle.rules.specs.Rules.{changeRow, completed, whilePending, abortConfirmed, moved, withState}
 use Rattle.checks.specs.Completion.{testCompletion}
-use Rattle.checks.specs.declared.completion.CompletionTest.{CompletionTest}
-use Rattle.checks.specs.declared.completion.CompletionTest.the-variants as test
+use Rattle.checks.specs.declared.{completion.CompletionTest.CompletionTest}
 use Rattle.scope.specs.Returned.{Returned}
 use Rattle.session.specs.Lent.{Memory, memory}
-use Rattle.session.specs.declared.Size.{Size}
+use Rattle.session.specs.declared.{Size.Size}
 use Rattle.recovery.specs.Entries.{rowCompletedBy, testedBy, completeOne, abortedBy, abortOne, applyAll}
 use Rattle.recovery.specs.RecoveryReply.{ReplyLists, rowsMeant}
 use Rattle.runs.proofs.Held.{or-false}
@@ -47,8 +42,8 @@ abbrev pub isLate : ℕ → Bool
 isLate n = not (eqb n 2 || eqb n 3 || eqb n 49 || eqb n 45 || eqb n 46) && not (eqb n 43)
 
 abbrev pub LateBy : Verdict → Type 0
-LateBy (verdict.Refused r) = isLate (r .number) ≡ true
-LateBy verdict.Pass = Unit {0}
+LateBy (Verdict.Refused r) = isLate (r .number) ≡ true
+LateBy Verdict.Pass = Unit {0}
 
 -- what a list of entries leaves of rows and journal
 pub record Kept (rows : List Row) (entries : List Entry) (rows′ : List Row) (entries′ : List Entry) : Type 0 where
@@ -113,8 +108,8 @@ module _ (place : ℕ → ℕ) (view : ℕ → View) where
 
   -- ---- one entry of the reply: refused on both sides, or a row changed and its entry released
   abbrev Together : List Row → List Entry → ℕ → Verdict → List Row → ReleasedTo → Type 0
-  Together rows entries t (verdict.Refused r) rows′ q = (rows′ ≡ rows) × (q ≡ releasedTo true entries) × (isLate (r .number) ≡ true)
-  Together rows entries t verdict.Pass rows′ q =
+  Together rows entries t (Verdict.Refused r) rows′ q = (rows′ ≡ rows) × (q ≡ releasedTo true entries) × (isLate (r .number) ≡ true)
+  Together rows entries t Verdict.Pass rows′ q =
       (s : RequestState) × (deviceMayAccess s ≡ false) × (rows′ ≡ set rows (place t) (withState (rowIn rows (place t)) s)) × (q ≡ releasedTo false (atEntry (view t .id) release entries))
 
   module _ (m : Memory) (entries : List Entry) (t : ℕ) (a : Ready (m .store .rows) t) (z : Size) (bytes : List ℕ) where
@@ -136,11 +131,11 @@ module _ (place : ℕ → ℕ) (view : ℕ → View) where
 
     tested-both : (c : BackendCompletion) (p : CompletionTest) → Both (testedBy p (c .«completion_code») z (place t) bytes m) (completesBy p (view t) entries)
     unfolding testedBy changeRow completed isHeld
-    tested-both c test.MissingLength = (refl, refl, refl)
-    tested-both c test.Invalid = (refl, refl, refl)
-    tested-both c (test.Valid actual n) =
+    tested-both c CompletionTest.MissingLength = (refl, refl, refl)
+    tested-both c CompletionTest.Invalid = (refl, refl, refl)
+    tested-both c (CompletionTest.Valid actual n) =
         let f : isUncertainFailure (row .state) ≡ view t .failed = ap (λ (v : View). v .failed) (a .is) in
-        subst (λ (b : Bool). Both (testedBy (test.Valid actual n) (c .«completion_code») z (place t) bytes m)
+        subst (λ (b : Bool). Both (testedBy (CompletionTest.Valid actual n) (c .«completion_code») z (place t) bytes m)
         (cond b (releasedTo true entries) (releasedTo false (atEntry (view t .id) release entries)))) f
         (valid-both actual n (row .state) access)
       where
@@ -170,17 +165,17 @@ module _ (place : ℕ → ℕ) (view : ℕ → View) where
     abbrev End : Verdict → Memory → Type 0
     End v m = Kept rows entries (m .store .rows) whole × LateBy v
 
-    ends : (bytes : List ℕ) (m : Memory) → To [] [] bytes m → End verdict.Pass m
+    ends : (bytes : List ℕ) (m : Memory) → To [] [] bytes m → End Verdict.Pass m
     ends bytes m k = (subst (λ (l : List Entry). Kept rows entries (m .store .rows) l) (k .leads) (k .kept), tt)
 
     completes : (e : Returned) (es : List Returned) (ts bytes : List ℕ) (m : Memory) (k : To (e ∷ es) ts bytes m) (v : Verdict) (n : Memory) (q : ReleasedTo)
         → Together (m .store .rows) (k .so-far) (e .token) v (n .store .rows) q
         → abortedAfter (goesOn q (λ (l : List Entry). completesAll view es (drop (e .brought .given) bytes) l)) view ts ≡ whole
         → Onward place z To End v es ts (drop (e .brought .given) bytes) n
-    completes e es ts bytes m k (verdict.Refused r) n q (er, eq, late) leads =
+    completes e es ts bytes m k (Verdict.Refused r) n q (er, eq, late) leads =
         let is : k .so-far ≡ whole = subst (λ (z : ReleasedTo). abortedAfter (goesOn z (λ (l : List Entry). completesAll view es (drop (e .brought .given) bytes) l)) view ts ≡ whole) eq leads in
         (subst (λ (l : List Row). Kept rows entries l whole) (sym er) (subst (λ (l : List Entry). Kept rows entries (m .store .rows) l) is (k .kept)), late)
-    completes e es ts bytes m k verdict.Pass n q (s, h, er, eq) leads =
+    completes e es ts bytes m k Verdict.Pass n q (s, h, er, eq) leads =
         let next : List Entry = atEntry (view (e .token) .id) release (k .so-far) in
         record {
           so-far = next;

@@ -9,67 +9,52 @@ use lib.Dec.{eqb, ltb}
 use lib.Seq.{getD-set-same}
 use Rattle.chain.specs.After.{After, after}
 use Rattle.chain.specs.Chain.{_if_else_}
+use Rattle.chain.specs.Lists.{isAmong}
 use Rattle.chain.proofs.Chain.{caseB, if-all, if-by}
-use Rattle.chain.proofs.Lists.{inside}
-use Rattle.words.specs.declared.OptionU32.{OptionU32}
-use Rattle.words.specs.declared.OptionU32.the-variants as u32
+use Rattle.chain.proofs.Lists.{inside, all-in}
+use Rattle.words.specs.declared.{OptionU32.OptionU32}
 use Rattle.models.specs.Kinds.{isControl, isPrepared, isConfigured}
 use Rattle.models.specs.Refusals.{refusalOf}
-use Rattle.models.specs.declared.DeviceSnapshot.{DeviceSnapshot}
-use Rattle.models.specs.declared.DeviceState.{DeviceState}
+use Rattle.models.specs.declared.{DeviceSnapshot.DeviceSnapshot, DeviceState.DeviceState, OptionDevice.OptionDevice, OptionPorts.OptionPorts, PortId.PortId, PortReading.PortReading, Refusal.Refusal, RequestMetadata.RequestMetadata, Verdict.Verdict}
 use Rattle.models.specs.declared.DeviceState.the-variants.{Configured}
-use Rattle.models.specs.declared.OptionDevice.{OptionDevice}
-use Rattle.models.specs.declared.OptionDevice.the-variants as device
-use Rattle.models.specs.declared.OptionPorts.{OptionPorts}
-use Rattle.models.specs.declared.PortId.{PortId}
-use Rattle.models.specs.declared.PortReading.{PortReading}
 use Rattle.models.specs.declared.PortReading.the-variants.{Word}
-use Rattle.models.specs.declared.Refusal.{Refusal}
-use Rattle.models.specs.declared.RequestMetadata.{RequestMetadata}
-use Rattle.models.specs.declared.Verdict.{Verdict}
-use Rattle.models.specs.declared.Verdict.the-variants as verdict
 use Rattle.standards.specs.Ports.{portConnected}
 use Rattle.bus.specs.Ports.{numberChecked, readingChecked, ofOpening, validatedRow, validatedBy, validated, raisedRow, observedBy, observedRow, observePortBy, observePort, freshObserved, freshWord, freshReading, freshPortBy, freshPort}
 use Rattle.bus.specs.Tables.{Bus, newPort, portIndex, portAt, deviceAt, putPort}
-use Rattle.bus.specs.declared.PortRow.{PortRow}
-use Rattle.bus.specs.declared.ports.Observed.{Observed}
-use Rattle.bus.specs.declared.ports.Observed.the-variants as observed
-use Rattle.bus.specs.declared.ports.PortChecked.{PortChecked}
-use Rattle.bus.specs.declared.ports.PortChecked.the-variants as port
+use Rattle.bus.specs.declared.{PortRow.PortRow, ports.Observed.Observed, ports.PortChecked.PortChecked}
 use Rattle.checks.specs.Plan.{planOf}
 use Rattle.checks.specs.Prepare.{metadataOf}
 use Rattle.targets.specs.Target.{knownBy, knownDevice, preparedDevice, freshDevice, checkDeviceBy, checkDevice, endpointBy, checkEndpoint, checkTargetBy, checkTarget}
-use Rattle.targets.specs.declared.Readings.{Readings}
-use Rattle.targets.specs.declared.target.DeviceChecked.{DeviceChecked}
+use Rattle.targets.specs.declared.{Readings.Readings, target.DeviceChecked.DeviceChecked}
 use Rattle.session.specs.Lent.{Lent, lent}
 use Rattle.session.specs.Session.{isInitialized}
 use Rattle.session.specs.Sizes.{placeOf}
 use Rattle.submissions.specs.Begin.{Draft, draft, startRefused, targetBy, targetOf}
+use Rattle.submissions.specs.Said.{earlyNumbers}
 use Rattle.submissions.specs.Submit.{Request, submittedBy, submittedTo}
 use Rattle.submissions.specs.Plan.{planStarted, plannedTo}
-use Rattle.submissions.specs.declared.begin.Started.{Started}
+use Rattle.submissions.specs.declared.{begin.Started.Started}
 use Rattle.calls.specs.Answers.{ofSubmit, ofPlan}
 use Rattle.calls.specs.Calls.{Beginning, Submit, SubmitPlan, Poll, Recover, Call, Begin, Read}
 use Rattle.calls.specs.Step.{World, begunOf, stepOf}
-use Rattle.calls.specs.declared.Answer.{Answer}
-use Rattle.calls.specs.declared.Answer.the-variants as answer
+use Rattle.calls.specs.declared.{Answer.Answer}
 use Rattle.runs.specs.Run.{Handed, own, rowsOnly, other, Event, next, leftBy, endOf, Handing, Follows}
 use Rattle.runs.proofs.Handings.{follows-at, follows-on, follows-front}
 use Rattle.runs.proofs.Stages.{submit-all, plan-all}
 use Rattle.history.specs.Claim.{calls}
-use Rattle.history.specs.Watcher.{Turned, LeavesBy, Leaves, Asks, Second, Reads, foundBy, UpTo, Noticed, unread, full, turned, Watched}
+use Rattle.history.specs.Watcher.{Turned, LeavesBy, Leaves, Asks, Second, Reads, foundBy, unreadNumbers, staleNumbers, Refuses, Noticed, unread, full, turned, Watched}
 use Rattle.history.proofs.Later.{SameBit, beq-same, Numbered, number-said, same-generation, Onward, step-later}
 
 -- ---- a submission that is refused at its device or at one of its readings, for whatever is claimed of answer and bus
-module _ (slot : ℕ) (d : DeviceSnapshot) (w : World) (stands : deviceAt (w .lent .bus) slot ≡ device.Some d) (R : Answer → Bus → Type 0)
-    (early : (y : Refusal) → y .number ≤ 28 → R (answer.Refused y) (w .lent .bus)) where
+module _ (slot : ℕ) (d : DeviceSnapshot) (w : World) (stands : deviceAt (w .lent .bus) slot ≡ OptionDevice.Some d) (R : Answer → Bus → Type 0)
+    (early : (y : Refusal) → isAmong (y .number) unreadNumbers ≡ true → R (Answer.Refused y) (w .lent .bus)) where
   abbrev PortStops : PortChecked → Bus → Type 0
-  PortStops (port.Refused r) b = R (answer.Refused r) b
-  PortStops (port.Read raw) b = ⊥
+  PortStops (PortChecked.Refused r) b = R (Answer.Refused r) b
+  PortStops (PortChecked.Read raw) b = ⊥
 
   abbrev Stops : Verdict → Bus → Type 0
-  Stops (verdict.Refused r) b = R (answer.Refused r) b
-  Stops verdict.Pass b = ⊥
+  Stops (Verdict.Refused r) b = R (Answer.Refused r) b
+  Stops Verdict.Pass b = ⊥
 
   -- from the device's answer on
   abbrev DeviceStops : RequestMetadata → PortReading → DeviceChecked → Bus → Type 0
@@ -88,13 +73,13 @@ module _ (slot : ℕ) (d : DeviceSnapshot) (w : World) (stands : deviceAt (w .le
   -- at the first reading
   first-stops : (m : RequestMetadata) (second : PortReading) (c : PortChecked) (b : Bus) → PortStops c b → DeviceStops m second (preparedDevice c d) b
   unfolding preparedDevice checkTargetBy
-  first-stops m second (port.Refused r) b n = n
-  first-stops m second (port.Read raw) b n = absurd n
+  first-stops m second (PortChecked.Refused r) b n = n
+  first-stops m second (PortChecked.Read raw) b n = absurd n
 
   -- at the second
   second-stops : (m : RequestMetadata) (second : PortReading) (raw : ℕ) (b : Bus) → isControl (m .«transfer_type») ≡ false → d .state ≡ Configured
       → (let o = freshPort (w .session .ports) (d .port) second b in PortStops (o .result) (o .lent))
-      → DeviceStops m second (preparedDevice (port.Read raw) d) b
+      → DeviceStops m second (preparedDevice (PortChecked.Read raw) d) b
   unfolding preparedDevice checkTargetBy checkEndpoint endpointBy
   second-stops m second raw b not-control is k =
       if-by (λ (c : DeviceChecked). DeviceStops m second c b) _ _ _ (λ t. absurd (true≢false (sym t ∙ ap (λ (s : DeviceState). not (isPrepared s)) is)))
@@ -108,22 +93,22 @@ module _ (slot : ℕ) (d : DeviceSnapshot) (w : World) (stands : deviceAt (w .le
       Ends o = Stops (o .result) (o .lent)
 
       by-port : (c : PortChecked) → PortStops c (seen .lent) → Stops (endpointBy c m (seen .lent)) (seen .lent)
-      by-port (port.Refused r) n = n
-      by-port (port.Read raw) n = absurd n
+      by-port (PortChecked.Refused r) n = n
+      by-port (PortChecked.Read raw) n = absurd n
 
   target-stops : (ready : Bool) (m : RequestMetadata) (x : Readings) → m .device .slot ≡ slot → ReadStops m x
       → (let o = checkTarget ready (w .session .ports) m x (w .lent .bus) in Stops (o .result) (o .lent))
   unfolding checkTarget checkTargetBy checkDevice checkDeviceBy freshDevice knownDevice knownBy
   target-stops ready m x e k =
-      if-all Known _ _ _ (early _ (omega arith))
+      if-all Known _ _ _ (early _ refl)
       (subst (λ (o : OptionDevice). Known (knownBy o ready (m .device))) (sym (ap (deviceAt (w .lent .bus)) e ∙ stands))
-      (if-all Known _ _ _ (early _ (omega arith)) (if-all Known _ _ _ (early _ (omega arith)) k)))
+      (if-all Known _ _ _ (early _ refl) (if-all Known _ _ _ (early _ refl) k)))
     where
       Known : DeviceChecked → Type 0
       Known c = let o = checkDeviceBy c (w .session .ports) (x .first) (w .lent .bus) in DeviceStops m (x .second) (o .result) (o .lent)
 
   start-stops : (r : Draft) (x : Readings) → r .metadata .device .slot ≡ slot → ReadStops (r .metadata) x → (P : After Started Lent → Type 0)
-      → ((y : Refusal) (b : Bus) → R (answer.Refused y) b → P (after (startRefused (w .session) y) (lent b (w .lent .memory))))
+      → ((y : Refusal) (b : Bus) → R (Answer.Refused y) b → P (after (startRefused (w .session) y) (lent b (w .lent .memory))))
       → P (targetOf r x (w .session) (w .lent))
   unfolding targetOf targetBy
   start-stops r x e k P stop = by-verdict (seen .result) (target-stops (isInitialized (w .session .state)) (r .metadata) x e k)
@@ -132,32 +117,32 @@ module _ (slot : ℕ) (d : DeviceSnapshot) (w : World) (stands : deviceAt (w .le
       seen = checkTarget (isInitialized (w .session .state)) (w .session .ports) (r .metadata) x (w .lent .bus)
 
       by-verdict : (v : Verdict) → Stops v (seen .lent) → P (targetBy v r (w .session) (lent (seen .lent) (w .lent .memory)))
-      by-verdict (verdict.Refused y) n = stop y (seen .lent) n
-      by-verdict verdict.Pass n = absurd n
+      by-verdict (Verdict.Refused y) n = stop y (seen .lent) n
+      by-verdict Verdict.Pass n = absurd n
 
   asked : (f : Beginning) → Asks slot f → BeginStops f → R (begunOf f w .result .answer) (begunOf f w .lent .bus)
   unfolding begunOf submittedBy planStarted
   asked (Submit packets q) e k =
-      submit-all q (w .session) (w .lent) (λ o. R (ofSubmit (o .result .answer)) (o .lent .bus)) (λ x n. early x (omega arith))
+      submit-all q (w .session) (w .lent) (λ o. R (ofSubmit (o .result .answer)) (o .lent .bus)) (λ x n. early x (all-in earlyNumbers unreadNumbers (x .number) refl n))
       (λ i room size.
       start-stops (draft (placeOf (w .session .size) i) (metadataOf (q .spec)) (q .bytes)) (q .readings) e k
       (λ o. R (ofSubmit (submittedTo o (metadataOf (q .spec)) (q .given) .result .answer)) (o .lent .bus)) (λ y b n. n))
       packets
   asked (SubmitPlan q bytes first) e k =
-      plan-all q bytes first (w .session) (w .lent) (λ o. R (ofPlan (o .result .answer)) (o .lent .bus)) (λ x n. early x (omega arith))
+      plan-all q bytes first (w .session) (w .lent) (λ o. R (ofPlan (o .result .answer)) (o .lent .bus)) (λ x n. early x (all-in earlyNumbers unreadNumbers (x .number) refl n))
       (λ i room size.
       start-stops (draft (placeOf (w .session .size) i) (planOf q .metadata) bytes) (record { first = first; second = first }) e k
       (λ o. R (ofPlan (plannedTo o (planOf q) .result .answer)) (o .lent .bus)) (λ y b n. n))
   asked (Poll id) e k = absurd e
   asked (Recover id kind) e k = absurd e
 
-refused : {n : ℕ} (x : Refusal) → x .number ≤ n → UpTo n (answer.Refused x)
-refused x h = record { refusal = x; is = refl; low = h }
+refused : {ns : List ℕ} (x : Refusal) → isAmong (x .number) ns ≡ true → Refuses ns (Answer.Refused x)
+refused x h = record { refusal = x; is = refl; among = h }
 
 -- ---- a reading of a port whose id is valid and observed
 abbrev isRead : OptionU32 → Bool
-isRead u32.None = false
-isRead (u32.Some raw) = true
+isRead OptionU32.None = false
+isRead (OptionU32.Some raw) = true
 
 beq-self : (a : Bool) → Bool·beq a a ≡ true
 beq-self true = refl
@@ -165,11 +150,11 @@ beq-self false = refl
 
 -- 29 to 32 passed
 record Valid (p : OptionPorts) (id : PortId) (b : Bus) (old : ℕ) : Type 0 where
-  numbered : numberChecked p (id .number) ≡ verdict.Pass
+  numbered : numberChecked p (id .number) ≡ Verdict.Pass
   current : (not (ofOpening p (id .session)) || not (eqb (id .generation) (portAt b (id .number) .generation))) ≡ false
-  last : portAt b (id .number) .reading ≡ u32.Some old
+  last : portAt b (id .number) .reading ≡ OptionU32.Some old
 
-valid-told : (p : OptionPorts) (id : PortId) (b : Bus) (old : ℕ) → validated p id b ≡ port.Read old → Valid p id b old
+valid-told : (p : OptionPorts) (id : PortId) (b : Bus) (old : ℕ) → validated p id b ≡ PortChecked.Read old → Valid p id b old
 unfolding validated validatedBy validatedRow readingChecked
 valid-told p id b old = by-number (numberChecked p (id .number)) refl
   where
@@ -177,19 +162,19 @@ valid-told p id b old = by-number (numberChecked p (id .number)) refl
     row = portAt b (id .number)
 
     Told : PortChecked → Type 0
-    Told c = c ≡ port.Read old → Valid p id b old
+    Told c = c ≡ PortChecked.Read old → Valid p id b old
 
-    by-reading : (o : OptionU32) → readingChecked o ≡ port.Read old → o ≡ u32.Some old
-    by-reading u32.None e = let z : _≡_ {A = ℕ} 0 1 = cc in absurd (omega arith)
-    by-reading (u32.Some raw) e = cc
+    by-reading : (o : OptionU32) → readingChecked o ≡ PortChecked.Read old → o ≡ OptionU32.Some old
+    by-reading OptionU32.None e = let z : _≡_ {A = ℕ} 0 1 = cc in absurd (omega arith)
+    by-reading (OptionU32.Some raw) e = cc
 
     by-number : (v : Verdict) → numberChecked p (id .number) ≡ v → Told (validatedBy v p id b)
-    by-number (verdict.Refused r) n = λ e. let z : _≡_ {A = ℕ} 0 1 = cc in absurd (omega arith)
-    by-number verdict.Pass n =
+    by-number (Verdict.Refused r) n = λ e. let z : _≡_ {A = ℕ} 0 1 = cc in absurd (omega arith)
+    by-number Verdict.Pass n =
         if-by Told _ _ _ (λ t e. let z : _≡_ {A = ℕ} 0 1 = cc in absurd (omega arith))
         (λ t e. record { numbered = n; current = t; last = by-reading (row .reading) e })
 
-module _ (p : OptionPorts) (id : PortId) (b : Bus) (old raw : ℕ) (valid : validated p id b ≡ port.Read old) where
+module _ (p : OptionPorts) (id : PortId) (b : Bus) (old raw : ℕ) (valid : validated p id b ≡ PortChecked.Read old) where
   told : Valid p id b old
   told = valid-told p id b old valid
 
@@ -201,7 +186,7 @@ module _ (p : OptionPorts) (id : PortId) (b : Bus) (old raw : ℕ) (valid : vali
 
   -- the row with that reading
   abbrev with-reading : ℕ → PortRow
-  with-reading g = record { generation = g; reading = u32.Some raw }
+  with-reading g = record { generation = g; reading = OptionU32.Some raw }
 
   put-is : (r : PortRow) → portAt (putPort b (id .number) r) (id .number) ≡ r
   unfolding putPort
@@ -211,7 +196,7 @@ module _ (p : OptionPorts) (id : PortId) (b : Bus) (old raw : ℕ) (valid : vali
 
   -- by what is observed
   observed-all : (P : PortChecked → Bus → Type 0)
-      → (let o = observePortBy (observedBy (u32.Some old) row raw) (id .number) b in P (freshObserved (o .result) p id) (o .lent))
+      → (let o = observePortBy (observedBy (OptionU32.Some old) row raw) (id .number) b in P (freshObserved (o .result) p id) (o .lent))
       → (let o = freshPort p id (Word raw) b in P (o .result) (o .lent))
   unfolding freshPort freshPortBy freshReading freshWord observePort observedRow
   observed-all P k =
@@ -219,8 +204,8 @@ module _ (p : OptionPorts) (id : PortId) (b : Bus) (old raw : ℕ) (valid : vali
       (subst (λ (x : OptionU32). let o = observePortBy (observedBy x row raw) (id .number) b in P (freshObserved (o .result) p id) (o .lent)) (sym (told .last)) k)
 
   -- its connected bit differs: 34, or 31 and the row is written
-  differing : (portConnected old ≡ portConnected raw → ⊥) → (P : PortChecked → Bus → Type 0) → P (port.Refused (refusalOf 34)) b
-      → ((b′ : Bus) → portAt b′ (id .number) .reading ≡ u32.Some raw → P (port.Refused (refusalOf 31)) b′)
+  differing : (portConnected old ≡ portConnected raw → ⊥) → (P : PortChecked → Bus → Type 0) → P (PortChecked.Refused (refusalOf 34)) b
+      → ((b′ : Bus) → portAt b′ (id .number) .reading ≡ OptionU32.Some raw → P (PortChecked.Refused (refusalOf 31)) b′)
       → (let o = freshPort p id (Word raw) b in P (o .result) (o .lent))
   unfolding observedBy raisedRow observePortBy freshObserved validatedRow
   differing differs P most stale =
@@ -233,35 +218,35 @@ module _ (p : OptionPorts) (id : PortId) (b : Bus) (old raw : ℕ) (valid : vali
       raised : PortRow
       raised = with-reading (row .generation + 1)
 
-      again : Observing (observed.To raised)
+      again : Observing (Observed.To raised)
       again =
           if-by (λ (c : PortChecked). P c (putPort b (id .number) raised)) _ _ _
           (λ t. stale _ (ap (λ (r : PortRow). r .reading) (put-is raised)))
           (λ t. absurd (omega (arith, generation-is, same-generation p id raised t)))
 
   -- it is the same: the row is written, and the id stays valid
-  agreeing : portConnected old ≡ portConnected raw → (P : PortChecked → Bus → Type 0) → P (port.Read raw) (foundBy id (u32.Some raw) b)
+  agreeing : portConnected old ≡ portConnected raw → (P : PortChecked → Bus → Type 0) → P (PortChecked.Read raw) (foundBy id (OptionU32.Some raw) b)
       → (let o = freshPort p id (Word raw) b in P (o .result) (o .lent))
   unfolding observedBy observePortBy freshObserved validatedRow readingChecked _if_else_
   agreeing same P k = observed-all P (rw (same, beq-self (portConnected raw), told .current) k)
 
-  still-valid : validated p id (foundBy id (u32.Some raw) b) ≡ port.Read raw
+  still-valid : validated p id (foundBy id (OptionU32.Some raw) b) ≡ PortChecked.Read raw
   unfolding validated validatedBy validatedRow readingChecked _if_else_
   still-valid = rw (told .numbered, put-is (with-reading (row .generation)), told .current) refl
 
 -- ---- a submission with a reading whose connected bit differs
-module _ (slot : ℕ) (d : DeviceSnapshot) (w : World) (stands : deviceAt (w .lent .bus) slot ≡ device.Some d) (old raw : ℕ)
-    (valid : validated (w .session .ports) (d .port) (w .lent .bus) ≡ port.Read old) (differs : portConnected old ≡ portConnected raw → ⊥) where
+module _ (slot : ℕ) (d : DeviceSnapshot) (w : World) (stands : deviceAt (w .lent .bus) slot ≡ OptionDevice.Some d) (old raw : ℕ)
+    (valid : validated (w .session .ports) (d .port) (w .lent .bus) ≡ PortChecked.Read old) (differs : portConnected old ≡ portConnected raw → ⊥) where
   abbrev before : Bus
   before = w .lent .bus
 
   abbrev Notes : OptionU32 → Answer → Bus → Type 0
   Notes earlier a b = Noticed (d .port) earlier before a b
 
-  notes-early : (earlier : OptionU32) (y : Refusal) → y .number ≤ 28 → Notes earlier (answer.Refused y) before
+  notes-early : (earlier : OptionU32) (y : Refusal) → isAmong (y .number) unreadNumbers ≡ true → Notes earlier (Answer.Refused y) before
   notes-early earlier y n = unread (refused y n) refl
 
-  turns : (earlier : OptionU32) (b : Bus) → portAt b (d .port .number) .reading ≡ u32.Some raw → Notes earlier (answer.Refused (refusalOf 31)) b
+  turns : (earlier : OptionU32) (b : Bus) → portAt b (d .port .number) .reading ≡ OptionU32.Some raw → Notes earlier (Answer.Refused (refusalOf 31)) b
   turns earlier b e = turned refl (record {
     old = old;
     raw = raw;
@@ -277,17 +262,17 @@ module _ (slot : ℕ) (d : DeviceSnapshot) (w : World) (stands : deviceAt (w .le
   abbrev Stopped : OptionU32 → RequestMetadata → Readings → Type 0
   Stopped earlier = ReadStops slot d w stands (Notes earlier) (notes-early earlier)
 
-  notes-first : (m : RequestMetadata) (x : Readings) → x .first ≡ Word raw → Stopped u32.None m x
+  notes-first : (m : RequestMetadata) (x : Readings) → x .first ≡ Word raw → Stopped OptionU32.None m x
   notes-first m x e =
-      subst (λ (r : PortReading). Stopped u32.None m (record { first = r; second = x .second })) (sym e)
-      (first-stops slot d w stands (Notes u32.None) (notes-early u32.None) m (x .second) _ _
-      (differing (w .session .ports) (d .port) before old raw valid differs (Stop u32.None) (full refl refl) (turns u32.None)))
+      subst (λ (r : PortReading). Stopped OptionU32.None m (record { first = r; second = x .second })) (sym e)
+      (first-stops slot d w stands (Notes OptionU32.None) (notes-early OptionU32.None) m (x .second) _ _
+      (differing (w .session .ports) (d .port) before old raw valid differs (Stop OptionU32.None) (full refl refl) (turns OptionU32.None)))
 
-  notes-second : (first : ℕ) (q : Request) → Second d old first raw q → Stopped (u32.Some first) (metadataOf (q .spec)) (q .readings)
+  notes-second : (first : ℕ) (q : Request) → Second d old first raw q → Stopped (OptionU32.Some first) (metadataOf (q .spec)) (q .readings)
   notes-second first q k =
       let p = w .session .ports in
       let m = metadataOf (q .spec) in
-      let earlier = u32.Some first in
+      let earlier = OptionU32.Some first in
       let found = foundBy (d .port) earlier before in
       subst (Stopped earlier m) (sym (k .readings))
       (agreeing p (d .port) before old first valid (k .agrees)
@@ -297,10 +282,10 @@ module _ (slot : ℕ) (d : DeviceSnapshot) (w : World) (stands : deviceAt (w .le
       (full refl refl) (turns earlier))))
 
   read-stops : (f : Beginning) (earlier : OptionU32) → Reads d old earlier raw f → BeginStops slot d w stands (Notes earlier) (notes-early earlier) f
-  read-stops (Submit packets q) u32.None k = notes-first (metadataOf (q .spec)) (q .readings) k
-  read-stops (Submit packets q) (u32.Some first) k = notes-second first q k
-  read-stops (SubmitPlan q bytes first) u32.None k = notes-first (planOf q .metadata) (record { first = first; second = first }) k
-  read-stops (SubmitPlan q bytes first) (u32.Some x) k = absurd k
+  read-stops (Submit packets q) OptionU32.None k = notes-first (metadataOf (q .spec)) (q .readings) k
+  read-stops (Submit packets q) (OptionU32.Some first) k = notes-second first q k
+  read-stops (SubmitPlan q bytes first) OptionU32.None k = notes-first (planOf q .metadata) (record { first = first; second = first }) k
+  read-stops (SubmitPlan q bytes first) (OptionU32.Some x) k = absurd k
   read-stops (Poll id) earlier k = tt
   read-stops (Recover id kind) earlier k = tt
 
@@ -311,18 +296,18 @@ module _ (slot : ℕ) (d : DeviceSnapshot) (w : World) (stands : deviceAt (w .le
 
 -- refused by 31 or before it
 abbrev Cut : PortChecked → Type 0
-Cut (port.Refused r) = r .number ≤ 31
-Cut (port.Read raw) = ⊥
+Cut (PortChecked.Refused r) = isAmong (r .number) staleNumbers ≡ true
+Cut (PortChecked.Read raw) = ⊥
 
 module _ (slot : ℕ) (d : DeviceSnapshot) where
   record Stale (b : Bus) : Type 0 where
-    stands : deviceAt b slot ≡ device.Some d
+    stands : deviceAt b slot ≡ OptionDevice.Some d
     below : 1 ≤ d .port .number → d .port .generation < portAt b (d .port .number) .generation
 
   stale-on : (b b′ : Bus) → Onward slot (d .port .number) b b′ → Stale b → Stale b′
   stale-on b b′ x k = record { stands = x .same ∙ k .stands; below = λ h. omega (arith, k .below h, x .later h .rises) }
 
-  turned-stale : (b b′ : Bus) → Onward slot (d .port .number) b b′ → deviceAt b slot ≡ device.Some d → Turned (d .port) b b′ → Stale b′
+  turned-stale : (b b′ : Bus) → Onward slot (d .port .number) b b′ → deviceAt b slot ≡ OptionDevice.Some d → Turned (d .port) b b′ → Stale b′
   turned-stale b b′ x e t = record { stands = x .same ∙ e; below = λ h. go h }
     where
       was : PortRow
@@ -337,7 +322,7 @@ module _ (slot : ℕ) (d : DeviceSnapshot) where
           (λ y.
           let k = x .later h .stays (omega (arith, x .later h .rises, ltb-false (was .generation) (is .generation) y)) in
           let j = subst (λ (o : OptionU32). SameBit o (is .reading)) (t .last) k in
-          absurd (t .differs (subst (λ (o : OptionU32). SameBit (u32.Some (t .old)) o) (t .taken) j)))
+          absurd (t .differs (subst (λ (o : OptionU32). SameBit (OptionU32.Some (t .old)) o) (t .taken) j)))
 
   -- 29, 30 or 31
   port-cut : (p : OptionPorts) (b : Bus) → Stale b → Cut (validated p (d .port) b)
@@ -348,25 +333,25 @@ module _ (slot : ℕ) (d : DeviceSnapshot) where
       row = portAt b (d .port .number)
 
       by-number : (v : Verdict) → Numbered (d .port .number) v → Cut (validatedBy v p (d .port) b)
-      by-number (verdict.Refused r) n = n
-      by-number verdict.Pass n =
-          if-by Cut _ _ _ (λ t. omega arith)
+      by-number (Verdict.Refused r) n = all-in (29 ∷ 30 ∷ []) staleNumbers (r .number) refl n
+      by-number Verdict.Pass n =
+          if-by Cut _ _ _ (λ t. refl)
           (λ t. absurd (omega (arith, k .below n, same-generation p (d .port) row t)))
 
-  cut : (f : Beginning) (w : World) → Asks slot f → Stale (w .lent .bus) → UpTo 31 (begunOf f w .result .answer)
+  cut : (f : Beginning) (w : World) → Asks slot f → Stale (w .lent .bus) → Refuses staleNumbers (begunOf f w .result .answer)
   unfolding freshPort freshPortBy
   cut f w e k = asked slot d w (k .stands) Low early f e (stops f)
     where
       Low : Answer → Bus → Type 0
-      Low a b = UpTo 31 a
+      Low a b = Refuses staleNumbers a
 
-      early : (y : Refusal) → y .number ≤ 28 → Low (answer.Refused y) (w .lent .bus)
-      early y n = refused y (omega arith)
+      early : (y : Refusal) → isAmong (y .number) unreadNumbers ≡ true → Low (Answer.Refused y) (w .lent .bus)
+      early y n = refused y (all-in unreadNumbers staleNumbers (y .number) refl n)
 
       by-port : (x : PortReading) (c : PortChecked) → Cut c
           → (let o = freshPortBy c x (w .session .ports) (d .port) (w .lent .bus) in PortStops slot d w (k .stands) Low early (o .result) (o .lent))
-      by-port x (port.Refused r) n = refused r n
-      by-port x (port.Read raw) n = absurd n
+      by-port x (PortChecked.Refused r) n = refused r n
+      by-port x (PortChecked.Read raw) n = absurd n
 
       reads : (m : RequestMetadata) (x : Readings) → ReadStops slot d w (k .stands) Low early m x
       reads m x =

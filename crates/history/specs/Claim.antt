@@ -6,38 +6,29 @@ use mathlib.Core.Path.{_≡_}
 use lib.Dec.{eqb}
 use lib.ListN.{length}
 use Rattle.chain.specs.Lists.{sumBy, only, count, anyIn, isAmong}
-use Rattle.words.specs.declared.OptionU32.{OptionU32}
-use Rattle.words.specs.declared.OptionU32.the-variants as u32
-use Rattle.words.specs.declared.OptionU64.{OptionU64}
-use Rattle.words.specs.declared.OptionU64.the-variants as u64
+use Rattle.words.specs.declared.{OptionU32.OptionU32, OptionU64.OptionU64}
 use Rattle.models.specs.Refusals.{refusalOf}
 use Rattle.models.specs.Requests.{isUncertainFailure, sameRequest}
-use Rattle.models.specs.declared.DeviceId.{DeviceId}
-use Rattle.models.specs.declared.RequestId.{RequestId}
-use Rattle.models.specs.declared.RequestReport.{RequestReport}
-use Rattle.models.specs.declared.RequestState.{RequestState}
+use Rattle.models.specs.declared.{DeviceId.DeviceId, RequestId.RequestId, RequestReport.RequestReport, RequestState.RequestState}
 use Rattle.models.specs.declared.RequestState.the-variants.{Pending, Completed, Failed, Aborted}
+use Rattle.rows.specs.InPlace.{cancelIn}
 use Rattle.rows.specs.Table.{isHeld, rowIn, tokenIn}
-use Rattle.rows.specs.declared.Row.{Row}
+use Rattle.rows.specs.declared.{Row.Row}
 use Rattle.rules.specs.Rules.{withState}
 use Rattle.ledger.specs.Search.{isAt}
 use Rattle.checks.specs.Completion.{hasError}
-use Rattle.session.specs.declared.InFlight.{InFlight}
-use Rattle.session.specs.declared.InFlight.the-variants as flight
-use Rattle.session.specs.declared.RecoveryKind.{RecoveryKind}
-use Rattle.session.specs.declared.Recovery.{Recovery}
-use Rattle.reports.specs.declared.OptionId.{OptionId}
-use Rattle.reports.specs.declared.OptionId.the-variants as option
+use Rattle.session.specs.declared.{InFlight.InFlight, Recovery.Recovery, RecoveryKind.RecoveryKind}
+use Rattle.reports.specs.declared.{OptionId.OptionId}
 use Rattle.scope.specs.Affected.{isAffected}
 use Rattle.scope.specs.Returned.{Returned, readReturned}
 use Rattle.recovery.specs.RecoveryReply.{ReplyLists}
-use Rattle.recovery.specs.declared.AbortReport.{AbortReport}
-use Rattle.recovery.specs.declared.RecoveryReply.{RecoveryReply}
+use Rattle.recovery.specs.declared.{AbortReport.AbortReport, RecoveryReply.RecoveryReply}
 use Rattle.calls.specs.Calls.{Call, Begin, Recover, Reply, ToRecovery, Change, Reclaim, Read, HeldCount, HeldBytes}
 use Rattle.calls.specs.Step.{World, stepOf, worldStore}
-use Rattle.calls.specs.declared.Answer.the-variants as answer
+use Rattle.calls.specs.Answers.{begunId}
+use Rattle.calls.specs.declared.{Answer.Answer}
 use Rattle.runs.specs.Run.{Handed, own, Event, Answered, Stepping, next, worldBy, endBy, historyBy, answerBy}
-use Rattle.history.specs.Journal.{Entry, View, entryView, blank, isOpen, isEntry, begunId, recoveryWaits, journalOf}
+use Rattle.history.specs.Journal.{Entry, View, blank, isOpen, isEntry, recoveryWaits, journalOf}
 
 -- what a row has in common with an entry
 abbrev pub rowView : Row → View
@@ -55,7 +46,7 @@ abbrev pub heldAs : (View → Bool) → Row → Bool
 heldAs p r = isHeld r && p (rowView r)
 
 abbrev pub openAs : (View → Bool) → Entry → Bool
-openAs p e = isOpen e && p (entryView e)
+openAs p e = isOpen e && p (e .view)
 
 abbrev pub rowLength : Row → ℕ
 rowLength r = r .metadata .«requested_length»
@@ -64,7 +55,7 @@ pub record Agrees (p : View → Bool) (rows : List Row) (entries : List Entry) :
   -- as sets the ids of the held rows equal those of the entries without a release
   pub ids : (x : RequestId) → anyIn (λ r. isAt x r && heldAs p r) rows ≡ anyIn (λ e. isEntry x e && openAs p e) entries
   pub number : count (heldAs p) rows ≡ count (openAs p) entries
-  pub lengths : sumBy (only (heldAs p) rowLength) rows ≡ sumBy (only (openAs p) (λ e. e .requested)) entries
+  pub lengths : sumBy (only (heldAs p) rowLength) rows ≡ sumBy (only (openAs p) (λ e. e .view .requested)) entries
   pub bound : count (heldAs p) rows ≤ 128
 
 -- how many releases an id has
@@ -100,8 +91,8 @@ reclaims x h = record { call = Change x Reclaim; handed = h }
 
 -- an answer that hands the id x over
 abbrev pub isBegun : RequestId → OptionId → Bool
-isBegun x option.None = false
-isBegun x (option.Some id) = sameRequest id x
+isBegun x OptionId.None = false
+isBegun x (OptionId.Some id) = sameRequest id x
 
 abbrev pub handsOver : RequestId → Answered → Bool
 handsOver x h = isBegun x (begunId (h .answer))
@@ -111,23 +102,17 @@ handsOver x h = isBegun x (begunId (h .answer))
 -- what a completion says, and the flag of a Pending state; a completion that lacks a part is refused, and so is one of a request that is
 -- not Pending, with no release: `agrees` would not hold
 abbrev pub lengthIn : OptionU64 → ℕ
-lengthIn u64.None = 0
-lengthIn (u64.Some n) = n
+lengthIn OptionU64.None = 0
+lengthIn (OptionU64.Some n) = n
 
 abbrev pub codeIn : OptionU32 → ℕ
-codeIn u32.None = 0
-codeIn (u32.Some n) = n
-
-abbrev pub cancelledIn : RequestState → Bool
-cancelledIn (Pending cancel late) = cancel
-cancelledIn (Completed actual code cancel) = false
-cancelledIn (Failed error code quiescent) = false
-cancelledIn Aborted = false
+codeIn OptionU32.None = 0
+codeIn (OptionU32.Some n) = n
 
 -- the row with the completion's length and code
 abbrev pub completedAs : Returned → Row → Row
 completedAs c r =
-    withState r (Completed (lengthIn (c .brought .completion .«actual_length»)) (codeIn (c .brought .completion .«completion_code»)) (cancelledIn (r .state)))
+    withState r (Completed (lengthIn (c .brought .completion .«actual_length»)) (codeIn (c .brought .completion .«completion_code»)) (cancelIn (r .state)))
 
 -- as the reply names the row's token: by a completion, as aborted, or not at all
 abbrev pub namedAs : List Returned → List ℕ → Row → Row
@@ -166,10 +151,10 @@ pub record Unaffected (d : DeviceId) (endpoint : ℕ) (rows rows′ : List Row) 
 
 -- by the operation that waits; where it is no recovery, every row is equal
 abbrev pub Spared : InFlight → List Row → List Row → Type 0
-Spared flight.Nothing rows rows′ = rows′ ≡ rows
-Spared (flight.Submission id) rows rows′ = rows′ ≡ rows
-Spared (flight.Poll id) rows rows′ = rows′ ≡ rows
-Spared (flight.Recovery x) rows rows′ = Unaffected (x .device) (x .endpoint) rows rows′
+Spared InFlight.Nothing rows rows′ = rows′ ≡ rows
+Spared (InFlight.Submission id) rows rows′ = rows′ ≡ rows
+Spared (InFlight.Poll id) rows rows′ = rows′ ≡ rows
+Spared (InFlight.Recovery x) rows rows′ = Unaffected (x .device) (x .endpoint) rows rows′
 
 -- a recovery's start
 abbrev pub starts : RecoveryKind → RequestId → Handed → Event
@@ -181,28 +166,28 @@ returns reply l h = record { call = Reply (ToRecovery reply l); handed = h }
 
 -- a report is of the operation
 abbrev pub ReportOf : InFlight → AbortReport → Type 0
-ReportOf f x = (q : RecoveryKind) × (f ≡ flight.Recovery (record { target = x .target; device = x .device; endpoint = x .endpoint; kind = q }))
+ReportOf f x = (q : RecoveryKind) × (f ≡ InFlight.Recovery (record { target = x .target; device = x .device; endpoint = x .endpoint; kind = q }))
 
 -- of a step and a list of calls; the theorem is about `stepOf`
 pub record ClaimOf (step : Stepping) (w : World) (es : List Event) : Type 0 where
   pub agrees : (p : View → Bool) → Agrees p (rowsEnd step w es) (entriesEnd step w es)
   -- the calls' own tallies stop at their widths' maxima, and never come to them
-  pub count-is : answerBy step (endBy step w es) (calls (Read HeldCount)) ≡ answer.Number (count isOpen (entriesEnd step w es))
-  pub bytes-is : answerBy step (endBy step w es) (calls (Read HeldBytes)) ≡ answer.Number (sumBy (only isOpen (λ e. e .requested)) (entriesEnd step w es))
+  pub count-is : answerBy step (endBy step w es) (calls (Read HeldCount)) ≡ Answer.Number (count isOpen (entriesEnd step w es))
+  pub bytes-is : answerBy step (endBy step w es) (calls (Read HeldBytes)) ≡ Answer.Number (sumBy (only isOpen (λ e. e .view .requested)) (entriesEnd step w es))
   pub one-entry : (x : RequestId) → count (isEntry x) (entriesEnd step w es) ≤ 1
   pub one-release : (x : RequestId) → releasesOf x (entriesEnd step w es) ≤ 1
   -- exactly one before it is reclaimed
   pub reclaimed : (before after : List Event) (h : Handed) (x : RequestId) (r : RequestReport) → es ≡ before ++ (reclaims x h ∷ after)
-      → answerBy step (endBy step w before) (reclaims x h) ≡ answer.Report r → releasesOf x (entriesEnd step w before) ≡ 1
+      → answerBy step (endBy step w before) (reclaims x h) ≡ Answer.Report r → releasesOf x (entriesEnd step w before) ≡ 1
   -- an id was handed over as often as it has entries: at most once, and no entry is forgotten
   pub handed : (x : RequestId) → count (handsOver x) (historyBy step w es) ≡ count (isEntry x) (entriesEnd step w es)
   -- a recovery's start that opened its operation named the call's target and kind, and the device and the endpoint of the target's entry
   pub started : (before after : List Event) (h : Handed) (q : RecoveryKind) (id : RequestId) → es ≡ before ++ (starts q id h ∷ after) → (x : Recovery)
-      → answerBy step (endBy step w before) (starts q id h) ≡ answer.Recovering x
-      → flight.Recovery x ≡ recoveryWaits id q (journalOf (historyBy step w before) blank) .waiting
+      → answerBy step (endBy step w before) (starts q id h) ≡ Answer.Recovering x
+      → InFlight.Recovery x ≡ recoveryWaits id q (journalOf (historyBy step w before) blank) .waiting
   -- each recovery that succeeded, ready and without an error, the affected tokens all different
   pub recovered : (before after : List Event) (h : Handed) (reply : RecoveryReply) (l : ReplyLists) → es ≡ before ++ (returns reply l h ∷ after) → (x : AbortReport)
-      → answerBy step (endBy step w before) (returns reply l h) ≡ answer.Recovered x → x .«restart_ready» ≡ true → hasError (x .error) ≡ false
+      → answerBy step (endBy step w before) (returns reply l h) ≡ Answer.Recovered x → x .«restart_ready» ≡ true → hasError (x .error) ≡ false
       → Different (x .device) (x .endpoint) (rowsEnd step w before)
       → Recovered (x .device) (x .endpoint) l (rowsEnd step w before) (rowsLeft step (endBy step w before) (returns reply l h))
   -- whatever a recovery's reply is answered, it changes no row but those that are affected by the operation that, by the history, waits
@@ -210,9 +195,9 @@ pub record ClaimOf (step : Stepping) (w : World) (es : List Event) : Type 0 wher
       → Spared (journalOf (historyBy step w before) blank .waiting) (rowsEnd step w before) (rowsLeft step (endBy step w before) (returns reply l h))
   -- the report of any recovery is of the operation that, by the history, waited
   pub reported : (before after : List Event) (h : Handed) (reply : RecoveryReply) (l : ReplyLists) → es ≡ before ++ (returns reply l h ∷ after) → (x : AbortReport)
-      → answerBy step (endBy step w before) (returns reply l h) ≡ answer.Recovered x → ReportOf (journalOf (historyBy step w before) blank .waiting) x
+      → answerBy step (endBy step w before) (returns reply l h) ≡ Answer.Recovered x → ReportOf (journalOf (historyBy step w before) blank .waiting) x
   -- a refusal by 3 leaves whatever the call was handed as it was
-  pub untouched : (c : Call) (v : World) → step c v .result .answer ≡ answer.Refused (refusalOf 3) → next (step c v) ≡ v
+  pub untouched : (c : Call) (v : World) → step c v .result .answer ≡ Answer.Refused (refusalOf 3) → next (step c v) ≡ v
 
 abbrev pub Claim : World → List Event → Type 0
 Claim w es = ClaimOf stepOf w es

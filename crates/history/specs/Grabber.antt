@@ -6,14 +6,14 @@ use mathlib.Core.List.{List, _∷_, _++_}
 use mathlib.Core.Logic.{_⊎_}
 use mathlib.Core.Path.{_≡_}
 use Rattle.words.specs.Records.{part}
-use Rattle.models.specs.declared.RequestId.{RequestId}
+use Rattle.models.specs.declared.{RequestId.RequestId}
 use Rattle.rows.specs.Table.{isHeld, rowIn}
 use Rattle.session.specs.Lent.{Memory}
-use Rattle.session.specs.declared.Size.{Size}
-use Rattle.reports.specs.declared.Part.{Part}
+use Rattle.session.specs.declared.{Size.Size}
+use Rattle.reports.specs.declared.{Part.Part}
 use Rattle.calls.specs.Calls.{Call, Read, CompletedBytes}
 use Rattle.calls.specs.Step.{World, stepOf}
-use Rattle.calls.specs.declared.Answer.the-variants as answer
+use Rattle.calls.specs.declared.{Answer.Answer}
 use Rattle.runs.specs.Run.{Handed, Event, answerTo, endOf}
 use Rattle.history.specs.Claim.{calls, releasesOf, rowsAfter, entriesAfter}
 
@@ -40,8 +40,8 @@ pub record BytesSafe (w : World) (es : List Event) : Type 0 where
       → HeldSame (endOf w before .session .size) (endOf w before .lent .memory) (stepOf c (endOf w before) .lent .memory)
   -- bytes that come back are of an id with a release
   pub released : (before after : List Event) (h : Handed) (id : RequestId) (p : Part) → es ≡ before ++ (takes id h ∷ after)
-      → answerTo (endOf w before) (takes id h) ≡ answer.Bytes p → 1 ≤ p .length → releasesOf id (entriesAfter w before) ≡ 1
+      → answerTo (endOf w before) (takes id h) ≡ Answer.Bytes p → 1 ≤ p .length → releasesOf id (entriesAfter w before) ≡ 1
   -- and apart from those of every held row
   pub apart : (before after : List Event) (h : Handed) (id : RequestId) (p : Part) → es ≡ before ++ (takes id h ∷ after)
-      → answerTo (endOf w before) (takes id h) ≡ answer.Bytes p → 1 ≤ p .length
+      → answerTo (endOf w before) (takes id h) ≡ Answer.Bytes p → 1 ≤ p .length
       → (i : ℕ) → isHeld (rowIn (rowsAfter w before) i) ≡ true → Apart (endOf w before .session .size) p i

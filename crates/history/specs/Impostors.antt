@@ -5,26 +5,21 @@ use mathlib.Core.List.{List, [], _∷_}
 use lib.Dec.{eqb}
 use lib.ListN.{length, take}
 use Rattle.chain.specs.After.{After, after}
-use Rattle.models.specs.declared.DeviceId.{DeviceId}
-use Rattle.models.specs.declared.RequestId.{RequestId}
+use Rattle.models.specs.declared.{DeviceId.DeviceId, RequestId.RequestId}
 use Rattle.rows.specs.Table.{isHeld, rowIn}
-use Rattle.rows.specs.declared.Row.{Row}
+use Rattle.rows.specs.declared.{Row.Row}
 use Rattle.rules.specs.declared.Change.the-variants as change
 use Rattle.session.specs.Lent.{Lent}
 use Rattle.session.specs.Session.{withFlight}
-use Rattle.session.specs.declared.InFlight.{InFlight}
-use Rattle.session.specs.declared.InFlight.the-variants as flight
+use Rattle.session.specs.declared.{InFlight.InFlight}
 use Rattle.reports.specs.Change.{changeOf}
 use Rattle.scope.specs.Affected.{insertRow, tokensOf}
 use Rattle.scope.specs.Returned.{completionWords, broughtAt}
 use Rattle.recovery.specs.RecoveryReply.{ReplyLists, replyLists, ended, doneOf}
-use Rattle.recovery.specs.declared.RecoveryReply.{RecoveryReply}
-use Rattle.recovery.specs.declared.RecoveryReply.the-variants as reply
+use Rattle.recovery.specs.declared.{RecoveryReply.RecoveryReply}
 use Rattle.calls.specs.Calls.{Open, Place, Move, Begin, Reply, ToSubmit, ToPoll, ToRecovery, Change, Cancel, Timeout, Reclaim, Withdraw, Read, Status, Reports, CountReports, CompletedBytes, HeldCount, HeldBytes}
 use Rattle.calls.specs.Step.{World, worldStore, reports, recovers, reads, readOf, stepOf}
-use Rattle.calls.specs.declared.Answer.{Answer}
-use Rattle.calls.specs.declared.Answer.the-variants as answer
-use Rattle.calls.specs.declared.Outcome.{Outcome}
+use Rattle.calls.specs.declared.{Answer.Answer, Outcome.Outcome}
 use Rattle.runs.specs.Run.{Stepping}
 use Rattle.history.specs.Journal.{endsBy, countsBy}
 
@@ -72,8 +67,8 @@ firstOf (t ∷ ts) l =
 
 -- of a reply that is not ready a part of the affected tokens is in scope
 abbrev pub notReady : RecoveryReply → RecoveryReply
-notReady (reply.Error e) = reply.Error e
-notReady (reply.Done o) = reply.Done (record { «restart_ready» = false; error = o .error })
+notReady (RecoveryReply.Error e) = RecoveryReply.Error e
+notReady (RecoveryReply.Done o) = RecoveryReply.Done (record { «restart_ready» = false; error = o .error })
 
 -- where the entries count: the right answer and session, and what the first entry leaves
 abbrev pub firstApplied : RecoveryReply → ReplyLists → World → After Outcome Lent
@@ -88,7 +83,7 @@ firstOnly = stepWith (record { recovery = firstApplied; timeout = rightWays .tim
 -- ---- an invented held count
 
 abbrev pub heldInvented : Stepping
-heldInvented = stepWith (record { recovery = rightWays .recovery; timeout = rightWays .timeout; held = λ w. answer.Number 0 })
+heldInvented = stepWith (record { recovery = rightWays .recovery; timeout = rightWays .timeout; held = λ w. Answer.Number 0 })
 
 -- ---- a timeout that releases
 
@@ -111,14 +106,14 @@ inSlotUpTo d endpoint rows (suc n) =
 
 -- those are the affected rows; `right` is what is right
 abbrev pub inSlotBy : InFlight → RecoveryReply → ReplyLists → World → After Outcome Lent → After Outcome Lent
-inSlotBy flight.Nothing q l w right = right
-inSlotBy (flight.Submission id) q l w right = right
-inSlotBy (flight.Poll id) q l w right = right
-inSlotBy (flight.Recovery x) (reply.Error e) l w right = right
-inSlotBy (flight.Recovery x) (reply.Done o) l w right =
+inSlotBy InFlight.Nothing q l w right = right
+inSlotBy (InFlight.Submission id) q l w right = right
+inSlotBy (InFlight.Poll id) q l w right = right
+inSlotBy (InFlight.Recovery x) (RecoveryReply.Error e) l w right = right
+inSlotBy (InFlight.Recovery x) (RecoveryReply.Done o) l w right =
     let rows = worldStore w .rows in
     let affected = inSlotUpTo (x .device) (x .endpoint) rows (length rows) in
-    recovers (doneOf (ended (withFlight (w .session) flight.Nothing) x o) affected (tokensOf rows affected) l (w .lent .memory)) w
+    recovers (doneOf (ended (withFlight (w .session) InFlight.Nothing) x o) affected (tokensOf rows affected) l (w .lent .memory)) w
 
 -- where the reply is not refused by 2, 3 or 49
 abbrev pub inSlot : RecoveryReply → ReplyLists → World → After Outcome Lent

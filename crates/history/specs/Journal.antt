@@ -5,43 +5,35 @@ use mathlib.Core.List.{List, [], _∷_, map}
 use lib.Dec.{eqb}
 use lib.ListN.{length, getD, set, take, drop}
 use Rattle.chain.specs.Lists.{find, mapAt}
-use Rattle.words.specs.declared.OptionU64.{OptionU64}
-use Rattle.words.specs.declared.OptionU64.the-variants as u64
 use Rattle.models.specs.Requests.{sameRequest, sameDevice, requestBefore}
-use Rattle.models.specs.declared.BackendCompletion.{BackendCompletion}
-use Rattle.models.specs.declared.DeviceId.{DeviceId}
-use Rattle.models.specs.declared.OptionError.{OptionError}
-use Rattle.models.specs.declared.OptionError.the-variants as error
-use Rattle.models.specs.declared.RequestId.{RequestId}
+use Rattle.models.specs.declared.{BackendCompletion.BackendCompletion, DeviceId.DeviceId, OptionError.OptionError, RequestId.RequestId}
 use Rattle.checks.specs.Completion.{testCompletion}
 use Rattle.checks.specs.Plan.{stageOf}
-use Rattle.checks.specs.declared.completion.CompletionTest.{CompletionTest}
-use Rattle.checks.specs.declared.completion.CompletionTest.the-variants as test
-use Rattle.session.specs.declared.InFlight.{InFlight}
-use Rattle.session.specs.declared.InFlight.the-variants as flight
-use Rattle.session.specs.declared.RecoveryKind.{RecoveryKind}
-use Rattle.session.specs.declared.Recovery.{Recovery}
-use Rattle.reports.specs.declared.OptionId.{OptionId}
-use Rattle.reports.specs.declared.OptionId.the-variants as option
-use Rattle.polls.specs.declared.PollReply.{PollReply}
-use Rattle.polls.specs.declared.PollReply.the-variants as poll
-use Rattle.submissions.specs.declared.SubmitReply.{SubmitReply}
-use Rattle.submissions.specs.declared.SubmitReply.the-variants as submit
+use Rattle.checks.specs.declared.{completion.CompletionTest.CompletionTest}
+use Rattle.session.specs.declared.{InFlight.InFlight, Recovery.Recovery, RecoveryKind.RecoveryKind}
+use Rattle.reports.specs.declared.{OptionId.OptionId}
+use Rattle.polls.specs.declared.{PollReply.PollReply}
+use Rattle.submissions.specs.declared.{SubmitReply.SubmitReply}
 use Rattle.scope.specs.Returned.{Returned, readReturned}
 use Rattle.recovery.specs.RecoveryReply.{ReplyLists}
 use Rattle.calls.specs.Calls.{Call, Open, Place, Move, Acquire, Initialize, Close, Begin, Submit, SubmitPlan, Poll, Recover, Reply, ToSubmit, ToPoll, ToRecovery, Change, Read}
-use Rattle.calls.specs.declared.Answer.{Answer}
-use Rattle.calls.specs.declared.Answer.the-variants as answer
+use Rattle.calls.specs.Answers.{isPass, isAsked, isRecovering, begunId}
+use Rattle.calls.specs.Said.{answerSaid}
+use Rattle.calls.specs.declared.{Answer.Answer}
 use Rattle.runs.specs.Run.{Answered}
 
--- a request that was submitted, kept for ever: document 01's line
-pub record Entry : Type 0 where
+-- what an entry and a row have in common; a token that has not come yet is 0
+pub record View : Type 0 where
   pub id : RequestId
   pub device : DeviceId
   pub endpoint : ℕ
   pub requested : ℕ
-  pub token : OptionU64
+  pub token : ℕ
   pub failed : Bool
+
+-- a request that was submitted, kept for ever: document 01's line
+pub record Entry : Type 0 where
+  pub view : View
   pub releases : ℕ
 
 -- the latest entry first, and the operation that waits for its reply
@@ -50,7 +42,7 @@ pub record Journal : Type 0 where
   pub waiting : InFlight
 
 abbrev pub blank : Journal
-blank = record { entries = []; waiting = flight.Nothing }
+blank = record { entries = []; waiting = InFlight.Nothing }
 
 -- ---- entries
 
@@ -63,19 +55,14 @@ abbrev pub isOpen : Entry → Bool
 isOpen e = isNone (e .releases)
 
 abbrev pub isEntry : RequestId → Entry → Bool
-isEntry id e = sameRequest (e .id) id
+isEntry id e = sameRequest (e .view .id) id
+
+abbrev pub viewOf : RequestId → DeviceId → ℕ → ℕ → View
+viewOf id device endpoint requested = record { id = id; device = device; endpoint = endpoint; requested = requested; token = 0; failed = false }
 
 -- stands for no entry at all
 abbrev pub noEntry : Entry
-noEntry = record {
-  id = record { session = 0; generation = 0; sequence = 0 };
-  device = record { session = 0; generation = 0; slot = 0 };
-  endpoint = 0;
-  requested = 0;
-  token = u64.None;
-  failed = false;
-  releases = 1;
-}
+noEntry = record { view = viewOf (record { session = 0; generation = 0; sequence = 0 }) (record { session = 0; generation = 0; slot = 0 }) 0 0; releases = 1 }
 
 -- the entry of an id is the latest of that id
 abbrev pub entryOf : RequestId → List Entry → Entry
@@ -85,108 +72,28 @@ abbrev pub atEntry : RequestId → (Entry → Entry) → List Entry → List Ent
 atEntry id f l = set l (find (isEntry id) l) (f (entryOf id l))
 
 abbrev pub release : Entry → Entry
-release e = record {
-  id = e .id;
-  device = e .device;
-  endpoint = e .endpoint;
-  requested = e .requested;
-  token = e .token;
-  failed = e .failed;
-  releases = suc (e .releases);
-}
+release e = record { view = e .view; releases = suc (e .releases) }
+
+abbrev pub failing : View → View
+failing v = record { id = v .id; device = v .device; endpoint = v .endpoint; requested = v .requested; token = v .token; failed = true }
+
+abbrev pub tokened : ℕ → View → View
+tokened t v = record { id = v .id; device = v .device; endpoint = v .endpoint; requested = v .requested; token = t; failed = v .failed }
+
+abbrev pub withView : (View → View) → Entry → Entry
+withView f e = record { view = f (e .view); releases = e .releases }
 
 abbrev pub markFailed : Entry → Entry
-markFailed e = record {
-  id = e .id;
-  device = e .device;
-  endpoint = e .endpoint;
-  requested = e .requested;
-  token = e .token;
-  failed = true;
-  releases = e .releases;
-}
+markFailed e = withView failing e
 
 abbrev pub entryWithToken : ℕ → Entry → Entry
-entryWithToken t e = record {
-  id = e .id;
-  device = e .device;
-  endpoint = e .endpoint;
-  requested = e .requested;
-  token = u64.Some t;
-  failed = e .failed;
-  releases = e .releases;
-}
+entryWithToken t e = withView (tokened t) e
 
 -- ---- what the answers say
 
--- the id of a submission whose operation was opened
-abbrev pub begunId : Answer → OptionId
-begunId (answer.Refused r) = option.None
-begunId answer.Pass = option.None
-begunId (answer.Begun x) = option.Some (x .id)
-begunId (answer.PlanBegun x) = option.Some (x .id)
-begunId (answer.Report x) = option.None
-begunId answer.NoReport = option.None
-begunId (answer.Asked token) = option.None
-begunId (answer.Number n) = option.None
-begunId (answer.Bytes x) = option.None
-begunId (answer.Recovering x) = option.None
-begunId (answer.Recovered x) = option.None
-
--- a poll that opened its operation
-abbrev pub isAsked : Answer → Bool
-isAsked (answer.Refused r) = false
-isAsked answer.Pass = false
-isAsked (answer.Begun x) = false
-isAsked (answer.PlanBegun x) = false
-isAsked (answer.Report x) = false
-isAsked answer.NoReport = false
-isAsked (answer.Asked token) = true
-isAsked (answer.Number n) = false
-isAsked (answer.Bytes x) = false
-isAsked (answer.Recovering x) = false
-isAsked (answer.Recovered x) = false
-
-abbrev pub isPass : Answer → Bool
-isPass (answer.Refused r) = false
-isPass answer.Pass = true
-isPass (answer.Begun x) = false
-isPass (answer.PlanBegun x) = false
-isPass (answer.Report x) = false
-isPass answer.NoReport = false
-isPass (answer.Asked token) = false
-isPass (answer.Number n) = false
-isPass (answer.Bytes x) = false
-isPass (answer.Recovering x) = false
-isPass (answer.Recovered x) = false
-
--- a recovery that opened its operation
-abbrev pub isRecovering : Answer → Bool
-isRecovering (answer.Refused r) = false
-isRecovering answer.Pass = false
-isRecovering (answer.Begun x) = false
-isRecovering (answer.PlanBegun x) = false
-isRecovering (answer.Report x) = false
-isRecovering answer.NoReport = false
-isRecovering (answer.Asked token) = false
-isRecovering (answer.Number n) = false
-isRecovering (answer.Bytes x) = false
-isRecovering (answer.Recovering x) = true
-isRecovering (answer.Recovered x) = false
-
 -- the number of a refusal, 0 where it is none
 abbrev pub refusalNumber : Answer → ℕ
-refusalNumber (answer.Refused r) = r .number
-refusalNumber answer.Pass = 0
-refusalNumber (answer.Begun x) = 0
-refusalNumber (answer.PlanBegun x) = 0
-refusalNumber (answer.Report x) = 0
-refusalNumber answer.NoReport = 0
-refusalNumber (answer.Asked token) = 0
-refusalNumber (answer.Number n) = 0
-refusalNumber (answer.Bytes x) = 0
-refusalNumber (answer.Recovering x) = 0
-refusalNumber (answer.Recovered x) = 0
+refusalNumber a = answerSaid a .number
 
 -- a reply that ends its operation: none refused by 2, 3 or 49
 abbrev pub endsBy : Answer → Bool
@@ -199,87 +106,55 @@ countsBy a = not (eqb (refusalNumber a) 45 || eqb (refusalNumber a) 46)
 -- ---- submissions
 
 abbrev pub newEntry : RequestId → DeviceId → ℕ → ℕ → Entry
-newEntry id device endpoint requested = record {
-  id = id;
-  device = device;
-  endpoint = endpoint;
-  requested = requested;
-  token = u64.None;
-  failed = false;
-  releases = 0;
-}
+newEntry id device endpoint requested = record { view = viewOf id device endpoint requested; releases = 0 }
 
 abbrev pub begunBy : OptionId → DeviceId → ℕ → ℕ → Journal → Journal
-begunBy option.None device endpoint requested j = j
-begunBy (option.Some id) device endpoint requested j =
-    record { entries = newEntry id device endpoint requested ∷ j .entries; waiting = flight.Submission id }
+begunBy OptionId.None device endpoint requested j = j
+begunBy (OptionId.Some id) device endpoint requested j =
+    record { entries = newEntry id device endpoint requested ∷ j .entries; waiting = InFlight.Submission id }
 
 -- the reply adds the token or, by 45, a release
 abbrev pub acceptedAs : SubmitReply → Entry → Entry
-acceptedAs (submit.Token token) e = entryWithToken token e
-acceptedAs (submit.Error x) e = release e
+acceptedAs (SubmitReply.Token token) e = entryWithToken token e
+acceptedAs (SubmitReply.Error x) e = release e
 
 -- ---- polls
 
 abbrev pub testedAs : CompletionTest → Entry → Entry
-testedAs (test.Valid actual code) e = release e
-testedAs test.MissingLength e = markFailed e
-testedAs test.Invalid e = markFailed e
+testedAs (CompletionTest.Valid actual code) e = release e
+testedAs CompletionTest.MissingLength e = markFailed e
+testedAs CompletionTest.Invalid e = markFailed e
 
 -- a completion adds a release if valid, or quiescent with an error; else it marks the entry Failed
 abbrev pub settledBy : OptionError → BackendCompletion → ℕ → Entry → Entry
-settledBy (error.Some x) c given e = cond (c .quiescent) (release e) (markFailed e)
-settledBy error.None c given e = testedAs (testCompletion c given (e .requested)) e
+settledBy (OptionError.Some x) c given e = cond (c .quiescent) (release e) (markFailed e)
+settledBy OptionError.None c given e = testedAs (testCompletion c given (e .view .requested)) e
 
 -- ---- the journal after a call
 
 -- the entry that the operation is about
 abbrev pub atWaiting : InFlight → (Entry → Entry) → List Entry → List Entry
-atWaiting flight.Nothing f l = l
-atWaiting (flight.Submission id) f l = atEntry id f l
-atWaiting (flight.Poll id) f l = atEntry id f l
-atWaiting (flight.Recovery x) f l = l
+atWaiting InFlight.Nothing f l = l
+atWaiting (InFlight.Submission id) f l = atEntry id f l
+atWaiting (InFlight.Poll id) f l = atEntry id f l
+atWaiting (InFlight.Recovery x) f l = l
 
 abbrev pub endedWith : (Entry → Entry) → Journal → Journal
-endedWith f j = record { entries = atWaiting (j .waiting) f (j .entries); waiting = flight.Nothing }
+endedWith f j = record { entries = atWaiting (j .waiting) f (j .entries); waiting = InFlight.Nothing }
 
 abbrev pub idle : Journal → Journal
-idle j = record { entries = j .entries; waiting = flight.Nothing }
+idle j = record { entries = j .entries; waiting = InFlight.Nothing }
 
 -- nothing came, or the backend's error: no entry changes
 abbrev pub polledBy : PollReply → ℕ → Journal → Journal
-polledBy poll.Nothing given j = idle j
-polledBy (poll.Error x) given j = idle j
-polledBy (poll.Completion c) given j = endedWith (settledBy (c .error) c given) j
+polledBy PollReply.Nothing given j = idle j
+polledBy (PollReply.Error x) given j = idle j
+polledBy (PollReply.Completion c) given j = endedWith (settledBy (c .error) c given) j
 
 abbrev pub pollWaits : RequestId → Journal → Journal
-pollWaits id j = record { entries = j .entries; waiting = flight.Poll id }
+pollWaits id j = record { entries = j .entries; waiting = InFlight.Poll id }
 
 -- ---- recoveries
-
--- what an entry and a row have in common
-pub record View : Type 0 where
-  pub id : RequestId
-  pub device : DeviceId
-  pub endpoint : ℕ
-  pub requested : ℕ
-  pub token : ℕ
-  pub failed : Bool
-
--- a row whose token has not come yet has 0 there
-abbrev pub tokenOr0 : OptionU64 → ℕ
-tokenOr0 u64.None = 0
-tokenOr0 (u64.Some t) = t
-
-abbrev pub entryView : Entry → View
-entryView e = record {
-  id = e .id;
-  device = e .device;
-  endpoint = e .endpoint;
-  requested = e .requested;
-  token = tokenOr0 (e .token);
-  failed = e .failed;
-}
 
 -- of the device and the endpoint
 abbrev pub ofScope : DeviceId → ℕ → View → Bool
@@ -294,11 +169,11 @@ insertView v (u ∷ us) = cond (requestBefore (v .id) (u .id)) (v ∷ u ∷ us) 
 abbrev pub affectedViews : DeviceId → ℕ → List Entry → List View
 affectedViews d endpoint [] = []
 affectedViews d endpoint (e ∷ es) =
-    cond (isOpen e && ofScope d endpoint (entryView e)) (insertView (entryView e) (affectedViews d endpoint es)) (affectedViews d endpoint es)
+    cond (isOpen e && ofScope d endpoint (e .view)) (insertView (e .view) (affectedViews d endpoint es)) (affectedViews d endpoint es)
 
 -- the entry that a token means: the lowest affected id that has it
 abbrev pub meantView : List View → ℕ → View
-meantView vs t = getD vs (find (eqb t) (map (λ (v : View). v .token) vs)) (entryView noEntry)
+meantView vs t = getD vs (find (eqb t) (map (λ (v : View). v .token) vs)) (noEntry .view)
 
 -- the entries after the reply's, and whether one was refused
 pub record ReleasedTo : Type 0 where
@@ -310,9 +185,9 @@ releasedTo b es = record { refused = b; entries = es }
 
 -- a completion of the entry v: a release, unless it meets 47, 48 or, the entry being marked Failed, 41
 abbrev pub completesBy : CompletionTest → View → List Entry → ReleasedTo
-completesBy test.MissingLength v es = releasedTo true es
-completesBy test.Invalid v es = releasedTo true es
-completesBy (test.Valid actual code) v es = cond (v .failed) (releasedTo true es) (releasedTo false (atEntry (v .id) release es))
+completesBy CompletionTest.MissingLength v es = releasedTo true es
+completesBy CompletionTest.Invalid v es = releasedTo true es
+completesBy (CompletionTest.Valid actual code) v es = cond (v .failed) (releasedTo true es) (releasedTo false (atEntry (v .id) release es))
 
 abbrev pub goesOn : ReleasedTo → (List Entry → ReleasedTo) → ReleasedTo
 goesOn q next = cond (q .refused) q (next (q .entries))
@@ -339,17 +214,17 @@ abbrev pub recoveryAs : RequestId → RecoveryKind → View → Recovery
 recoveryAs id kind v = record { target = id; device = v .device; endpoint = v .endpoint; kind = kind }
 
 abbrev pub recoveryWaits : RequestId → RecoveryKind → Journal → Journal
-recoveryWaits id kind j = record { entries = j .entries; waiting = flight.Recovery (recoveryAs id kind (entryView (entryOf id (j .entries)))) }
+recoveryWaits id kind j = record { entries = j .entries; waiting = InFlight.Recovery (recoveryAs id kind (entryOf id (j .entries) .view)) }
 
 abbrev pub releasedIn : InFlight → ReplyLists → List Entry → List Entry
-releasedIn flight.Nothing l es = es
-releasedIn (flight.Submission id) l es = es
-releasedIn (flight.Poll id) l es = es
-releasedIn (flight.Recovery x) l es = releasesAll (meantView (affectedViews (x .device) (x .endpoint) es)) l es
+releasedIn InFlight.Nothing l es = es
+releasedIn (InFlight.Submission id) l es = es
+releasedIn (InFlight.Poll id) l es = es
+releasedIn (InFlight.Recovery x) l es = releasesAll (meantView (affectedViews (x .device) (x .endpoint) es)) l es
 
 abbrev pub recoveredJournal : Answer → ReplyLists → Journal → Journal
 recoveredJournal a l j =
-    cond (endsBy a) (record { entries = cond (countsBy a) (releasedIn (j .waiting) l (j .entries)) (j .entries); waiting = flight.Nothing }) j
+    cond (endsBy a) (record { entries = cond (countsBy a) (releasedIn (j .waiting) l (j .entries)) (j .entries); waiting = InFlight.Nothing }) j
 
 -- a close that passes adds a release to each entry without
 abbrev pub releasedAll : Journal → Journal

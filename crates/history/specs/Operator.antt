@@ -1,20 +1,19 @@
 -- What the operator of the grabber relies on (document 02, M-120): a cancel and its withdrawal, in either order, leave all as it was. Assumes nothing.
 use mathlib.Core.Bool.{Bool, true, false}
 use mathlib.Core.Path.{_≡_}
-use Rattle.models.specs.declared.RequestId.{RequestId}
-use Rattle.models.specs.declared.RequestReport.{RequestReport}
+use Rattle.models.specs.declared.{RequestId.RequestId, RequestReport.RequestReport}
 use Rattle.models.specs.declared.RequestState.the-variants.{Pending}
 use Rattle.session.specs.Session.{isBusy}
 use Rattle.calls.specs.Calls.{Changing, Cancel, Withdraw, Change, Read, Status}
 use Rattle.calls.specs.Step.{World, stepOf}
-use Rattle.calls.specs.declared.Answer.the-variants as answer
+use Rattle.calls.specs.declared.{Answer.Answer}
 use Rattle.runs.specs.Run.{next}
 
 -- nothing is in flight, and the id's report says Pending, with that cancel flag
 pub record Shows (w : World) (id : RequestId) (cancel : Bool) : Type 0 where
   pub idle : isBusy (w .session .«in_flight») ≡ false
   pub report : RequestReport
-  pub shown : stepOf (Read (Status id)) w .result .answer ≡ answer.Report report
+  pub shown : stepOf (Read (Status id)) w .result .answer ≡ Answer.Report report
   pub late : Bool
   pub state : report .state ≡ Pending cancel late
 

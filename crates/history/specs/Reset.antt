@@ -5,15 +5,12 @@ use mathlib.Core.List.{List, _∷_, _++_}
 use mathlib.Core.Logic.{_⊎_}
 use mathlib.Core.Path.{_≡_}
 use lib.ListN.{length}
-use Rattle.models.specs.declared.RequestId.{RequestId}
+use Rattle.models.specs.declared.{RequestId.RequestId}
 use Rattle.rows.specs.Table.{rowIn}
-use Rattle.rows.specs.declared.Row.{Row}
-use Rattle.session.specs.declared.InFlight.{InFlight}
-use Rattle.session.specs.declared.InFlight.the-variants as flight
-use Rattle.session.specs.declared.Recovery.{Recovery}
-use Rattle.session.specs.declared.RecoveryKind.{RecoveryKind}
+use Rattle.rows.specs.declared.{Row.Row}
+use Rattle.session.specs.declared.{InFlight.InFlight, Recovery.Recovery, RecoveryKind.RecoveryKind}
 use Rattle.recovery.specs.RecoveryReply.{ReplyLists}
-use Rattle.recovery.specs.declared.RecoveryReply.{RecoveryReply}
+use Rattle.recovery.specs.declared.{RecoveryReply.RecoveryReply}
 use Rattle.calls.specs.Step.{World}
 use Rattle.runs.specs.Run.{Handed, Event, historyOf, endOf}
 use Rattle.history.specs.Journal.{journalOf, blank}
@@ -25,10 +22,10 @@ Elsewhere x r = (r .metadata .device ≡ x .device → ⊥) ⊎ (r .metadata .en
 
 -- by the operation that waits: each request elsewhere is equal, whole; where it is no recovery, every row is
 abbrev pub OthersSame : InFlight → List Row → List Row → Type 0
-OthersSame flight.Nothing rows rows′ = rows′ ≡ rows
-OthersSame (flight.Submission id) rows rows′ = rows′ ≡ rows
-OthersSame (flight.Poll id) rows rows′ = rows′ ≡ rows
-OthersSame (flight.Recovery x) rows rows′ = (i : ℕ) → i < length rows → Elsewhere x (rowIn rows i) → rowIn rows′ i ≡ rowIn rows i
+OthersSame InFlight.Nothing rows rows′ = rows′ ≡ rows
+OthersSame (InFlight.Submission id) rows rows′ = rows′ ≡ rows
+OthersSame (InFlight.Poll id) rows rows′ = rows′ ≡ rows
+OthersSame (InFlight.Recovery x) rows rows′ = (i : ℕ) → i < length rows → Elsewhere x (rowIn rows i) → rowIn rows′ i ≡ rowIn rows i
 
 pub record ResetSpares (w : World) (es : List Event) : Type 0 where
   -- the start changes no row at all

@@ -4,13 +4,12 @@ use mathlib.Core.List.{List, _∷_}
 use Rattle.models.specs.Said.{Said, says, refused}
 use Rattle.rows.specs.Values.{reportValues}
 use Rattle.rules.specs.Said.{changeNumbers}
-use Rattle.rules.specs.declared.Change.{Change}
-use Rattle.ledger.specs.declared.Applied.{Applied}
-use Rattle.ledger.specs.declared.Applied.the-variants as applied
+use Rattle.rules.specs.declared.{Change.Change}
+use Rattle.ledger.specs.declared.{Applied.Applied}
 
 abbrev pub appliedSaid : Applied → Said
-appliedSaid (applied.Refused r) = refused r
-appliedSaid (applied.Done x) = says (reportValues x)
+appliedSaid (Applied.Refused r) = refused r
+appliedSaid (Applied.Done x) = says (reportValues x)
 
 abbrev pub applyNumbers : Change → List ℕ
 applyNumbers c = 40 ∷ changeNumbers c

@@ -28,10 +28,10 @@ use denote.Ref.{RefT}
 use denote.Shadow.{shadow}
 use denote.Slice.{MutSlice, ShrSlice, Room, sliceTy, slice-vals}
 use denote.Struct.Laws as LL
-use Rattle.models.specs.declared.RequestId.{RequestId}
+use Rattle.models.specs.declared.{RequestId.RequestId}
 use Rattle.models.proofs.RequestId as I
 use Rattle.models.proofs.RequestId.Laws as I′
-use Rattle.session.specs.declared.Session.{Session}
+use Rattle.session.specs.declared.{Session.Session}
 use Rattle.session.proofs.Session as S
 use Rattle.session.proofs.Session.Laws as S′
 

@@ -51,10 +51,10 @@ use denote.Triple.Spec.{tripleOf}
 use denote.Triple.Statement.{Contract, Triple}
 use denote.Triple.Table.{entered, cited}
 use denote.Triple.Walked.{Stays, stay-ref, stay-dropped, walkOf, goes-ref, goes-dropped, ends-at, walked, walk-meets}
-use Rattle.models.specs.declared.RequestId.{RequestId}
+use Rattle.models.specs.declared.{RequestId.RequestId}
 use Rattle.models.proofs.RequestId as I
 use Rattle.models.proofs.RequestId.Laws as I′
-use Rattle.session.specs.declared.Session.{Session}
+use Rattle.session.specs.declared.{Session.Session}
 use Rattle.session.proofs.Session as S
 use Rattle.session.proofs.Session.Laws as S′
 use Rattle.lent.proofs.Parts.{vSession, vId, Access, Rows, Answer, Outcome}

@@ -15,7 +15,7 @@ use Rattle.chain.proofs.Chain.{caseB}
 use Rattle.words.specs.Records.{splice}
 use Rattle.words.proofs.Records.{le-or-lt, splice-set}
 use Rattle.line_text.specs.Text.{decimalIn, decimal, valueFrom, space, newline, lineText, appended}
-use Rattle.line_text.specs.declared.Line.{Line}
+use Rattle.line_text.specs.declared.{Line.Line}
 use Rattle.line_text.proofs.Appended.{appended-then}
 
 -- what the digits of a list say, with one digit after them

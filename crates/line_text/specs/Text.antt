@@ -6,7 +6,7 @@ use lib.Dec.{ltb}
 use lib.ListN.{length}
 use Rattle.chain.specs.After.{After, after}
 use Rattle.words.specs.Records.{splice}
-use Rattle.line_text.specs.declared.Line.{Line}
+use Rattle.line_text.specs.declared.{Line.Line}
 
 -- the last digit comes after those of a tenth; k digits are enough for a number below 10 ^ k
 abbrev pub decimalIn : ℕ → ℕ → List ℕ

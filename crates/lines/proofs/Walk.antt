@@ -17,20 +17,18 @@ use Rattle.words.specs.Records.{splice}
 use Rattle.rows.specs.Store.{storeOf}
 use Rattle.bus.specs.Tables.{busOf}
 use Rattle.session.specs.Lent.{Lent, memory, lent}
-use Rattle.session.specs.declared.Session.{Session}
+use Rattle.session.specs.declared.{Session.Session}
 use Rattle.calls.specs.Step.{World, world, worldStore}
 use Rattle.paper.specs.Events.{eventCount, eventsOf, eventAt}
 use Rattle.paper.specs.Form.{isRefusedSize, isDamaged}
-use Rattle.paper.specs.declared.OptionEvent.{OptionEvent}
-use Rattle.paper.specs.declared.OptionEvent.the-variants as option
-use Rattle.paper.specs.declared.PaperEvent.{PaperEvent}
+use Rattle.paper.specs.declared.{OptionEvent.OptionEvent, PaperEvent.PaperEvent}
 use Rattle.paper.proofs.Papers.{events-end, event-some, event-none}
 use Rattle.paper_session.specs.Start.{blankLent, startOn}
 use Rattle.line_text.specs.Text.{decimal, newline, lineText, appended}
 use Rattle.marking.specs.Marking.{eventMarked}
 use Rattle.lines.specs.Lines.{damagedLine, eventLine, markedLine, markedWorld, linesFrom, linesText, textFrom, keyText}
-use Rattle.line_text.specs.declared.Line.{Line}
-use Rattle.marking.specs.declared.Marked.{Marked}
+use Rattle.line_text.specs.declared.{Line.Line}
+use Rattle.marking.specs.declared.{Marked.Marked}
 use Rattle.line_text.proofs.Appended.{appended-none, appended-again}
 use Rattle.line_text.proofs.Decimal.{line-text-length}
 
@@ -81,7 +79,7 @@ module _ (paper : List ℕ) (i : ℕ) (w : World) (at : ℕ) (out : List ℕ) (x
   pub walk-done : eventCount paper ≤ i → after at out ≡ x
   walk-done h = sym (appended-none at out) ∙ rw (events-end paper i h) at whole
 
-  module _ (o : OptionEvent) (e : PaperEvent) (read : o ≡ eventAt paper i) (some : o ≡ option.Some e) where
+  module _ (o : OptionEvent) (e : PaperEvent) (read : o ≡ eventAt paper i) (some : o ≡ OptionEvent.Some e) where
     next-event : drop i (eventsOf paper) ≡ e ∷ drop (suc i) (eventsOf paper)
     next-event = event-some paper i e (sym read ∙ some) .1
 

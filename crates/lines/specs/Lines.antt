@@ -5,27 +5,22 @@ use mathlib.Core.List.{List, [], _∷_, _++_}
 use lib.ListN.{length}
 use Rattle.chain.specs.After.{After}
 use Rattle.chain.specs.Chain.{_if_else_}
-use Rattle.models.specs.declared.RequestState.{RequestState}
+use Rattle.models.specs.declared.{RequestState.RequestState}
 use Rattle.models.specs.declared.RequestState.the-variants.{Pending, Completed, Failed, Aborted}
 use Rattle.rows.specs.Store.{Store}
 use Rattle.session.specs.Lent.{Lent}
-use Rattle.session.specs.declared.Session.{Session}
-use Rattle.reports.specs.declared.HeldAnswer.{HeldAnswer}
-use Rattle.reports.specs.declared.HeldAnswer.the-variants as held
-use Rattle.reports.specs.declared.OptionId.{OptionId}
-use Rattle.reports.specs.declared.OptionId.the-variants as option
-use Rattle.reports.specs.declared.ReportAnswer.{ReportAnswer}
-use Rattle.reports.specs.declared.ReportAnswer.the-variants as report
+use Rattle.session.specs.declared.{Session.Session}
+use Rattle.reports.specs.declared.{HeldAnswer.HeldAnswer, OptionId.OptionId, ReportAnswer.ReportAnswer}
 use Rattle.reports.specs.Status.{statusOf, heldCountOf}
 use Rattle.calls.specs.Step.{World, world, worldStore}
 use Rattle.paper.specs.Form.{isRefusedSize, isDamaged}
 use Rattle.paper.specs.Events.{eventsOf}
-use Rattle.paper.specs.declared.PaperEvent.{PaperEvent}
+use Rattle.paper.specs.declared.{PaperEvent.PaperEvent}
 use Rattle.paper_session.specs.Start.{blankLent, startOn}
 use Rattle.marking.specs.Marking.{eventMarked}
 use Rattle.line_text.specs.Text.{decimal, newline, lineText, appended}
-use Rattle.line_text.specs.declared.Line.{Line}
-use Rattle.marking.specs.declared.Marked.{Marked}
+use Rattle.line_text.specs.declared.{Line.Line}
+use Rattle.marking.specs.declared.{Marked.Marked}
 
 -- P, C, F, A, in ASCII
 abbrev pub stateLetter : RequestState → ℕ
@@ -39,17 +34,17 @@ abbrev pub noLetter : ℕ
 noLetter = 45
 
 abbrev pub letterBy : ReportAnswer → ℕ
-letterBy (report.Refused r) = noLetter
-letterBy (report.Report x) = stateLetter (x .state)
+letterBy (ReportAnswer.Refused r) = noLetter
+letterBy (ReportAnswer.Report x) = stateLetter (x .state)
 
 -- the state of an id, by its status
 abbrev pub letterOf : OptionId → Session → Store → ℕ
-letterOf option.None s store = noLetter
-letterOf (option.Some id) s store = letterBy (statusOf id s store)
+letterOf OptionId.None s store = noLetter
+letterOf (OptionId.Some id) s store = letterBy (statusOf id s store)
 
 abbrev pub heldNumber : HeldAnswer → ℕ
-heldNumber (held.Refused r) = 0
-heldNumber (held.Count n) = n
+heldNumber (HeldAnswer.Refused r) = 0
+heldNumber (HeldAnswer.Count n) = n
 
 -- how many rows are held
 abbrev pub heldIn : Session → Store → ℕ

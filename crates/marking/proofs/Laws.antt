@@ -10,67 +10,46 @@ use lib.Seq.{take-at}
 use borrow.Author.Tests.{eq-eqb, ne-eqb}
 use Rattle.chain.specs.After.{After, after}
 use Rattle.chain.specs.Lists.{foundIn}
-use Rattle.chain.specs.declared.Found.{Found}
-use Rattle.chain.specs.declared.Found.the-variants as found
+use Rattle.chain.specs.declared.{Found.Found}
 use Rattle.chain.proofs.Chain.{chain, if-all}
 use Rattle.chain.proofs.Listed.{listed-take}
 use Rattle.words.proofs.Parts.{take-cut}
-use Rattle.models.specs.declared.Refusal.{Refusal}
-use Rattle.models.specs.declared.RequestId.{RequestId}
-use Rattle.models.specs.declared.RequestReport.{RequestReport}
-use Rattle.models.specs.declared.RequestSpec.{RequestSpec}
+use Rattle.models.specs.declared.{Refusal.Refusal, RequestId.RequestId, RequestReport.RequestReport, RequestSpec.RequestSpec}
 use Rattle.rows.specs.Store.{Store}
 use Rattle.rows.specs.Table.{tokenIn}
-use Rattle.rows.specs.declared.Row.{Row}
+use Rattle.rows.specs.declared.{Row.Row}
 use Rattle.rules.specs.declared.Change.the-variants as change
 use Rattle.scope.specs.Affected.{affectedOf, tokensOf}
 use Rattle.scope.proofs.affected.Laws.{affected-most}
 use Rattle.bus.specs.Tables.{Bus}
-use Rattle.targets.specs.declared.Readings.{Readings}
+use Rattle.targets.specs.declared.{Readings.Readings}
 use Rattle.session.specs.Lent.{Memory, Lent, memory, lent}
-use Rattle.session.specs.declared.Recovery.{Recovery}
-use Rattle.session.specs.declared.RecoveryKind.{RecoveryKind}
+use Rattle.session.specs.declared.{Recovery.Recovery, RecoveryKind.RecoveryKind, Session.Session}
 use Rattle.session.specs.declared.RecoveryKind.the-variants.{Abort}
-use Rattle.session.specs.declared.Session.{Session}
 use Rattle.session.proofs.Said.{guarded-all}
 use Rattle.ledger.specs.Search.{isAt}
 use Rattle.reports.specs.Change.{changeOf}
 use Rattle.reports.specs.Said.{reportSaid}
-use Rattle.reports.specs.declared.OptionId.{OptionId}
-use Rattle.reports.specs.declared.OptionId.the-variants as option
-use Rattle.reports.specs.declared.ReportAnswer.{ReportAnswer}
-use Rattle.reports.specs.declared.ReportAnswer.the-variants as report
-use Rattle.reports.specs.declared.Reported.{Reported}
+use Rattle.reports.specs.declared.{OptionId.OptionId, ReportAnswer.ReportAnswer, Reported.Reported}
 use Rattle.submissions.specs.Submit.{request, submitOf}
 use Rattle.submissions.specs.SubmitReply.{submitReplyOf}
-use Rattle.submissions.specs.declared.SubmitAnswer.{SubmitAnswer}
-use Rattle.submissions.specs.declared.SubmitAnswer.the-variants as submit
+use Rattle.submissions.specs.declared.{Submission.Submission, SubmitAnswer.SubmitAnswer, Submitted.Submitted}
 use Rattle.submissions.specs.declared.SubmitReply.the-variants.{Token}
-use Rattle.submissions.specs.declared.Submission.{Submission}
-use Rattle.submissions.specs.declared.Submitted.{Submitted}
 use Rattle.polls.specs.Poll.{pollOf}
 use Rattle.polls.specs.PollReply.{pollReplyOf}
-use Rattle.polls.specs.declared.PollAnswer.{PollAnswer}
-use Rattle.polls.specs.declared.PollAnswer.the-variants as poll
-use Rattle.polls.specs.declared.PollReply.{PollReply}
-use Rattle.polls.specs.declared.Polled.{Polled}
+use Rattle.polls.specs.declared.{PollAnswer.PollAnswer, PollReply.PollReply, Polled.Polled}
 use Rattle.recovery.specs.Recover.{beginRefused, begunAs, beginRow, recoverBy, recoverOf}
 use Rattle.recovery.specs.RecoveryReply.{replyLists, recoveryReplyOf}
 use Rattle.recovery.specs.Said.{recoverySaid}
-use Rattle.recovery.specs.declared.BeginAnswer.{BeginAnswer}
-use Rattle.recovery.specs.declared.BeginAnswer.the-variants as begin
-use Rattle.recovery.specs.declared.Begun.{Begun}
-use Rattle.recovery.specs.declared.Recovered.{Recovered}
-use Rattle.recovery.specs.declared.RecoveryReply.{RecoveryReply}
+use Rattle.recovery.specs.declared.{BeginAnswer.BeginAnswer, Begun.Begun, Recovered.Recovered, RecoveryReply.RecoveryReply}
 use Rattle.calls.specs.Answers.{outcome, ofSubmit, ofPoll, ofReport, ofBegin, ofRecovery}
 use Rattle.calls.specs.Calls.{Call, Begin, Submit, Poll, Recover, Changing, Change, Cancel, Timeout, Reclaim}
 use Rattle.calls.specs.Step.{World, world, worldStore, submits, polls, reports, begins, changeBy, begunOf, repliedOf, stepOf}
-use Rattle.calls.specs.declared.Answer.{Answer}
-use Rattle.calls.specs.declared.Outcome.{Outcome}
+use Rattle.calls.specs.declared.{Answer.Answer, Outcome.Outcome}
 use Rattle.calls.proofs.Said.{report-same, recovery-same}
-use Rattle.paper.specs.declared.PaperEvent.{PaperEvent}
+use Rattle.paper.specs.declared.{PaperEvent.PaperEvent}
 use Rattle.marking.specs.Marking.{paperReadings, eventSpec, eventRequest, eventId, eventCall, eventReply, eventBytes, readyReply, affectedTokens, replyCalls, madeAfter, leaves, markedAs, markedBy, eventMarked}
-use Rattle.marking.specs.declared.Marked.{Marked}
+use Rattle.marking.specs.declared.{Marked.Marked}
 
 -- an event's calls start with the first, whose answer a is b
 marks-by : (e : PaperEvent) (w : World) (c : Call) (a b : Answer) (s : Session) (l : Lent) (x : After Marked Lent) → c ≡ eventCall e
@@ -112,23 +91,23 @@ module _ (e : PaperEvent) (s : Session) (l next : Lent) (k : e .kind ≡ 0) (don
       marks-by e (world s l) (Begin (Submit [] (eventRequest e))) (ofSubmit (done .answer)) (ofSubmit a) (done .session) next x submitting (ap submits h) (ap ofSubmit ea) ex
 
   -- refused: no id is shown
-  pub submit-refused : (r : Refusal) → done .answer ≡ submit.Refused r → after (leaves (r .number) option.None (done .session)) next ≡ eventMarked e (world s l)
+  pub submit-refused : (r : Refusal) → done .answer ≡ SubmitAnswer.Refused r → after (leaves (r .number) OptionId.None (done .session)) next ≡ eventMarked e (world s l)
   unfolding markedBy replyCalls
-  submit-refused r ea = submitted _ (submit.Refused r) ea (rw (eq-eqb (e .kind) 0 k))
+  submit-refused r ea = submitted _ (SubmitAnswer.Refused r) ea (rw (eq-eqb (e .kind) 0 k))
 
 -- and its reply
 module _ (e : PaperEvent) (s : Session) (l : Lent) (b : Bus) (store left : Store) (area : List ℕ) (k : e .kind ≡ 0) (done : Submitted)
     (h : after done (lent b (memory store area)) ≡ submitOf [] (eventRequest e) s l) where
   -- begun: the id that it was given is shown
-  pub submit-begun : (x : Submission) (y : Reported) (r : Marked) → done .answer ≡ submit.Begun x
+  pub submit-begun : (x : Submission) (y : Reported) (r : Marked) → done .answer ≡ SubmitAnswer.Begun x
       → after y left ≡ submitReplyOf (Token (x .id .sequence)) (done .session) store
-      → r ≡ leaves (reportSaid (y .answer) .number) (option.Some (x .id)) (y .session)
+      → r ≡ leaves (reportSaid (y .answer) .number) (OptionId.Some (x .id)) (y .session)
       → after r (lent b (memory left area)) ≡ eventMarked e (world s l)
   unfolding markedBy replyCalls stepOf repliedOf
   submit-begun x y r ea ey er =
-      submitted e s l (lent b (memory store area)) k done h _ (submit.Begun x) ea
-      (report-marks (option.Some (x .id)) y (lent b (memory left area)) r er
-      ∙ rw (eq-eqb (e .kind) 0 k) (ap (λ (z : After Reported Store). markedAs (option.Some (x .id))
+      submitted e s l (lent b (memory store area)) k done h _ (SubmitAnswer.Begun x) ea
+      (report-marks (OptionId.Some (x .id)) y (lent b (memory left area)) r er
+      ∙ rw (eq-eqb (e .kind) 0 k) (ap (λ (z : After Reported Store). markedAs (OptionId.Some (x .id))
       (after (outcome (ofReport (z .result .answer)) (z .result .session)) (lent b (memory (z .lent) area)))) ey))
 
 -- ---- kind 1
@@ -164,38 +143,38 @@ module _ (e : PaperEvent) (s : Session) (m : Memory) (k : e .kind ≡ 1) (id : R
       marks-by e w (Begin (Poll id)) (ofPoll (done .answer)) (ofPoll a) (done .session) (lent b m) x polling (ap (λ (z : Polled). polls z w) h) (ap ofPoll ea) ex
 
   -- refused
-  pub poll-refused : (r : Refusal) → done .answer ≡ poll.Refused r → (b : Bus)
-      → after (leaves (r .number) (option.Some id) (done .session)) (lent b m) ≡ eventMarked e (world s (lent b m))
+  pub poll-refused : (r : Refusal) → done .answer ≡ PollAnswer.Refused r → (b : Bus)
+      → after (leaves (r .number) (OptionId.Some id) (done .session)) (lent b m) ≡ eventMarked e (world s (lent b m))
   unfolding markedBy replyCalls
-  poll-refused r ea b = polled b _ (poll.Refused r) ea (rw (polled-kind, ei))
+  poll-refused r ea b = polled b _ (PollAnswer.Refused r) ea (rw (polled-kind, ei))
 
   -- reported, and asked for nothing
-  pub poll-told : (x : RequestReport) → done .answer ≡ poll.Report x → (b : Bus)
-      → after (leaves 0 (option.Some id) (done .session)) (lent b m) ≡ eventMarked e (world s (lent b m))
+  pub poll-told : (x : RequestReport) → done .answer ≡ PollAnswer.Report x → (b : Bus)
+      → after (leaves 0 (OptionId.Some id) (done .session)) (lent b m) ≡ eventMarked e (world s (lent b m))
   unfolding markedBy replyCalls
-  poll-told x ea b = polled b _ (poll.Report x) ea (rw (polled-kind, ei))
+  poll-told x ea b = polled b _ (PollAnswer.Report x) ea (rw (polled-kind, ei))
 
   -- and the reply that it asked for
-  pub poll-asked : (token : ℕ) (y : Reported) (left : Memory) (r : Marked) → done .answer ≡ poll.Asked token
+  pub poll-asked : (token : ℕ) (y : Reported) (left : Memory) (r : Marked) → done .answer ≡ PollAnswer.Asked token
       → after y left ≡ pollReplyOf (eventReply e) (eventBytes e) (done .session) m
-      → r ≡ leaves (reportSaid (y .answer) .number) (option.Some id) (y .session) → (b : Bus)
+      → r ≡ leaves (reportSaid (y .answer) .number) (OptionId.Some id) (y .session) → (b : Bus)
       → after r (lent b left) ≡ eventMarked e (world s (lent b m))
   unfolding markedBy replyCalls stepOf repliedOf
   poll-asked token y left r ea ey er b =
-      polled b _ (poll.Asked token) ea
-      (report-marks (option.Some id) y (lent b left) r er
-      ∙ rw (polled-kind, ei) (ap (λ (z : After Reported Memory). markedAs (option.Some (eventId e))
+      polled b _ (PollAnswer.Asked token) ea
+      (report-marks (OptionId.Some id) y (lent b left) r er
+      ∙ rw (polled-kind, ei) (ap (λ (z : After Reported Memory). markedAs (OptionId.Some (eventId e))
       (after (outcome (ofReport (z .result .answer)) (z .result .session)) (lent b (z .lent)))) ey))
 
 -- ---- kinds 2 to 4
 -- a change has no reply
 no-reply : (a : ReportAnswer) (e : PaperEvent) (rows : List Row) → replyCalls (ofReport a) e rows ≡ []
 unfolding replyCalls
-no-reply (report.Refused r) e rows = refl
-no-reply (report.Report x) e rows = refl
+no-reply (ReportAnswer.Refused r) e rows = refl
+no-reply (ReportAnswer.Report x) e rows = refl
 
 module _ (e : PaperEvent) (s : Session) (store left : Store) (k : (1 < e .kind) × (e .kind ≤ 4)) (id : RequestId) (ei : id ≡ eventId e)
-    (y : Reported) (r : Marked) (er : r ≡ leaves (reportSaid (y .answer) .number) (option.Some id) (y .session)) where
+    (y : Reported) (r : Marked) (er : r ≡ leaves (reportSaid (y .answer) .number) (OptionId.Some id) (y .session)) where
   -- whatever the bus and the area
   abbrev Marks : Type 0
   Marks = (b : Bus) (area : List ℕ) → after r (lent b (memory left area)) ≡ eventMarked e (world s (lent b (memory store area)))
@@ -212,8 +191,8 @@ module _ (e : PaperEvent) (s : Session) (store left : Store) (k : (1 < e .kind) 
       let a = ofReport (y .answer) in
       let l = lent b (memory left area) in
       marks-by e w (Change id c) a a (y .session) l _ ec (ap (λ (z : After Reported Store). reports z w) ey) refl
-      (report-marks (option.Some id) y l r er
-      ∙ rw (ei, changed-kind) (ap (λ (z : List Call). markedAs (option.Some (eventId e)) (madeAfter z (after (outcome a (y .session)) l))) (sym (no-reply (y .answer) e (store .rows)))))
+      (report-marks (OptionId.Some id) y l r er
+      ∙ rw (ei, changed-kind) (ap (λ (z : List Call). markedAs (OptionId.Some (eventId e)) (madeAfter z (after (outcome a (y .session)) l))) (sym (no-reply (y .answer) e (store .rows)))))
 
   -- kind 2
   pub cancel-marks : e .kind ≡ 2 → after y left ≡ changeOf id change.LogicalCancel s store → Marks
@@ -239,7 +218,7 @@ module _ (e : PaperEvent) (s : Session) (store left : Store) (k : (1 < e .kind) 
 -- ---- kind 5
 -- what a recovery that began lists are the affected tokens
 abbrev ListsAffected : List Row → Begun → Type 0
-ListsAffected rows y = (x : Recovery) → y .answer ≡ begin.Recover x → take (y .count) (y .tokens) ≡ affectedTokens x rows
+ListsAffected rows y = (x : Recovery) → y .answer ≡ BeginAnswer.Recover x → take (y .count) (y .tokens) ≡ affectedTokens x rows
 
 -- refused, there is nothing to list
 refused-lists : (rows : List Row) (s : Session) (r : Refusal) → ListsAffected rows (beginRefused s r)
@@ -257,8 +236,8 @@ begun-lists rows s x y e =
 -- of the row that was found, or none
 row-lists : (f : Found) (id : RequestId) (q : RecoveryKind) (s : Session) (rows : List Row) → ListsAffected rows (recoverBy f id q s rows)
 unfolding recoverBy beginRow
-row-lists found.Nothing id q s rows = refused-lists rows s _
-row-lists (found.At i) id q s rows =
+row-lists Found.Nothing id q s rows = refused-lists rows s _
+row-lists (Found.At i) id q s rows =
     if-all (ListsAffected rows) _ _ _ (refused-lists rows s _) (if-all (ListsAffected rows) _ _ _ (refused-lists rows s _) (begun-lists rows s _))
 
 -- of a whole recovery
@@ -305,23 +284,23 @@ module _ (e : PaperEvent) (s : Session) (m : Memory) (k : 4 < e .kind) (id : Req
       marks-by e w (Begin (Recover id Abort)) (ofBegin (done .answer)) (ofBegin a) (done .session) (lent b m) x aborting (ap (λ (z : Begun). begins z w) h) (ap ofBegin ea) ex
 
   -- refused
-  pub abort-refused : (r : Refusal) → done .answer ≡ begin.Refused r → (b : Bus)
-      → after (leaves (r .number) (option.Some id) (done .session)) (lent b m) ≡ eventMarked e (world s (lent b m))
+  pub abort-refused : (r : Refusal) → done .answer ≡ BeginAnswer.Refused r → (b : Bus)
+      → after (leaves (r .number) (OptionId.Some id) (done .session)) (lent b m) ≡ eventMarked e (world s (lent b m))
   unfolding markedBy replyCalls
-  abort-refused r ea b = aborted b _ (begin.Refused r) ea (rw (aborted-kind, ei))
+  abort-refused r ea b = aborted b _ (BeginAnswer.Refused r) ea (rw (aborted-kind, ei))
 
   -- and the reply to it
-  pub abort-begun : (x : Recovery) (y : Recovered) (left : Memory) (r : Marked) → done .answer ≡ begin.Recover x
+  pub abort-begun : (x : Recovery) (y : Recovered) (left : Memory) (r : Marked) → done .answer ≡ BeginAnswer.Recover x
       → after y left ≡ recoveryReplyOf readyReply (replyLists [] [] (take (done .count) (done .tokens)) []) (done .session) m
-      → r ≡ leaves (recoverySaid (y .answer) .number) (option.Some id) (y .session) → (b : Bus)
+      → r ≡ leaves (recoverySaid (y .answer) .number) (OptionId.Some id) (y .session) → (b : Bus)
       → after r (lent b left) ≡ eventMarked e (world s (lent b m))
   unfolding markedBy replyCalls stepOf repliedOf
   abort-begun x y left r ea ey er b =
       let told : ListsAffected (m .store .rows) done = rw h (recover-lists id Abort s (m .store)) in
       let same = ap (λ (l : List ℕ). recoveryReplyOf readyReply (replyLists [] [] l []) (done .session) m) (told x ea) in
-      aborted b _ (begin.Recover x) ea
-      (recovery-marks (option.Some id) y (lent b left) r er
-      ∙ rw (aborted-kind, ei) (ap (λ (z : After Recovered Memory). markedAs (option.Some (eventId e))
+      aborted b _ (BeginAnswer.Recover x) ea
+      (recovery-marks (OptionId.Some id) y (lent b left) r er
+      ∙ rw (aborted-kind, ei) (ap (λ (z : After Recovered Memory). markedAs (OptionId.Some (eventId e))
       (after (outcome (ofRecovery (z .result .answer)) (z .result .session)) (lent b (z .lent)))) (ey ∙ same)))
 
 -- ---- any kind

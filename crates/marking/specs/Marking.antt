@@ -7,47 +7,35 @@ use lib.Dec.{eqb}
 use lib.ListN.{replicate}
 use Rattle.chain.specs.After.{After, after}
 use Rattle.chain.specs.Chain.{_if_else_}
-use Rattle.words.specs.declared.OptionU32.the-variants as u32
-use Rattle.words.specs.declared.OptionU64.the-variants as u64
+use Rattle.words.specs.declared.{OptionU32.OptionU32, OptionU64.OptionU64}
 use Rattle.models.specs.Refusals.{ownError}
-use Rattle.models.specs.declared.BackendCompletion.{BackendCompletion}
+use Rattle.models.specs.declared.{BackendCompletion.BackendCompletion, ErrorCategory.ErrorCategory, OperationError.OperationError, OptionError.OptionError, OptionSetup.OptionSetup, RequestId.RequestId, RequestSpec.RequestSpec}
 use Rattle.models.specs.declared.Direction.the-variants.{In}
-use Rattle.models.specs.declared.ErrorCategory.the-variants as category
-use Rattle.models.specs.declared.OperationError.{OperationError}
-use Rattle.models.specs.declared.OptionError.{OptionError}
-use Rattle.models.specs.declared.OptionError.the-variants as error
-use Rattle.models.specs.declared.OptionSetup.the-variants as setup
 use Rattle.models.specs.declared.PortReading.the-variants.{Word}
-use Rattle.models.specs.declared.RequestId.{RequestId}
-use Rattle.models.specs.declared.RequestSpec.{RequestSpec}
 use Rattle.models.specs.declared.TransferType.the-variants.{Bulk}
 use Rattle.standards.specs.Fields.{bit}
-use Rattle.rows.specs.declared.Row.{Row}
+use Rattle.rows.specs.declared.{Row.Row}
 use Rattle.scope.specs.Affected.{affectedOf, tokensOf}
-use Rattle.targets.specs.declared.Readings.{Readings}
+use Rattle.targets.specs.declared.{Readings.Readings}
 use Rattle.bus.specs.Tables.{Bus}
 use Rattle.session.specs.Lent.{Slice, Lent, memory, lent, storeIn, storeOut, memoryIn, memoryOut}
-use Rattle.session.specs.declared.Recovery.{Recovery}
-use Rattle.session.specs.declared.Session.{Session}
+use Rattle.session.specs.declared.{Recovery.Recovery, Session.Session}
 use Rattle.session.specs.declared.RecoveryKind.the-variants.{Abort}
-use Rattle.reports.specs.declared.OptionId.{OptionId}
-use Rattle.reports.specs.declared.OptionId.the-variants as option
+use Rattle.reports.specs.declared.{OptionId.OptionId}
 use Rattle.submissions.specs.Submit.{Request, request}
 use Rattle.submissions.specs.declared.SubmitReply.the-variants.{Token}
-use Rattle.polls.specs.declared.PollReply.{PollReply}
-use Rattle.polls.specs.declared.PollReply.the-variants as reply
+use Rattle.polls.specs.declared.{PollReply.PollReply}
 use Rattle.recovery.specs.RecoveryReply.{replyLists}
-use Rattle.recovery.specs.declared.RecoveryReply.{RecoveryReply}
+use Rattle.recovery.specs.declared.{RecoveryReply.RecoveryReply}
 use Rattle.recovery.specs.declared.RecoveryReply.the-variants.{Done}
 use Rattle.calls.specs.Calls.{Call, Begin, Submit, Poll, Recover, Reply, ToSubmit, ToPoll, ToRecovery, Change, Cancel, Timeout, Reclaim}
 use Rattle.calls.specs.Said.{answerSaid}
 use Rattle.calls.specs.Step.{World, world, worldStore, stepOf}
-use Rattle.calls.specs.declared.Answer.{Answer}
-use Rattle.calls.specs.declared.Answer.the-variants as answer
-use Rattle.calls.specs.declared.Outcome.{Outcome}
-use Rattle.paper.specs.declared.PaperEvent.{PaperEvent}
+use Rattle.calls.specs.Answers.{begunId}
+use Rattle.calls.specs.declared.{Answer.Answer, Outcome.Outcome}
+use Rattle.paper.specs.declared.{PaperEvent.PaperEvent}
 use Rattle.paper_session.specs.Start.{slotDevice, paperReading, handedOn}
-use Rattle.marking.specs.declared.Marked.{Marked}
+use Rattle.marking.specs.declared.{Marked.Marked}
 
 -- ---- the first call
 
@@ -62,7 +50,7 @@ eventSpec e = record {
   «transfer_type» = Bulk;
   direction = In;
   length = e .length;
-  setup = setup.None;
+  setup = OptionSetup.None;
 }
 
 abbrev pub eventRequest : PaperEvent → Request
@@ -85,15 +73,15 @@ eventCall e =
 
 -- RecoveryRequired, with the event's code; message 0 and no system number
 abbrev pub eventError : PaperEvent → OperationError
-eventError e = ownError category.RecoveryRequired 0 (u32.Some (e .code))
+eventError e = ownError ErrorCategory.RecoveryRequired 0 (OptionU32.Some (e .code))
 
 abbrev pub errorFlag : PaperEvent → OptionError
-errorFlag e = cond (bit 1 (e .flags)) (error.Some (eventError e)) error.None
+errorFlag e = cond (bit 1 (e .flags)) (OptionError.Some (eventError e)) OptionError.None
 
 abbrev pub eventCompletion : PaperEvent → BackendCompletion
 eventCompletion e = record {
-  «actual_length» = u64.Some (e .length);
-  «completion_code» = u32.Some (e .code);
+  «actual_length» = OptionU64.Some (e .length);
+  «completion_code» = OptionU32.Some (e .code);
   «has_data» = true;
   error = errorFlag e;
   quiescent = bit 0 (e .flags);
@@ -101,7 +89,7 @@ eventCompletion e = record {
 
 -- without the first flag nothing came, and the rest is unread
 abbrev pub eventReply : PaperEvent → PollReply
-eventReply e = cond (bit 2 (e .flags)) (reply.Completion (eventCompletion e)) reply.Nothing
+eventReply e = cond (bit 2 (e .flags)) (PollReply.Completion (eventCompletion e)) PollReply.Nothing
 
 -- zeros, as many as the length, at most 256
 abbrev pub eventBytes : PaperEvent → List ℕ
@@ -109,7 +97,7 @@ eventBytes e = replicate (min (e .length) 256) 0
 
 -- kind 5: ready, without error
 abbrev pub readyReply : RecoveryReply
-readyReply = Done (record { «restart_ready» = true; error = error.None })
+readyReply = Done (record { «restart_ready» = true; error = OptionError.None })
 
 -- the tokens of all affected requests, by ascending id
 abbrev pub affectedTokens : Recovery → List Row → List ℕ
@@ -117,17 +105,17 @@ affectedTokens x rows = tokensOf rows (affectedOf (x .device) (x .endpoint) rows
 
 -- where the call opened an operation, the reply to it; else it is dropped. A submission's token is its id's sequence
 unfoldable pub replyCalls : Answer → PaperEvent → List Row → List Call
-replyCalls (answer.Refused r) e rows = []
-replyCalls answer.Pass e rows = []
-replyCalls (answer.Begun x) e rows = Reply (ToSubmit (Token (x .id .sequence))) ∷ []
-replyCalls (answer.PlanBegun x) e rows = []
-replyCalls (answer.Report x) e rows = []
-replyCalls answer.NoReport e rows = []
-replyCalls (answer.Asked token) e rows = Reply (ToPoll (eventReply e) (eventBytes e)) ∷ []
-replyCalls (answer.Number n) e rows = []
-replyCalls (answer.Bytes p) e rows = []
-replyCalls (answer.Recovering x) e rows = Reply (ToRecovery readyReply (replyLists [] [] (affectedTokens x rows) [])) ∷ []
-replyCalls (answer.Recovered x) e rows = []
+replyCalls (Answer.Refused r) e rows = []
+replyCalls Answer.Pass e rows = []
+replyCalls (Answer.Begun x) e rows = Reply (ToSubmit (Token (x .id .sequence))) ∷ []
+replyCalls (Answer.PlanBegun x) e rows = []
+replyCalls (Answer.Report x) e rows = []
+replyCalls Answer.NoReport e rows = []
+replyCalls (Answer.Asked token) e rows = Reply (ToPoll (eventReply e) (eventBytes e)) ∷ []
+replyCalls (Answer.Number n) e rows = []
+replyCalls (Answer.Bytes p) e rows = []
+replyCalls (Answer.Recovering x) e rows = Reply (ToRecovery readyReply (replyLists [] [] (affectedTokens x rows) [])) ∷ []
+replyCalls (Answer.Recovered x) e rows = []
 
 -- calls after an outcome
 abbrev pub madeAfter : List Call → After Outcome Lent → After Outcome Lent
@@ -136,23 +124,9 @@ madeAfter (c ∷ cs) o = madeAfter cs (stepOf c (handedOn o))
 
 -- ---- what the line shows
 
--- the id that a submission was given
-abbrev pub newIdIn : Answer → OptionId
-newIdIn (answer.Refused r) = option.None
-newIdIn answer.Pass = option.None
-newIdIn (answer.Begun x) = option.Some (x .id)
-newIdIn (answer.PlanBegun x) = option.None
-newIdIn (answer.Report x) = option.None
-newIdIn answer.NoReport = option.None
-newIdIn (answer.Asked token) = option.None
-newIdIn (answer.Number n) = option.None
-newIdIn (answer.Bytes p) = option.None
-newIdIn (answer.Recovering x) = option.None
-newIdIn (answer.Recovered x) = option.None
-
 -- whose state is shown: the submission's new id, none where it was refused; in kinds 1 to 5 the event's id
 abbrev pub shownId : Answer → PaperEvent → OptionId
-shownId a e = cond (eqb (e .kind) 0) (newIdIn a) (option.Some (eventId e))
+shownId a e = cond (eqb (e .kind) 0) (begunId a) (OptionId.Some (eventId e))
 
 -- what an event's calls leave: the refusal's number or 0, the id whose state is shown, the session
 abbrev pub leaves : ℕ → OptionId → Session → Marked

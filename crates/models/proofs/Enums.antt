@@ -1,45 +1,36 @@
 -- An enum of no data is what its word says. Assumes nothing.
 use mathlib.Core.Path.{_≡_, refl}
 use Rattle.models.specs.Codes.{readCategory, categoryWord, readTransfer, transferWord, readDirection, directionWord, readProfile, profileWord, readDeviceState, deviceStateWord}
-use Rattle.models.specs.declared.ErrorCategory.{ErrorCategory}
-use Rattle.models.specs.declared.ErrorCategory.the-variants as category
-use Rattle.models.specs.declared.TransferType.{TransferType}
-use Rattle.models.specs.declared.TransferType.the-variants as transfer
-use Rattle.models.specs.declared.Direction.{Direction}
-use Rattle.models.specs.declared.Direction.the-variants as direction
-use Rattle.models.specs.declared.ControlProfile.{ControlProfile}
-use Rattle.models.specs.declared.ControlProfile.the-variants as profile
-use Rattle.models.specs.declared.DeviceState.{DeviceState}
-use Rattle.models.specs.declared.DeviceState.the-variants as device
+use Rattle.models.specs.declared.{ControlProfile.ControlProfile, DeviceState.DeviceState, Direction.Direction, ErrorCategory.ErrorCategory, TransferType.TransferType}
 
 pub category-back : (x : ErrorCategory) → readCategory (categoryWord x) ≡ x
-category-back category.Validation = refl
-category-back category.Unsupported = refl
-category-back category.OperatingSystem = refl
-category-back category.Controller = refl
-category-back category.Timeout = refl
-category-back category.Disconnect = refl
-category-back category.RecoveryRequired = refl
+category-back ErrorCategory.Validation = refl
+category-back ErrorCategory.Unsupported = refl
+category-back ErrorCategory.OperatingSystem = refl
+category-back ErrorCategory.Controller = refl
+category-back ErrorCategory.Timeout = refl
+category-back ErrorCategory.Disconnect = refl
+category-back ErrorCategory.RecoveryRequired = refl
 
 pub transfer-back : (x : TransferType) → readTransfer (transferWord x) ≡ x
-transfer-back transfer.Control = refl
-transfer-back transfer.Bulk = refl
-transfer-back transfer.Interrupt = refl
-transfer-back transfer.Isochronous = refl
+transfer-back TransferType.Control = refl
+transfer-back TransferType.Bulk = refl
+transfer-back TransferType.Interrupt = refl
+transfer-back TransferType.Isochronous = refl
 
 pub direction-back : (x : Direction) → readDirection (directionWord x) ≡ x
-direction-back direction.In = refl
-direction-back direction.Out = refl
+direction-back Direction.In = refl
+direction-back Direction.Out = refl
 
 pub profile-back : (x : ControlProfile) → readProfile (profileWord x) ≡ x
-profile-back profile.Compliant = refl
-profile-back profile.DeviceCompatibility = refl
+profile-back ControlProfile.Compliant = refl
+profile-back ControlProfile.DeviceCompatibility = refl
 
 pub device-state-back : (x : DeviceState) → readDeviceState (deviceStateWord x) ≡ x
-device-state-back device.Observed = refl
-device-state-back device.PortReset = refl
-device-state-back device.SlotEnabled = refl
-device-state-back device.DefaultAddress = refl
-device-state-back device.Addressed = refl
-device-state-back device.Configured = refl
-device-state-back device.Disconnected = refl
+device-state-back DeviceState.Observed = refl
+device-state-back DeviceState.PortReset = refl
+device-state-back DeviceState.SlotEnabled = refl
+device-state-back DeviceState.DefaultAddress = refl
+device-state-back DeviceState.Addressed = refl
+device-state-back DeviceState.Configured = refl
+device-state-back DeviceState.Disconnected = refl

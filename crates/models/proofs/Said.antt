@@ -1,21 +1,21 @@
 -- Laws of `Tabled`: of an answer and of a refusal, of a chain, of a longer list, and of what equals its definition. Assumes nothing.
 use Prim.Native.Nat.{ℕ}
-use mathlib.Core.Bool.{Bool, true, false, not, _&&_, _||_}
+use mathlib.Core.Bool.{Bool, true, false, not, _&&_, _||_, false≢true}
 use mathlib.Core.List.{List, [], _∷_}
-use mathlib.Core.Path.{_≡_, refl, sym, subst}
-use borrow.Author.Tests.{eq-eqb}
+use mathlib.Core.Path.{_≡_, refl, sym, subst, _∙_}
+use borrow.Author.Tests.{eq-eqb, eqb-true}
 use lib.Dec.{eqb}
 use Rattle.chain.specs.Chain.{_if_else_}
 use Rattle.chain.specs.Lists.{isAmong, allIn}
-use Rattle.chain.proofs.Chain.{both, if-all}
-use Rattle.chain.proofs.Lists.{all-in}
+use Rattle.chain.proofs.Chain.{caseB, both, if-all}
+use Rattle.chain.proofs.Lists.{all-in, in-cons}
 use Rattle.words.specs.Words.{optionU32Word}
-use Rattle.words.specs.declared.OptionU32.{OptionU32}
+use Rattle.words.specs.declared.{OptionU32.OptionU32}
 use Rattle.models.specs.Codes.{categoryWord}
 use Rattle.models.specs.Refusals.{tableCategory, refusalOf, rejected, fromBackend, invalidCompletion}
 use Rattle.models.specs.Said.{Said, says, refused, verdictSaid, isTableError, isTabled, Tabled}
-use Rattle.models.specs.declared.OperationError.{OperationError}
-use Rattle.models.specs.declared.Verdict.{Verdict}
+use Rattle.models.specs.Values.{errorWords}
+use Rattle.models.specs.declared.{OperationError.OperationError, Refusal.Refusal, Verdict.Verdict}
 
 or-true : (a : Bool) → (a || true) ≡ true
 or-true true = refl
@@ -61,3 +61,19 @@ tabled-in ms ns a x h = within ms ns a (x .isRefused) (x .number) (isTableError 
 -- what a definition says is what equals it says
 pub said-of : {A : Type 0} (P : A → Type 0) (x y : A) → x ≡ y → P y → (x ≡ y) × P x
 said-of P x y e h = (e, subst P (sym e) h)
+
+-- what every number of a list passes, a refusal by one of them passes
+abbrev pub every : (ℕ → Bool) → List ℕ → Bool
+every p [] = true
+every p (n ∷ ns) = p n && every p ns
+
+passes : (p : ℕ → Bool) (ns : List ℕ) (n : ℕ) → every p ns ≡ true → isAmong n ns ≡ true → p n ≡ true
+passes p [] n a e = absurd (false≢true e)
+passes p (m ∷ ms) n a e =
+    let k = both (p m) (every p ms) a in
+    let o : (eqb n m || isAmong n ms) ≡ true = sym (in-cons n m ms) ∙ e in
+    caseB (eqb n m) (λ y. subst (λ (x : ℕ). p x ≡ true) (sym (eqb-true n m y)) (k .0)) (λ y. passes p ms n (k .1) (rw y at o))
+
+pub tabled-number : (p : ℕ → Bool) (ns : List ℕ) → every p ns ≡ true → (r : Refusal) → Tabled ns (refused r) → p (r .number) ≡ true
+unfolding Tabled
+tabled-number p ns a r h = passes p ns (r .number) a (both (isAmong (r .number) ns) (isTableError (r .number) (errorWords (r .error))) h .0)

@@ -2,96 +2,85 @@
 use Prim.Native.Nat.{ℕ}
 use mathlib.Core.List.{List, [], _∷_}
 use lib.ListN.{getD}
-use Rattle.models.specs.declared.ErrorCategory.{ErrorCategory}
-use Rattle.models.specs.declared.ErrorCategory.the-variants as category
-use Rattle.models.specs.declared.TransferType.{TransferType}
-use Rattle.models.specs.declared.TransferType.the-variants as transfer
-use Rattle.models.specs.declared.Direction.{Direction}
-use Rattle.models.specs.declared.Direction.the-variants as direction
-use Rattle.models.specs.declared.ControlProfile.{ControlProfile}
-use Rattle.models.specs.declared.ControlProfile.the-variants as profile
-use Rattle.models.specs.declared.DeviceState.{DeviceState}
-use Rattle.models.specs.declared.DeviceState.the-variants as device
-use Rattle.models.specs.declared.ControllerState.{ControllerState}
-use Rattle.models.specs.declared.ControllerState.the-variants as controller
+use Rattle.models.specs.declared.{ControlProfile.ControlProfile, ControllerState.ControllerState, DeviceState.DeviceState, Direction.Direction, ErrorCategory.ErrorCategory, TransferType.TransferType}
 
 -- all but the last
 abbrev pub categories : List ErrorCategory
-categories = category.Validation ∷ category.Unsupported ∷ category.OperatingSystem ∷ category.Controller ∷ category.Timeout ∷ category.Disconnect ∷ []
+categories = ErrorCategory.Validation ∷ ErrorCategory.Unsupported ∷ ErrorCategory.OperatingSystem ∷ ErrorCategory.Controller ∷ ErrorCategory.Timeout ∷ ErrorCategory.Disconnect ∷ []
 
 abbrev pub readCategory : ℕ → ErrorCategory
-readCategory w = getD categories w category.RecoveryRequired
+readCategory w = getD categories w ErrorCategory.RecoveryRequired
 
 abbrev pub categoryWord : ErrorCategory → ℕ
-categoryWord category.Validation = 0
-categoryWord category.Unsupported = 1
-categoryWord category.OperatingSystem = 2
-categoryWord category.Controller = 3
-categoryWord category.Timeout = 4
-categoryWord category.Disconnect = 5
-categoryWord category.RecoveryRequired = 6
+categoryWord ErrorCategory.Validation = 0
+categoryWord ErrorCategory.Unsupported = 1
+categoryWord ErrorCategory.OperatingSystem = 2
+categoryWord ErrorCategory.Controller = 3
+categoryWord ErrorCategory.Timeout = 4
+categoryWord ErrorCategory.Disconnect = 5
+categoryWord ErrorCategory.RecoveryRequired = 6
 
 -- all but the last
 abbrev pub transfers : List TransferType
-transfers = transfer.Control ∷ transfer.Bulk ∷ transfer.Interrupt ∷ []
+transfers = TransferType.Control ∷ TransferType.Bulk ∷ TransferType.Interrupt ∷ []
 
 abbrev pub readTransfer : ℕ → TransferType
-readTransfer w = getD transfers w transfer.Isochronous
+readTransfer w = getD transfers w TransferType.Isochronous
 
 abbrev pub transferWord : TransferType → ℕ
-transferWord transfer.Control = 0
-transferWord transfer.Bulk = 1
-transferWord transfer.Interrupt = 2
-transferWord transfer.Isochronous = 3
+transferWord TransferType.Control = 0
+transferWord TransferType.Bulk = 1
+transferWord TransferType.Interrupt = 2
+transferWord TransferType.Isochronous = 3
 
 -- all but the last
 abbrev pub directions : List Direction
-directions = direction.In ∷ []
+directions = Direction.In ∷ []
 
 abbrev pub readDirection : ℕ → Direction
-readDirection w = getD directions w direction.Out
+readDirection w = getD directions w Direction.Out
 
 abbrev pub directionWord : Direction → ℕ
-directionWord direction.In = 0
-directionWord direction.Out = 1
+directionWord Direction.In = 0
+directionWord Direction.Out = 1
 
 -- all but the last
 abbrev pub profiles : List ControlProfile
-profiles = profile.Compliant ∷ []
+profiles = ControlProfile.Compliant ∷ []
 
 abbrev pub readProfile : ℕ → ControlProfile
-readProfile w = getD profiles w profile.DeviceCompatibility
+readProfile w = getD profiles w ControlProfile.DeviceCompatibility
 
 abbrev pub profileWord : ControlProfile → ℕ
-profileWord profile.Compliant = 0
-profileWord profile.DeviceCompatibility = 1
+profileWord ControlProfile.Compliant = 0
+profileWord ControlProfile.DeviceCompatibility = 1
 
 -- all but the last
 abbrev pub deviceStates : List DeviceState
-deviceStates = device.Observed ∷ device.PortReset ∷ device.SlotEnabled ∷ device.DefaultAddress ∷ device.Addressed ∷ device.Configured ∷ []
+deviceStates = DeviceState.Observed ∷ DeviceState.PortReset ∷ DeviceState.SlotEnabled ∷ DeviceState.DefaultAddress ∷ DeviceState.Addressed ∷ DeviceState.Configured ∷ []
 
 abbrev pub readDeviceState : ℕ → DeviceState
-readDeviceState w = getD deviceStates w device.Disconnected
+readDeviceState w = getD deviceStates w DeviceState.Disconnected
 
 abbrev pub deviceStateWord : DeviceState → ℕ
-deviceStateWord device.Observed = 0
-deviceStateWord device.PortReset = 1
-deviceStateWord device.SlotEnabled = 2
-deviceStateWord device.DefaultAddress = 3
-deviceStateWord device.Addressed = 4
-deviceStateWord device.Configured = 5
-deviceStateWord device.Disconnected = 6
+deviceStateWord DeviceState.Observed = 0
+deviceStateWord DeviceState.PortReset = 1
+deviceStateWord DeviceState.SlotEnabled = 2
+deviceStateWord DeviceState.DefaultAddress = 3
+deviceStateWord DeviceState.Addressed = 4
+deviceStateWord DeviceState.Configured = 5
+deviceStateWord DeviceState.Disconnected = 6
 
 -- all but the last
 abbrev pub controllers : List ControllerState
-controllers = controller.Closed ∷ controller.AcquiredUnknown ∷ controller.Initialized ∷ controller.Closing ∷ []
+controllers = ControllerState.Closed ∷ ControllerState.AcquiredUnknown ∷ ControllerState.Initialized ∷ ControllerState.Closing ∷ []
 
 abbrev pub readController : ℕ → ControllerState
-readController w = getD controllers w controller.RecoveryRequired
+readController w = getD controllers w ControllerState.RecoveryRequired
 
 abbrev pub controllerWord : ControllerState → ℕ
-controllerWord controller.Closed = 0
-controllerWord controller.AcquiredUnknown = 1
-controllerWord controller.Initialized = 2
-controllerWord controller.Closing = 3
-controllerWord controller.RecoveryRequired = 4
+controllerWord ControllerState.Closed = 0
+controllerWord ControllerState.AcquiredUnknown = 1
+controllerWord ControllerState.Initialized = 2
+controllerWord ControllerState.Closing = 3
+controllerWord ControllerState.RecoveryRequired = 4

@@ -1,49 +1,44 @@
 -- Tests on the enums of no data. Assumes nothing.
 use mathlib.Core.Bool.{Bool, true, false}
-use Rattle.models.specs.declared.Direction.{Direction}
-use Rattle.models.specs.declared.Direction.the-variants as direction
-use Rattle.models.specs.declared.TransferType.{TransferType}
-use Rattle.models.specs.declared.TransferType.the-variants as transfer
-use Rattle.models.specs.declared.DeviceState.{DeviceState}
-use Rattle.models.specs.declared.DeviceState.the-variants as device
+use Rattle.models.specs.declared.{DeviceState.DeviceState, Direction.Direction, TransferType.TransferType}
 
 abbrev pub isIn : Direction → Bool
-isIn direction.In = true
-isIn direction.Out = false
+isIn Direction.In = true
+isIn Direction.Out = false
 
 abbrev pub isControl : TransferType → Bool
-isControl transfer.Control = true
-isControl transfer.Bulk = false
-isControl transfer.Interrupt = false
-isControl transfer.Isochronous = false
+isControl TransferType.Control = true
+isControl TransferType.Bulk = false
+isControl TransferType.Interrupt = false
+isControl TransferType.Isochronous = false
 
 abbrev pub isBulk : TransferType → Bool
-isBulk transfer.Control = false
-isBulk transfer.Bulk = true
-isBulk transfer.Interrupt = false
-isBulk transfer.Isochronous = false
+isBulk TransferType.Control = false
+isBulk TransferType.Bulk = true
+isBulk TransferType.Interrupt = false
+isBulk TransferType.Isochronous = false
 
 abbrev pub isIsochronous : TransferType → Bool
-isIsochronous transfer.Control = false
-isIsochronous transfer.Bulk = false
-isIsochronous transfer.Interrupt = false
-isIsochronous transfer.Isochronous = true
+isIsochronous TransferType.Control = false
+isIsochronous TransferType.Bulk = false
+isIsochronous TransferType.Interrupt = false
+isIsochronous TransferType.Isochronous = true
 
 -- DefaultAddress, Addressed or Configured
 abbrev pub isPrepared : DeviceState → Bool
-isPrepared device.Observed = false
-isPrepared device.PortReset = false
-isPrepared device.SlotEnabled = false
-isPrepared device.DefaultAddress = true
-isPrepared device.Addressed = true
-isPrepared device.Configured = true
-isPrepared device.Disconnected = false
+isPrepared DeviceState.Observed = false
+isPrepared DeviceState.PortReset = false
+isPrepared DeviceState.SlotEnabled = false
+isPrepared DeviceState.DefaultAddress = true
+isPrepared DeviceState.Addressed = true
+isPrepared DeviceState.Configured = true
+isPrepared DeviceState.Disconnected = false
 
 abbrev pub isConfigured : DeviceState → Bool
-isConfigured device.Observed = false
-isConfigured device.PortReset = false
-isConfigured device.SlotEnabled = false
-isConfigured device.DefaultAddress = false
-isConfigured device.Addressed = false
-isConfigured device.Configured = true
-isConfigured device.Disconnected = false
+isConfigured DeviceState.Observed = false
+isConfigured DeviceState.PortReset = false
+isConfigured DeviceState.SlotEnabled = false
+isConfigured DeviceState.DefaultAddress = false
+isConfigured DeviceState.Addressed = false
+isConfigured DeviceState.Configured = true
+isConfigured DeviceState.Disconnected = false

@@ -3,19 +3,14 @@ use Prim.Native.Nat.{ℕ}
 use mathlib.Core.Bool.{Bool, _||_}
 use lib.Dec.{eqb}
 use Rattle.chain.specs.Chain.{_if_else_}
-use Rattle.words.specs.declared.OptionI32.the-variants as i32
-use Rattle.words.specs.declared.OptionU32.{OptionU32}
-use Rattle.words.specs.declared.OptionU32.the-variants as u32
-use Rattle.models.specs.declared.ErrorCategory.{ErrorCategory}
+use Rattle.words.specs.declared.{OptionI32.OptionI32, OptionU32.OptionU32}
+use Rattle.models.specs.declared.{ErrorCategory.ErrorCategory, OperationError.OperationError, Refusal.Refusal, Verdict.Verdict}
 use Rattle.models.specs.declared.ErrorCategory.the-variants.{Validation, Unsupported, RecoveryRequired}
-use Rattle.models.specs.declared.OperationError.{OperationError}
-use Rattle.models.specs.declared.Refusal.{Refusal}
-use Rattle.models.specs.declared.Verdict.{Verdict}
 use Rattle.models.specs.declared.Verdict.the-variants.{Refused}
 
 -- an error whose message is the number n
 abbrev pub ownError : ErrorCategory → ℕ → OptionU32 → OperationError
-ownError c n code = record { category = c; message = n; «os_code» = i32.None; «completion_code» = code }
+ownError c n code = record { category = c; message = n; «os_code» = OptionI32.None; «completion_code» = code }
 
 -- 33 and 45 carry the backend's error
 abbrev pub fromBackend : ℕ → OperationError → Refusal
@@ -34,7 +29,7 @@ tableCategory n =
 
 -- a refusal of our own, by its number
 abbrev pub refusalOf : ℕ → Refusal
-refusalOf n = fromBackend n (ownError (tableCategory n) n u32.None)
+refusalOf n = fromBackend n (ownError (tableCategory n) n OptionU32.None)
 
 abbrev pub rejected : ℕ → Verdict
 rejected n = Refused (refusalOf n)

@@ -2,9 +2,7 @@
 use mathlib.Core.Bool.{Bool, true, false, not, _&&_}
 use lib.Dec.{eqb, ltb}
 use Rattle.chain.specs.Chain.{_if_else_}
-use Rattle.models.specs.declared.RequestId.{RequestId}
-use Rattle.models.specs.declared.DeviceId.{DeviceId}
-use Rattle.models.specs.declared.RequestState.{RequestState}
+use Rattle.models.specs.declared.{DeviceId.DeviceId, RequestId.RequestId, RequestState.RequestState}
 use Rattle.models.specs.declared.RequestState.the-variants.{Pending, Completed, Failed, Aborted}
 
 -- document 01's "held": Pending, or Failed and not quiescent

@@ -10,9 +10,7 @@ use Rattle.chain.specs.Lists.{isAmong}
 use Rattle.models.specs.Codes.{categoryWord}
 use Rattle.models.specs.Refusals.{tableCategory}
 use Rattle.models.specs.Values.{errorWords}
-use Rattle.models.specs.declared.Refusal.{Refusal}
-use Rattle.models.specs.declared.Verdict.{Verdict}
-use Rattle.models.specs.declared.Verdict.the-variants as verdict
+use Rattle.models.specs.declared.{Refusal.Refusal, Verdict.Verdict}
 
 -- the number is 0 where the call is not refused
 pub record Said : Type 0 where
@@ -28,8 +26,8 @@ abbrev pub refused : Refusal → Said
 refused r = record { isRefused = true; number = r .number; values = errorWords (r .error) }
 
 abbrev pub verdictSaid : Verdict → Said
-verdictSaid (verdict.Refused r) = refused r
-verdictSaid verdict.Pass = says []
+verdictSaid (Verdict.Refused r) = refused r
+verdictSaid Verdict.Pass = says []
 
 -- the table's error of number n: its category, the number as message, no system number and no code, but 48's is the completion's.
 -- 33 and 45 have the backend's error, whatever it is

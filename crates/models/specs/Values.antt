@@ -4,17 +4,7 @@ use mathlib.Core.List.{List, [], _∷_, _++_}
 use lib.ListN.{replicate}
 use Rattle.words.specs.Words.{optionU32Word, optionI32Word}
 use Rattle.models.specs.Codes.{categoryWord, transferWord, directionWord, deviceStateWord}
-use Rattle.models.specs.declared.DeviceId.{DeviceId}
-use Rattle.models.specs.declared.DeviceSnapshot.{DeviceSnapshot}
-use Rattle.models.specs.declared.OperationError.{OperationError}
-use Rattle.models.specs.declared.OptionError.{OptionError}
-use Rattle.models.specs.declared.OptionError.the-variants as error
-use Rattle.models.specs.declared.OptionSetup.{OptionSetup}
-use Rattle.models.specs.declared.OptionSetup.the-variants as setup
-use Rattle.models.specs.declared.PortId.{PortId}
-use Rattle.models.specs.declared.RequestId.{RequestId}
-use Rattle.models.specs.declared.RequestMetadata.{RequestMetadata}
-use Rattle.models.specs.declared.SetupWords.{SetupWords}
+use Rattle.models.specs.declared.{DeviceId.DeviceId, DeviceSnapshot.DeviceSnapshot, OperationError.OperationError, OptionError.OptionError, OptionSetup.OptionSetup, PortId.PortId, RequestId.RequestId, RequestMetadata.RequestMetadata, SetupWords.SetupWords}
 
 abbrev pub requestIdWords : RequestId → List ℕ
 requestIdWords x = x .session ∷ x .generation ∷ x .sequence ∷ []
@@ -34,12 +24,12 @@ errorWords e = categoryWord (e .category) ∷ e .message ∷ optionI32Word (e .�
 
 -- five: a flag, and the error
 abbrev pub optionErrorWords : OptionError → List ℕ
-optionErrorWords error.None = replicate 5 0
-optionErrorWords (error.Some e) = 1 ∷ errorWords e
+optionErrorWords OptionError.None = replicate 5 0
+optionErrorWords (OptionError.Some e) = 1 ∷ errorWords e
 
 abbrev pub setupWords : OptionSetup → SetupWords
-setupWords setup.None = record { present = 0; «request_type» = 0; request = 0; value = 0; index = 0; length = 0 }
-setupWords (setup.Some p) = record { present = 1; «request_type» = p .«request_type»; request = p .request; value = p .value; index = p .index; length = p .length }
+setupWords OptionSetup.None = record { present = 0; «request_type» = 0; request = 0; value = 0; index = 0; length = 0 }
+setupWords (OptionSetup.Some p) = record { present = 1; «request_type» = p .«request_type»; request = p .request; value = p .value; index = p .index; length = p .length }
 
 abbrev pub setupTail : SetupWords → List ℕ → List ℕ
 setupTail p rest = p .present ∷ p .«request_type» ∷ p .request ∷ p .value ∷ p .index ∷ p .length ∷ rest

@@ -11,11 +11,10 @@ use borrow.Author.Tests.{lt-ltb, le-ltb, ltb-true, ltb-false}
 use Rattle.chain.proofs.Chain.{caseB}
 use Rattle.words.specs.Records.{part}
 use Rattle.words.proofs.Records.{length-chunks, chunks-at}
-use Rattle.words.specs.declared.OptionU64.the-variants as u64
+use Rattle.words.specs.declared.{OptionU64.OptionU64}
 use Rattle.paper.specs.Widths.{fieldsOf, packed, areFields}
 use Rattle.paper.specs.Events.{widths, eventFields, eventBy, decoded, encoded, wordOf, eventIn, eventCount, eventsOf, eventAt}
-use Rattle.paper.specs.declared.OptionEvent.the-variants as option
-use Rattle.paper.specs.declared.PaperEvent.{PaperEvent}
+use Rattle.paper.specs.declared.{OptionEvent.OptionEvent, PaperEvent.PaperEvent}
 use Rattle.paper.proofs.Widths.{fields-fit, fields-packed, packed-fields, field-over, same-fields}
 
 -- an event from its word's fields
@@ -36,7 +35,7 @@ module _ (n kind slot endpoint sequence code length flags : ℕ) where
 
 module _ (e : PaperEvent) where
   -- a field over its width has no word
-  pub encoded-none : (i : ℕ) → i < 7 → 2 ^ getD widths i 0 ≤ getD (eventFields e) i 0 → u64.None ≡ encoded e
+  pub encoded-none : (i : ℕ) → i < 7 → 2 ^ getD widths i 0 ≤ getD (eventFields e) i 0 → OptionU64.None ≡ encoded e
   unfolding encoded
   encoded-none i l h = rw (field-over widths (eventFields e) i l h)
 
@@ -50,13 +49,13 @@ module _ (e : PaperEvent) where
       → e .length < 2 ^ getD widths 5 0
       → e .flags < 2 ^ getD widths 6 0
       → n ≡ packed widths (eventFields e)
-      → u64.Some n ≡ encoded e
+      → OptionU64.Some n ≡ encoded e
   unfolding encoded
   encoded-some n a b c d f g h same =
       rw (lt-ltb _ _ a, lt-ltb _ _ b, lt-ltb _ _ c, lt-ltb _ _ d, lt-ltb _ _ f, lt-ltb _ _ g, lt-ltb _ _ h, same)
 
 -- an event is read back from its word, and a word is made again of its event
-pub decoded-encoded : (e : PaperEvent) (n : ℕ) → encoded e ≡ u64.Some n → decoded n ≡ e
+pub decoded-encoded : (e : PaperEvent) (n : ℕ) → encoded e ≡ OptionU64.Some n → decoded n ≡ e
 unfolding encoded decoded
 decoded-encoded e n =
     caseB (areFields widths (eventFields e))
@@ -65,7 +64,7 @@ decoded-encoded e n =
     rw same (ap eventBy (fields-packed widths (eventFields e) t)))
     (λ t. rw t λ h. let z : _≡_ {A = ℕ} 0 1 = cc in absurd (omega arith))
 
-pub encoded-decoded : (n : ℕ) → n < 2 ^ 64 → encoded (decoded n) ≡ u64.Some n
+pub encoded-decoded : (n : ℕ) → n < 2 ^ 64 → encoded (decoded n) ≡ OptionU64.Some n
 unfolding encoded decoded
 encoded-decoded n h = rw (fields-fit widths n, packed-fields widths n h)
 
@@ -86,13 +85,13 @@ word-whole bytes i n l e h = h ∙ rw e (ap (packed (replicate 8 8)) (take-all 8
 -- the event at a position, and the walk over all of them
 module _ (paper : List ℕ) (i : ℕ) where
   -- there is none past the last
-  pub at-none : eventCount paper ≤ i → option.None ≡ eventAt paper i
+  pub at-none : eventCount paper ≤ i → OptionEvent.None ≡ eventAt paper i
   unfolding eventAt
   at-none h = rw (le-ltb i (eventCount paper) h)
 
   -- by the m bytes from s on that the code takes, their word and its event
   pub at-some : (s m n : ℕ) (e : PaperEvent) → i < eventCount paper → s ≡ i * 8 → m ≡ 8
-      → n ≡ wordOf (take m (drop s paper)) → e ≡ decoded n → option.Some e ≡ eventAt paper i
+      → n ≡ wordOf (take m (drop s paper)) → e ≡ decoded n → OptionEvent.Some e ≡ eventAt paper i
   unfolding eventAt part
   at-some s m n e h hs hm hn he = rw (lt-ltb i (eventCount paper) h, he, hn, hm, hs)
 
@@ -110,7 +109,7 @@ module _ (paper : List ℕ) (i : ℕ) where
       drop-of-length-le (eventsOf paper) none
 
   -- the same by `eventAt`
-  pub event-some : (e : PaperEvent) → eventAt paper i ≡ option.Some e
+  pub event-some : (e : PaperEvent) → eventAt paper i ≡ OptionEvent.Some e
       → (i < eventCount paper) × (drop i (eventsOf paper) ≡ e ∷ drop (suc i) (eventsOf paper))
   unfolding eventAt
   event-some e =
@@ -121,7 +120,7 @@ module _ (paper : List ℕ) (i : ℕ) where
       (here, rw same at (events-step here)))
       (λ t. rw t λ h. let z : _≡_ {A = ℕ} 0 1 = cc in absurd (omega arith))
 
-  pub event-none : eventAt paper i ≡ option.None → eventCount paper ≤ i
+  pub event-none : eventAt paper i ≡ OptionEvent.None → eventCount paper ≤ i
   unfolding eventAt
   event-none =
       caseB (ltb i (eventCount paper))

@@ -5,12 +5,9 @@ use mathlib.Core.List.{List, [], _∷_}
 use lib.Dec.{ltb}
 use lib.ListN.{length, getD, replicate}
 use Rattle.words.specs.Records.{part, chunks}
-use Rattle.words.specs.declared.OptionU64.{OptionU64}
-use Rattle.words.specs.declared.OptionU64.the-variants as u64
+use Rattle.words.specs.declared.{OptionU64.OptionU64}
 use Rattle.paper.specs.Widths.{fieldsOf, packed, areFields}
-use Rattle.paper.specs.declared.OptionEvent.{OptionEvent}
-use Rattle.paper.specs.declared.OptionEvent.the-variants as option
-use Rattle.paper.specs.declared.PaperEvent.{PaperEvent}
+use Rattle.paper.specs.declared.{OptionEvent.OptionEvent, PaperEvent.PaperEvent}
 
 -- kind 4, slot 8, endpoint 8, sequence 16, code 8, length 17, flags 3
 abbrev pub widths : List ℕ
@@ -35,7 +32,7 @@ unfoldable pub decoded : ℕ → PaperEvent
 decoded n = eventBy (fieldsOf widths n)
 
 unfoldable pub encoded : PaperEvent → OptionU64
-encoded e = cond (areFields widths (eventFields e)) (u64.Some (packed widths (eventFields e))) u64.None
+encoded e = cond (areFields widths (eventFields e)) (OptionU64.Some (packed widths (eventFields e))) OptionU64.None
 
 -- eight bytes are eight fields of eight bits
 unfoldable pub wordOf : List ℕ → ℕ
@@ -53,4 +50,4 @@ eventsOf paper = chunks 0 8 eventIn (eventCount paper) paper
 
 -- the event at a position
 unfoldable pub eventAt : List ℕ → ℕ → OptionEvent
-eventAt paper i = cond (ltb i (eventCount paper)) (option.Some (eventIn (part (i * 8) 8 paper))) option.None
+eventAt paper i = cond (ltb i (eventCount paper)) (OptionEvent.Some (eventIn (part (i * 8) 8 paper))) OptionEvent.None

@@ -5,23 +5,18 @@ use mathlib.Core.Path.{_≡_, refl, ap, _∙_}
 use native.Mathlib.Numerals.{add-one}
 use native.Mathlib.Omega.{arith}
 use Rattle.chain.specs.After.{After, after}
-use Rattle.models.specs.declared.DeviceSnapshot.{DeviceSnapshot}
-use Rattle.models.specs.declared.OptionError.the-variants as error
-use Rattle.models.specs.declared.Verdict.{Verdict}
+use Rattle.models.specs.declared.{DeviceSnapshot.DeviceSnapshot, OptionError.OptionError, Verdict.Verdict}
 use Rattle.bus.specs.Tables.{Bus}
-use Rattle.bus.specs.declared.PortRow.{PortRow}
+use Rattle.bus.specs.declared.{PortRow.PortRow}
 use Rattle.session.specs.Lent.{Memory, Lent, lent}
 use Rattle.session.specs.Lifecycle.{openOf, acquireOf, initializeOf}
 use Rattle.session.specs.Place.{setDeviceOf, setPortOf, setEndpointsOf}
-use Rattle.session.specs.declared.Called.{Called}
-use Rattle.session.specs.declared.Session.{Session}
+use Rattle.session.specs.declared.{Called.Called, Session.Session, lifecycle.Opened.Opened, lifecycle.Opening.Opening}
 use Rattle.session.specs.declared.lifecycle.AcquireReply.the-variants.{Acquired}
-use Rattle.session.specs.declared.lifecycle.Opened.{Opened}
-use Rattle.session.specs.declared.lifecycle.Opening.{Opening}
 use Rattle.calls.specs.Answers.{ofOpened}
 use Rattle.calls.specs.Calls.{Placing, Device, Port, Endpoints, Acquire, Initialize, Open, Place, Move}
 use Rattle.calls.specs.Step.{World, world, opens, places, placedOf, movedOf, stepOf}
-use Rattle.calls.specs.declared.Outcome.{Outcome}
+use Rattle.calls.specs.declared.{Outcome.Outcome}
 use Rattle.paper_session.specs.Start.{paperOpening, noSession, paperPort, slotSnapshot, bulkEndpoints, handedOn, readied, madeOn, openingCalls, slotCalls, placedTo, startOn}
 
 -- what a placing call hands on
@@ -66,12 +61,12 @@ opens-to l next o s x r eo es h e =
     ∙ ap (λ (z : Opening). handedOn (stepOf (Open z) (world s l))) eo
     ∙ ap (λ (z : Session). handedOn (stepOf (Open paperOpening) (world z l))) es
 
-pub readied-by : (s : Session) (a i : Called) → a ≡ acquireOf Acquired s → i ≡ initializeOf error.None (a .session) → i .session ≡ readied s
+pub readied-by : (s : Session) (a i : Called) → a ≡ acquireOf Acquired s → i ≡ initializeOf OptionError.None (a .session) → i .session ≡ readied s
 unfolding readied
-readied-by s a i ea ei = ap (λ (z : Called). z .session) ei ∙ ap (λ (z : Called). initializeOf error.None (z .session) .session) ea
+readied-by s a i ea ei = ap (λ (z : Called). z .session) ei ∙ ap (λ (z : Called). initializeOf OptionError.None (z .session) .session) ea
 
 -- acquire and initialise leave what is lent
-pub ready-to : (s : Session) (l : Lent) → world (readied s) l ≡ madeOn (Move (Acquire Acquired) ∷ Move (Initialize error.None) ∷ []) (world s l)
+pub ready-to : (s : Session) (l : Lent) → world (readied s) l ≡ madeOn (Move (Acquire Acquired) ∷ Move (Initialize OptionError.None) ∷ []) (world s l)
 unfolding readied stepOf movedOf
 ready-to s l = refl
 
@@ -84,7 +79,7 @@ open-to l b next m s r row v h er ep g =
     placed (Port 1 row) r b next m v g
     ∙ ap (λ (z : PortRow). handedOn (stepOf (Place (Port 1 z)) (world r (lent b m)))) ep
     ∙ ap (λ (w : World). handedOn (stepOf (Place (Port 1 paperPort)) w)) (ap (λ (z : Session). world z (lent b m)) er ∙ ready-to s (lent b m))
-    ∙ ap (madeOn (Move (Acquire Acquired) ∷ Move (Initialize error.None) ∷ Place (Port 1 paperPort) ∷ [])) h
+    ∙ ap (madeOn (Move (Acquire Acquired) ∷ Move (Initialize OptionError.None) ∷ Place (Port 1 paperPort) ∷ [])) h
 
 -- then every slot
 pub started : (l : Lent) (s : Session) (b next : Bus) (m : Memory) → world s (lent b m) ≡ madeOn openingCalls (world noSession l) → Placed 256 s b next

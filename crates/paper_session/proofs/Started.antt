@@ -12,28 +12,21 @@ use Rattle.chain.specs.After.{After, after}
 use Rattle.chain.specs.Chain.{_if_else_}
 use Rattle.chain.proofs.Chain.{passes, both}
 use Rattle.words.proofs.Records.{splice-length, le-or-lt}
-use Rattle.models.specs.declared.DeviceSnapshot.{DeviceSnapshot}
-use Rattle.models.specs.declared.OptionDevice.{OptionDevice}
-use Rattle.models.specs.declared.OptionDevice.the-variants as device
-use Rattle.models.specs.declared.OptionError.the-variants as error
-use Rattle.models.specs.declared.Verdict.{Verdict}
-use Rattle.models.specs.declared.Verdict.the-variants as verdict
+use Rattle.models.specs.declared.{DeviceSnapshot.DeviceSnapshot, OptionDevice.OptionDevice, OptionError.OptionError, Verdict.Verdict}
 use Rattle.rows.specs.Store.{storeOf, emptied}
 use Rattle.bus.specs.Endpoints.{setEndpoints}
 use Rattle.bus.specs.Ports.{numberChecked, setPortBy, setPort}
 use Rattle.bus.specs.Layout.{busWords, devicesAt, listsAt, deviceRecord, portRecord}
 use Rattle.bus.specs.Tables.{Bus, busOf, newPort, newPorts, putPort, putDevice, putEndpoints, cleared}
-use Rattle.bus.specs.declared.PortRow.{PortRow}
+use Rattle.bus.specs.declared.{PortRow.PortRow}
 use Rattle.session.specs.Lent.{Memory, Lent, memory, lent, tablesFit, lentFits}
 use Rattle.session.specs.Lifecycle.{newSession, openOf, acquiredBy, acquireOf, initializedBy, initializeOf}
 use Rattle.session.specs.Place.{placed, setDeviceOf, setPortOf, setEndpointsOf}
 use Rattle.session.specs.Session.{isBusy}
 use Rattle.session.specs.Sizes.{rowsFit, areaFits, memorySizes, lentSizes}
 use Rattle.session.specs.Start.{guarded}
-use Rattle.session.specs.declared.Session.{Session}
-use Rattle.session.specs.declared.Size.{Size}
+use Rattle.session.specs.declared.{Session.Session, Size.Size, lifecycle.Opened.Opened}
 use Rattle.session.specs.declared.lifecycle.AcquireReply.the-variants.{Acquired}
-use Rattle.session.specs.declared.lifecycle.Opened.{Opened}
 use Rattle.calls.specs.Calls.{Placing, Device, Port, Endpoints, Acquire, Initialize, Open, Place, Move}
 use Rattle.calls.specs.Step.{World, world, opens, places, placedOf, stepOf}
 use Rattle.paper_session.specs.Start.{paperSize, paperOpening, noSession, paperPort, slotSnapshot, bulkEndpoints, handedOn, readied, madeOn, openingCalls, slotCalls, placedTo, startOn, paperSession, slotsOn, portedBus, startedOn, Started, blankLent}
@@ -46,7 +39,7 @@ placed-on done s b free sized =
     sym (passes (After Verdict Bus) _ _ _ done free (passes (After Verdict Bus) _ _ _ done (ap not (eq-eqb (length (b .words)) busWords sized)) refl))
 
 -- hands on the bus that it leaves
-handed : (p : Placing) (w : World) (next : Bus) → placedOf p w ≡ after verdict.Pass next
+handed : (p : Placing) (w : World) (next : Bus) → placedOf p w ≡ after Verdict.Pass next
     → handedOn (stepOf (Place p) w) ≡ world (w .session) (lent next (w .lent .memory))
 unfolding stepOf
 handed p w next h = ap (λ (z : After Verdict Bus). handedOn (places z w)) h
@@ -113,7 +106,7 @@ opening-on : (l : Lent) → lentFits paperSize l ≡ true
     → madeOn openingCalls (world noSession l) ≡ world paperSession (lent portedBus (memory (emptied (l .memory .store)) (l .memory .area)))
 opening-on l fits =
     let m : Memory = memory (emptied (l .memory .store)) (l .memory .area) in
-    ap (madeOn (Move (Acquire Acquired) ∷ Move (Initialize error.None) ∷ Place (Port 1 paperPort) ∷ [])) (opened-on l fits)
+    ap (madeOn (Move (Acquire Acquired) ∷ Move (Initialize OptionError.None) ∷ Place (Port 1 paperPort) ∷ [])) (opened-on l fits)
     ∙ ap (λ (w : World). handedOn (stepOf (Place (Port 1 paperPort)) w))
     (sym (ready-to (newSession paperOpening) (lent cleared m)) ∙ ap (λ (z : Session). world z (lent cleared m)) readied-on)
     ∙ port-on m
@@ -150,10 +143,10 @@ module _ {A : Type 0} (f : ℕ → A) where
       (le-or-lt n i)
 
 -- the tables of a bus with the first n slots
-slots-devices : (n : ℕ) (b : Bus) → slotsOn n b .devices ≡ filled (λ (k : ℕ). device.Some (slotSnapshot k)) n (b .devices)
+slots-devices : (n : ℕ) (b : Bus) → slotsOn n b .devices ≡ filled (λ (k : ℕ). OptionDevice.Some (slotSnapshot k)) n (b .devices)
 unfolding slotsOn putDevice putEndpoints
 slots-devices zero b = refl
-slots-devices (suc n) b = ap (λ (t : List OptionDevice). set t n (device.Some (slotSnapshot n))) (slots-devices n b)
+slots-devices (suc n) b = ap (λ (t : List OptionDevice). set t n (OptionDevice.Some (slotSnapshot n))) (slots-devices n b)
 
 slots-lists : (n : ℕ) (b : Bus) → slotsOn n b .lists ≡ filled (λ (k : ℕ). bulkEndpoints) n (b .lists)
 unfolding slotsOn putDevice putEndpoints
@@ -176,7 +169,7 @@ ported-port = getD-set-same (replicate 255 newPort) 0 paperPort newPort (rw (len
 
 ported-devices : length (portedBus .devices) ≡ 256
 unfolding portedBus putPort cleared
-ported-devices = length-replicate {0} {A = OptionDevice} 256 device.None
+ported-devices = length-replicate {0} {A = OptionDevice} 256 OptionDevice.None
 
 ported-lists : length (portedBus .lists) ≡ 256
 unfolding portedBus putPort cleared
@@ -204,8 +197,8 @@ start-placed l fits =
       fits = fits-still paperSize l (slotsOn 256 portedBus) fits (slots-sized 256 portedBus (omega arith) ported-sized);
       port = ap (λ (t : List PortRow). getD t 0 newPort) (slots-ports 256 portedBus) ∙ ported-port;
       device = λ slot h.
-          ap (λ (t : List OptionDevice). getD t slot device.None) (slots-devices 256 portedBus)
-          ∙ filled-at (λ (k : ℕ). device.Some (slotSnapshot k)) 256 slot (portedBus .devices) device.None h (rw ported-devices (omega arith));
+          ap (λ (t : List OptionDevice). getD t slot OptionDevice.None) (slots-devices 256 portedBus)
+          ∙ filled-at (λ (k : ℕ). OptionDevice.Some (slotSnapshot k)) 256 slot (portedBus .devices) OptionDevice.None h (rw ported-devices (omega arith));
       endpoints = λ slot h.
           ap (λ (t : List (List ℕ)). getD t slot []) (slots-lists 256 portedBus)
           ∙ filled-at (λ (k : ℕ). bulkEndpoints) 256 slot (portedBus .lists) [] h (rw ported-lists (omega arith));

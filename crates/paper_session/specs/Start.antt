@@ -6,31 +6,22 @@ use mathlib.Core.List.{List, [], _∷_}
 use lib.ListN.{replicate}
 use Rattle.chain.specs.After.{After}
 use Rattle.words.specs.Records.{tab}
-use Rattle.words.specs.declared.OptionU32.the-variants as u32
-use Rattle.words.specs.declared.OptionU64.the-variants as u64
+use Rattle.words.specs.declared.{OptionU32.OptionU32, OptionU64.OptionU64}
 use Rattle.models.specs.declared.ControllerState.the-variants.{Closed, Initialized}
-use Rattle.models.specs.declared.DeviceId.{DeviceId}
-use Rattle.models.specs.declared.DeviceSnapshot.{DeviceSnapshot}
+use Rattle.models.specs.declared.{DeviceId.DeviceId, DeviceSnapshot.DeviceSnapshot, OptionDevice.OptionDevice, OptionError.OptionError, OptionPorts.OptionPorts}
 use Rattle.models.specs.declared.DeviceState.the-variants.{Configured}
-use Rattle.models.specs.declared.OptionDevice.the-variants as device
-use Rattle.models.specs.declared.OptionError.the-variants as error
-use Rattle.models.specs.declared.OptionPorts.the-variants as ports
 use Rattle.models.specs.declared.TransferType.the-variants.{Bulk}
 use Rattle.rows.specs.Store.{storeOf, emptied}
 use Rattle.bus.specs.Layout.{busWords, endpointWord}
 use Rattle.bus.specs.Tables.{Bus, busOf, portAt, deviceAt, endpointsAt, markAt, putPort, putDevice, putEndpoints, cleared}
-use Rattle.bus.specs.declared.PortRow.{PortRow}
+use Rattle.bus.specs.declared.{PortRow.PortRow}
 use Rattle.session.specs.Lent.{Slice, Memory, Lent, memory, lent, lentFits, busIn, busOut}
 use Rattle.session.specs.Lifecycle.{acquireOf, initializeOf}
-use Rattle.session.specs.declared.InFlight.the-variants as flight
-use Rattle.session.specs.declared.OptionStall.the-variants as stall
-use Rattle.session.specs.declared.Session.{Session}
-use Rattle.session.specs.declared.Size.{Size}
+use Rattle.session.specs.declared.{InFlight.InFlight, OptionStall.OptionStall, Session.Session, Size.Size, lifecycle.Opening.Opening}
 use Rattle.session.specs.declared.lifecycle.AcquireReply.the-variants.{Acquired}
-use Rattle.session.specs.declared.lifecycle.Opening.{Opening}
 use Rattle.calls.specs.Calls.{Call, Open, Place, Device, Port, Endpoints, Move, Acquire, Initialize}
 use Rattle.calls.specs.Step.{World, world, stepOf}
-use Rattle.calls.specs.declared.Outcome.{Outcome}
+use Rattle.calls.specs.declared.{Outcome.Outcome}
 
 -- the store is 64 rows of 256
 abbrev pub paperSize : Size
@@ -41,7 +32,7 @@ abbrev pub paperOpening : Opening
 paperOpening = record {
   session = 1;
   «first_sequence» = 0;
-  «recovery_revision» = u64.Some 0;
+  «recovery_revision» = OptionU64.Some 0;
   «has_ports» = true;
   «port_count» = 1;
   size = paperSize;
@@ -53,11 +44,11 @@ noSession = record {
   number = 0;
   generation = 0;
   «next_sequence» = 0;
-  ports = ports.None;
+  ports = OptionPorts.None;
   state = Closed;
-  «recovery_revision» = u64.None;
-  «recoverable_stall» = stall.None;
-  «in_flight» = flight.Nothing;
+  «recovery_revision» = OptionU64.None;
+  «recoverable_stall» = OptionStall.None;
+  «in_flight» = InFlight.Nothing;
   size = record { «row_count» = 0; «row_bytes» = 0 };
 }
 
@@ -66,7 +57,7 @@ abbrev pub paperReading : ℕ
 paperReading = 1027
 
 abbrev pub paperPort : PortRow
-paperPort = record { generation = 1; reading = u32.Some paperReading }
+paperPort = record { generation = 1; reading = OptionU32.Some paperReading }
 
 -- a slot's device has session 1, generation 0
 abbrev pub slotDevice : ℕ → DeviceId
@@ -91,10 +82,10 @@ madeOn (c ∷ cs) w = madeOn cs (handedOn (stepOf c w))
 
 -- what acquire and initialise leave of a session, where the backend reports no failure
 unfoldable pub readied : Session → Session
-readied s = initializeOf error.None (acquireOf Acquired s .session) .session
+readied s = initializeOf OptionError.None (acquireOf Acquired s .session) .session
 
 abbrev pub openingCalls : List Call
-openingCalls = Open paperOpening ∷ Move (Acquire Acquired) ∷ Move (Initialize error.None) ∷ Place (Port 1 paperPort) ∷ []
+openingCalls = Open paperOpening ∷ Move (Acquire Acquired) ∷ Move (Initialize OptionError.None) ∷ Place (Port 1 paperPort) ∷ []
 
 abbrev pub slotCalls : ℕ → List Call
 slotCalls slot = Place (Device (slotSnapshot slot)) ∷ Place (Endpoints slot bulkEndpoints) ∷ []
@@ -129,11 +120,11 @@ paperSession = record {
   number = 1;
   generation = 0;
   «next_sequence» = 0;
-  ports = ports.Some (record { session = 1; count = 1 });
+  ports = OptionPorts.Some (record { session = 1; count = 1 });
   state = Initialized;
-  «recovery_revision» = u64.Some 0;
-  «recoverable_stall» = stall.None;
-  «in_flight» = flight.Nothing;
+  «recovery_revision» = OptionU64.Some 0;
+  «recoverable_stall» = OptionStall.None;
+  «in_flight» = InFlight.Nothing;
   size = paperSize;
 }
 
@@ -155,7 +146,7 @@ pub record Started (l : Lent) (w : World) : Type 0 where
   pub session : w .session ≡ paperSession
   pub fits : lentFits paperSize (w .lent) ≡ true
   pub port : portAt (w .lent .bus) 1 ≡ paperPort
-  pub device : (slot : ℕ) → slot < 256 → deviceAt (w .lent .bus) slot ≡ device.Some (slotSnapshot slot)
+  pub device : (slot : ℕ) → slot < 256 → deviceAt (w .lent .bus) slot ≡ OptionDevice.Some (slotSnapshot slot)
   pub endpoints : (slot : ℕ) → slot < 256 → endpointsAt (w .lent .bus) slot ≡ bulkEndpoints
   pub mark : (slot : ℕ) → slot < 256 → markAt (w .lent .bus) slot ≡ false
   pub store : w .lent .memory .store ≡ emptied (l .memory .store)

@@ -6,44 +6,30 @@ use mathlib.Core.Path.{_≡_, refl}
 use lib.ListN.{length}
 use Rattle.chain.specs.After.{After, after}
 use Rattle.chain.specs.Lists.{foundIn}
-use Rattle.chain.specs.declared.Found.{Found}
-use Rattle.chain.specs.declared.Found.the-variants as found
+use Rattle.chain.specs.declared.{Found.Found}
 use Rattle.chain.proofs.Chain.{if-all}
 use Rattle.models.specs.Refusals.{invalidCompletion}
 use Rattle.models.specs.Said.{Tabled}
-use Rattle.models.specs.declared.BackendCompletion.{BackendCompletion}
-use Rattle.models.specs.declared.OperationError.{OperationError}
-use Rattle.models.specs.declared.OptionError.{OptionError}
-use Rattle.models.specs.declared.OptionError.the-variants as error
-use Rattle.models.specs.declared.RequestId.{RequestId}
+use Rattle.models.specs.declared.{BackendCompletion.BackendCompletion, OperationError.OperationError, OptionError.OptionError, RequestId.RequestId}
 use Rattle.models.proofs.Said.{tabled-says, tabled-own, tabled-backend, tabled-in, said-of}
 use Rattle.rows.specs.Store.{Store}
-use Rattle.rows.specs.declared.Row.{Row}
+use Rattle.rows.specs.declared.{Row.Row}
 use Rattle.rules.specs.Rules.{changeRow}
 use Rattle.rules.specs.Said.{stepSaid}
-use Rattle.rules.specs.declared.Change.the-variants as change
-use Rattle.rules.specs.declared.Step.{Step}
-use Rattle.rules.specs.declared.Step.the-variants as step
+use Rattle.rules.specs.declared.{Change.Change, Step.Step}
 use Rattle.rules.proofs.Said.{change-tabled}
 use Rattle.ledger.specs.Search.{isAt}
 use Rattle.checks.specs.Completion.{testCompletion}
-use Rattle.checks.specs.declared.completion.CompletionTest.{CompletionTest}
-use Rattle.checks.specs.declared.completion.CompletionTest.the-variants as test
+use Rattle.checks.specs.declared.{completion.CompletionTest.CompletionTest}
 use Rattle.session.specs.Lent.{Memory}
-use Rattle.session.specs.declared.InFlight.{InFlight}
-use Rattle.session.specs.declared.InFlight.the-variants as flight
-use Rattle.session.specs.declared.Session.{Session}
-use Rattle.session.specs.declared.sizes.Place.{Place}
+use Rattle.session.specs.declared.{InFlight.InFlight, Session.Session, sizes.Place.Place}
 use Rattle.session.proofs.Said.{guarded-all}
 use Rattle.reports.specs.Said.{reportSaid}
-use Rattle.reports.specs.declared.Reported.{Reported}
+use Rattle.reports.specs.declared.{Reported.Reported}
 use Rattle.polls.specs.Poll.{pollRow, pollBy, pollOf}
 use Rattle.polls.specs.PollReply.{failedAs, invalidAs, judgedTest, judgedBy, judged, settled, pollReplyAt, pollReplyBy, pollReplyFound, pollReplyIn, pollReplyOf}
 use Rattle.polls.specs.Said.{pollSaid, pollNumbers, pollReplyNumbers}
-use Rattle.polls.specs.declared.Polled.{Polled}
-use Rattle.polls.specs.declared.PollReply.{PollReply}
-use Rattle.polls.specs.declared.PollReply.the-variants as reply
-use Rattle.polls.specs.declared.poll_reply.Judgement.{Judgement}
+use Rattle.polls.specs.declared.{PollReply.PollReply, Polled.Polled, poll_reply.Judgement.Judgement}
 
 -- ---- a poll
 abbrev Polls : Polled → Type 0
@@ -55,8 +41,8 @@ row-tabled r id s = if-all Polls _ _ _ (tabled-says _ _) (if-all Polls _ _ _ (ta
 
 poll-by : (f : Found) (id : RequestId) (s : Session) (rows : List Row) → Polls (pollBy f id s rows)
 unfolding pollBy
-poll-by found.Nothing id s rows = tabled-own _ 40 refl
-poll-by (found.At i) id s rows = row-tabled _ id s
+poll-by Found.Nothing id s rows = tabled-own _ 40 refl
+poll-by (Found.At i) id s rows = row-tabled _ id s
 
 module _ (id : RequestId) (s : Session) (store : Store) where
   pub poll-tabled : Tabled pollNumbers (pollSaid (pollOf id s store .answer))
@@ -68,51 +54,51 @@ module _ (id : RequestId) (s : Session) (store : Store) where
 
 -- ---- its reply: the ledger completes the row or fails it, and refuses either by 41
 module _ (s : Session) (row : Row) (c : BackendCompletion) where
-  abbrev Changes : Judgement → Type 0
+  abbrev pub Changes : Judgement → Type 0
   Changes j = Tabled (41 ∷ []) (stepSaid (changeRow row (j .change)))
 
-  failed-tabled : (e : OperationError) (quiescent : Bool) → Tabled (41 ∷ []) (stepSaid (changeRow row (change.Fail e (c .«completion_code») quiescent)))
-  failed-tabled e quiescent = change-tabled row (change.Fail e (c .«completion_code») quiescent)
+  failed-tabled : (e : OperationError) (quiescent : Bool) → Tabled (41 ∷ []) (stepSaid (changeRow row (Change.Fail e (c .«completion_code») quiescent)))
+  failed-tabled e quiescent = change-tabled row (Change.Fail e (c .«completion_code») quiescent)
 
   test-by : (t : CompletionTest) → Changes (judgedTest t s c)
   unfolding judgedTest invalidAs
-  test-by (test.Valid actual code) = change-tabled row (change.Complete actual code)
-  test-by test.MissingLength = failed-tabled (invalidCompletion (c .«completion_code») .error) false
-  test-by test.Invalid = failed-tabled (invalidCompletion (c .«completion_code») .error) false
+  test-by (CompletionTest.Valid actual code) = change-tabled row (Change.Complete actual code)
+  test-by CompletionTest.MissingLength = failed-tabled (invalidCompletion (c .«completion_code») .error) false
+  test-by CompletionTest.Invalid = failed-tabled (invalidCompletion (c .«completion_code») .error) false
 
-  judged-by : (o : OptionError) (given : ℕ) → Changes (judgedBy o s row c given)
+  pub judged-by : (o : OptionError) (given : ℕ) → Changes (judgedBy o s row c given)
   unfolding judgedBy failedAs
-  judged-by (error.Some e) given = if-all Changes _ _ _ (failed-tabled e (c .quiescent)) (failed-tabled e (c .quiescent))
-  judged-by error.None given = test-by (testCompletion c given (row .metadata .«requested_length»))
+  judged-by (OptionError.Some e) given = if-all Changes _ _ _ (failed-tabled e (c .quiescent)) (failed-tabled e (c .quiescent))
+  judged-by OptionError.None given = test-by (testCompletion c given (row .metadata .«requested_length»))
 
 abbrev Replies : After Reported Memory → Type 0
 Replies o = Tabled pollReplyNumbers (reportSaid (o .result .answer))
 
 settled-by : (x : Step) → Tabled (41 ∷ []) (stepSaid x) → (j : Judgement) (p : Place) (bytes : List ℕ) (idle : Session) (m : Memory) → Replies (settled x j p bytes idle m)
 unfolding settled
-settled-by (step.Refused r) h j p bytes idle m = tabled-in pollReplyNumbers (41 ∷ []) refl _ h
-settled-by (step.To next x) h j p bytes idle m = tabled-says _ _
+settled-by (Step.Refused r) h j p bytes idle m = tabled-in pollReplyNumbers (41 ∷ []) refl _ h
+settled-by (Step.To next x) h j p bytes idle m = tabled-says _ _
 
 module _ (x : PollReply) (bytes : List ℕ) where
   reply-at : (y : PollReply) (row : Row) (p : Place) (idle : Session) (m : Memory) → Replies (pollReplyAt y row p bytes idle m)
   unfolding pollReplyAt judged
-  reply-at reply.Nothing row p idle m = tabled-says _ _
-  reply-at (reply.Error e) row p idle m = tabled-backend _ 45 e refl refl
-  reply-at (reply.Completion c) row p idle m =
+  reply-at PollReply.Nothing row p idle m = tabled-says _ _
+  reply-at (PollReply.Error e) row p idle m = tabled-backend _ 45 e refl refl
+  reply-at (PollReply.Completion c) row p idle m =
       let j : Judgement = judged idle row c (length bytes) in
       settled-by (changeRow row (j .change)) (judged-by idle row c (c .error) (length bytes)) j p bytes idle m
 
   reply-by : (f : Found) (s : Session) (m : Memory) → Replies (pollReplyBy f x bytes s m)
   unfolding pollReplyBy
-  reply-by found.Nothing s m = tabled-own _ 2 refl
-  reply-by (found.At i) s m = reply-at x _ _ _ m
+  reply-by Found.Nothing s m = tabled-own _ 2 refl
+  reply-by (Found.At i) s m = reply-at x _ _ _ m
 
   reply-in : (f : InFlight) (s : Session) (m : Memory) → Replies (pollReplyIn f x bytes s m)
   unfolding pollReplyIn pollReplyFound
-  reply-in flight.Nothing s m = tabled-own _ 2 refl
-  reply-in (flight.Submission id) s m = tabled-own _ 2 refl
-  reply-in (flight.Recovery y) s m = tabled-own _ 2 refl
-  reply-in (flight.Poll id) s m = if-all Replies _ _ _ (tabled-own _ 3 refl) (reply-by (foundIn (isAt id) (m .store .rows)) s m)
+  reply-in InFlight.Nothing s m = tabled-own _ 2 refl
+  reply-in (InFlight.Submission id) s m = tabled-own _ 2 refl
+  reply-in (InFlight.Recovery y) s m = tabled-own _ 2 refl
+  reply-in (InFlight.Poll id) s m = if-all Replies _ _ _ (tabled-own _ 3 refl) (reply-by (foundIn (isAt id) (m .store .rows)) s m)
 
   module _ (s : Session) (m : Memory) where
     pub poll-reply-tabled : Tabled pollReplyNumbers (reportSaid (pollReplyOf x bytes s m .result .answer))

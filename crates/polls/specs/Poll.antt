@@ -3,39 +3,35 @@ use mathlib.Core.Bool.{not}
 use mathlib.Core.List.{List}
 use Rattle.chain.specs.Chain.{_if_else_}
 use Rattle.chain.specs.Lists.{foundIn}
-use Rattle.chain.specs.declared.Found.{Found}
-use Rattle.chain.specs.declared.Found.the-variants as found
+use Rattle.chain.specs.declared.{Found.Found}
 use Rattle.models.specs.Refusals.{refusalOf}
 use Rattle.models.specs.Requests.{isPending}
-use Rattle.models.specs.declared.Refusal.{Refusal}
-use Rattle.models.specs.declared.RequestId.{RequestId}
+use Rattle.models.specs.declared.{Refusal.Refusal, RequestId.RequestId}
 use Rattle.rows.specs.Table.{rowIn}
 use Rattle.rows.specs.Store.{Store}
-use Rattle.rows.specs.declared.Row.{Row}
+use Rattle.rows.specs.declared.{Row.Row}
 use Rattle.rules.specs.Rules.{reportOf}
 use Rattle.ledger.specs.Search.{isAt}
 use Rattle.session.specs.Session.{isInitialized, withFlight}
 use Rattle.session.specs.Lent.{storeFits}
 use Rattle.session.specs.Start.{guarded}
-use Rattle.session.specs.declared.InFlight.the-variants as flight
-use Rattle.session.specs.declared.Session.{Session}
-use Rattle.polls.specs.declared.PollAnswer.the-variants as poll
-use Rattle.polls.specs.declared.Polled.{Polled}
+use Rattle.session.specs.declared.{InFlight.InFlight, Session.Session}
+use Rattle.polls.specs.declared.{PollAnswer.PollAnswer, Polled.Polled}
 
 abbrev pub pollRefused : Session → Refusal → Polled
-pollRefused s r = record { answer = poll.Refused r; session = s }
+pollRefused s r = record { answer = PollAnswer.Refused r; session = s }
 
 -- a row that isn't Pending is reported in any controller state; 28; else in flight, with its token
 unfoldable pub pollRow : Row → RequestId → Session → Polled
 pollRow r id s =
-    record { answer = poll.Report (reportOf r); session = s } if not (isPending (r .state)) else
+    record { answer = PollAnswer.Report (reportOf r); session = s } if not (isPending (r .state)) else
     pollRefused s (refusalOf 28) if not (isInitialized (s .state)) else
-    record { answer = poll.Asked (r .token); session = withFlight s (flight.Poll id) }
+    record { answer = PollAnswer.Asked (r .token); session = withFlight s (InFlight.Poll id) }
 
 -- 40
 unfoldable pub pollBy : Found → RequestId → Session → List Row → Polled
-pollBy found.Nothing id s rows = pollRefused s (refusalOf 40)
-pollBy (found.At i) id s rows = pollRow (rowIn rows i) id s
+pollBy Found.Nothing id s rows = pollRefused s (refusalOf 40)
+pollBy (Found.At i) id s rows = pollRow (rowIn rows i) id s
 
 -- 1, 3
 unfoldable pub pollOf : RequestId → Session → Store → Polled

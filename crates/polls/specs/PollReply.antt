@@ -6,63 +6,40 @@ use lib.ListN.{length}
 use Rattle.chain.specs.Chain.{_if_else_}
 use Rattle.chain.specs.After.{After, after}
 use Rattle.chain.specs.Lists.{foundIn}
-use Rattle.chain.specs.declared.Found.{Found}
-use Rattle.chain.specs.declared.Found.the-variants as found
+use Rattle.chain.specs.declared.{Found.Found}
 use Rattle.words.specs.Records.{spliceCut}
-use Rattle.words.specs.declared.OptionU32.{OptionU32}
-use Rattle.words.specs.declared.OptionU32.the-variants as u32
-use Rattle.words.specs.declared.OptionU64.{OptionU64}
-use Rattle.words.specs.declared.OptionU64.the-variants as u64
+use Rattle.words.specs.declared.{OptionU32.OptionU32, OptionU64.OptionU64}
 use Rattle.models.specs.Refusals.{refusalOf, fromBackend, invalidCompletion}
-use Rattle.models.specs.declared.BackendCompletion.{BackendCompletion}
-use Rattle.models.specs.declared.ErrorCategory.{ErrorCategory}
-use Rattle.models.specs.declared.ErrorCategory.the-variants as category
-use Rattle.models.specs.declared.OperationError.{OperationError}
-use Rattle.models.specs.declared.OptionError.{OptionError}
-use Rattle.models.specs.declared.OptionError.the-variants as error
-use Rattle.models.specs.declared.RequestId.{RequestId}
-use Rattle.models.specs.declared.RequestMetadata.{RequestMetadata}
+use Rattle.models.specs.declared.{BackendCompletion.BackendCompletion, ErrorCategory.ErrorCategory, OperationError.OperationError, OptionError.OptionError, RequestId.RequestId, RequestMetadata.RequestMetadata}
 use Rattle.standards.specs.Completion.{isStall}
 use Rattle.rows.specs.Table.{rowIn}
 use Rattle.rows.specs.Store.{putIn}
-use Rattle.rows.specs.declared.Row.{Row}
+use Rattle.rows.specs.declared.{Row.Row}
 use Rattle.rules.specs.Rules.{changeRow, reportOf}
 use Rattle.ledger.specs.Search.{isAt}
-use Rattle.rules.specs.declared.Change.the-variants as change
-use Rattle.rules.specs.declared.Step.{Step}
-use Rattle.rules.specs.declared.Step.the-variants as step
+use Rattle.rules.specs.declared.{Change.Change, Step.Step}
 use Rattle.checks.specs.Completion.{testCompletion}
-use Rattle.checks.specs.declared.completion.CompletionTest.{CompletionTest}
-use Rattle.checks.specs.declared.completion.CompletionTest.the-variants as test
+use Rattle.checks.specs.declared.{completion.CompletionTest.CompletionTest}
 use Rattle.session.specs.Session.{marked, withFlight, withStall}
 use Rattle.session.specs.Sizes.{placeOf}
 use Rattle.session.specs.Lent.{Memory, memory, memoryFits}
-use Rattle.session.specs.declared.InFlight.{InFlight}
-use Rattle.session.specs.declared.InFlight.the-variants as flight
-use Rattle.session.specs.declared.OptionStall.{OptionStall}
-use Rattle.session.specs.declared.OptionStall.the-variants as stall
-use Rattle.session.specs.declared.Session.{Session}
-use Rattle.session.specs.declared.Size.{Size}
-use Rattle.session.specs.declared.sizes.Place.{Place}
+use Rattle.session.specs.declared.{InFlight.InFlight, OptionStall.OptionStall, Session.Session, Size.Size, sizes.Place.Place}
 use Rattle.reports.specs.Answers.{effect, reportRefused}
-use Rattle.polls.specs.declared.PollReply.{PollReply}
-use Rattle.polls.specs.declared.PollReply.the-variants as reply
-use Rattle.reports.specs.declared.Reported.{Reported}
-use Rattle.reports.specs.declared.ReportAnswer.the-variants as report
-use Rattle.polls.specs.declared.poll_reply.Judgement.{Judgement}
+use Rattle.polls.specs.declared.{PollReply.PollReply, poll_reply.Judgement.Judgement}
+use Rattle.reports.specs.declared.{ReportAnswer.ReportAnswer, Reported.Reported}
 
 abbrev pub isRecovery : ErrorCategory → Bool
-isRecovery category.Validation = false
-isRecovery category.Unsupported = false
-isRecovery category.OperatingSystem = false
-isRecovery category.Controller = false
-isRecovery category.Timeout = false
-isRecovery category.Disconnect = false
-isRecovery category.RecoveryRequired = true
+isRecovery ErrorCategory.Validation = false
+isRecovery ErrorCategory.Unsupported = false
+isRecovery ErrorCategory.OperatingSystem = false
+isRecovery ErrorCategory.Controller = false
+isRecovery ErrorCategory.Timeout = false
+isRecovery ErrorCategory.Disconnect = false
+isRecovery ErrorCategory.RecoveryRequired = true
 
 abbrev pub codeIsStall : OptionU32 → Bool
-codeIsStall u32.None = false
-codeIsStall (u32.Some code) = isStall code
+codeIsStall OptionU32.None = false
+codeIsStall (OptionU32.Some code) = isStall code
 
 -- both codes are 6 and the category is RecoveryRequired
 abbrev pub isScopedStall : BackendCompletion → OperationError → Bool
@@ -70,17 +47,17 @@ isScopedStall c e = codeIsStall (c .«completion_code») && codeIsStall (e .«co
 
 -- document 01's stall note: revision, device, endpoint; none where the revision is
 unfoldable pub stallOf : OptionU64 → RequestMetadata → Bool → OptionStall
-stallOf u64.None m scoped = stall.None
-stallOf (u64.Some revision) m scoped =
-    stall.None if not scoped else
-    stall.Some (record { revision = revision; device = m .device; endpoint = m .endpoint })
+stallOf OptionU64.None m scoped = OptionStall.None
+stallOf (OptionU64.Some revision) m scoped =
+    OptionStall.None if not scoped else
+    OptionStall.Some (record { revision = revision; device = m .device; endpoint = m .endpoint })
 
 -- with an error: Failed; if not quiescent, a mark, and the stall note is kept (with the raised revision) or dropped
 unfoldable pub failedAs : Session → Row → BackendCompletion → OperationError → Judgement
 failedAs s row c e =
-    record { change = change.Fail e (c .«completion_code») (c .quiescent); session = s; stored = false } if c .quiescent else
+    record { change = Change.Fail e (c .«completion_code») (c .quiescent); session = s; stored = false } if c .quiescent else
     record {
-      change = change.Fail e (c .«completion_code») (c .quiescent);
+      change = Change.Fail e (c .«completion_code») (c .quiescent);
       session = withStall (marked s) (stallOf (marked s .«recovery_revision») (row .metadata) (isScopedStall c e));
       stored = false;
     }
@@ -88,19 +65,19 @@ failedAs s row c e =
 -- not valid: Failed, not quiescent, message 48 with the completion's code, a mark, the stall note untouched
 unfoldable pub invalidAs : Session → BackendCompletion → Judgement
 invalidAs s c = record {
-  change = change.Fail (invalidCompletion (c .«completion_code») .error) (c .«completion_code») false;
+  change = Change.Fail (invalidCompletion (c .«completion_code») .error) (c .«completion_code») false;
   session = marked s;
   stored = false;
 }
 
 unfoldable pub judgedTest : CompletionTest → Session → BackendCompletion → Judgement
-judgedTest (test.Valid actual code) s c = record { change = change.Complete actual code; session = s; stored = true }
-judgedTest test.MissingLength s c = invalidAs s c
-judgedTest test.Invalid s c = invalidAs s c
+judgedTest (CompletionTest.Valid actual code) s c = record { change = Change.Complete actual code; session = s; stored = true }
+judgedTest CompletionTest.MissingLength s c = invalidAs s c
+judgedTest CompletionTest.Invalid s c = invalidAs s c
 
 unfoldable pub judgedBy : OptionError → Session → Row → BackendCompletion → ℕ → Judgement
-judgedBy (error.Some e) s row c given = failedAs s row c e
-judgedBy error.None s row c given = judgedTest (testCompletion c given (row .metadata .«requested_length»)) s c
+judgedBy (OptionError.Some e) s row c given = failedAs s row c e
+judgedBy OptionError.None s row c given = judgedTest (testCompletion c given (row .metadata .«requested_length»)) s c
 
 unfoldable pub judged : Session → Row → BackendCompletion → ℕ → Judgement
 judged s row c given = judgedBy (c .error) s row c given
@@ -111,23 +88,23 @@ storedIn z p bytes stored area = spliceCut (p .start) (z .«row_bytes») bytes a
 
 -- the row takes the change; one that is not Pending, which no call leads to, is 41 and nothing else happens
 unfoldable pub settled : Step → Judgement → Place → List ℕ → Session → Memory → After Reported Memory
-settled (step.Refused r) j p bytes idle m = after (reportRefused idle r) m
-settled (step.To next x) j p bytes idle m =
-    after (record { answer = report.Report x; session = j .session })
+settled (Step.Refused r) j p bytes idle m = after (reportRefused idle r) m
+settled (Step.To next x) j p bytes idle m =
+    after (record { answer = ReportAnswer.Report x; session = j .session })
     (memory (putIn (m .store) (p .row) next) (storedIn (idle .size) p bytes (j .stored) (m .area)))
 
 -- by the reply; `idle` is the session without the poll. 45: a backend's error leaves the row Pending
 unfoldable pub pollReplyAt : PollReply → Row → Place → List ℕ → Session → Memory → After Reported Memory
-pollReplyAt reply.Nothing row p bytes idle m = after (record { answer = report.Report (reportOf row); session = idle }) m
-pollReplyAt (reply.Error e) row p bytes idle m = after (reportRefused (effect e idle) (fromBackend 45 e)) m
-pollReplyAt (reply.Completion c) row p bytes idle m =
+pollReplyAt PollReply.Nothing row p bytes idle m = after (record { answer = ReportAnswer.Report (reportOf row); session = idle }) m
+pollReplyAt (PollReply.Error e) row p bytes idle m = after (reportRefused (effect e idle) (fromBackend 45 e)) m
+pollReplyAt (PollReply.Completion c) row p bytes idle m =
     let j = judged idle row c (length bytes) in settled (changeRow row (j .change)) j p bytes idle m
 
 -- 2: no row has the id
 unfoldable pub pollReplyBy : Found → PollReply → List ℕ → Session → Memory → After Reported Memory
-pollReplyBy found.Nothing x bytes s m = after (reportRefused s (refusalOf 2)) m
-pollReplyBy (found.At i) x bytes s m =
-    pollReplyAt x (rowIn (m .store .rows) i) (placeOf (s .size) i) bytes (withFlight s flight.Nothing) m
+pollReplyBy Found.Nothing x bytes s m = after (reportRefused s (refusalOf 2)) m
+pollReplyBy (Found.At i) x bytes s m =
+    pollReplyAt x (rowIn (m .store .rows) i) (placeOf (s .size) i) bytes (withFlight s InFlight.Nothing) m
 
 -- 3
 unfoldable pub pollReplyFound : RequestId → PollReply → List ℕ → Session → Memory → After Reported Memory
@@ -137,10 +114,10 @@ pollReplyFound id x bytes s m =
 
 -- 2: its kind is not in flight
 unfoldable pub pollReplyIn : InFlight → PollReply → List ℕ → Session → Memory → After Reported Memory
-pollReplyIn flight.Nothing x bytes s m = after (reportRefused s (refusalOf 2)) m
-pollReplyIn (flight.Submission id) x bytes s m = after (reportRefused s (refusalOf 2)) m
-pollReplyIn (flight.Recovery r) x bytes s m = after (reportRefused s (refusalOf 2)) m
-pollReplyIn (flight.Poll id) x bytes s m = pollReplyFound id x bytes s m
+pollReplyIn InFlight.Nothing x bytes s m = after (reportRefused s (refusalOf 2)) m
+pollReplyIn (InFlight.Submission id) x bytes s m = after (reportRefused s (refusalOf 2)) m
+pollReplyIn (InFlight.Recovery r) x bytes s m = after (reportRefused s (refusalOf 2)) m
+pollReplyIn (InFlight.Poll id) x bytes s m = pollReplyFound id x bytes s m
 
 unfoldable pub pollReplyOf : PollReply → List ℕ → Session → Memory → After Reported Memory
 pollReplyOf x bytes s m = pollReplyIn (s .«in_flight») x bytes s m

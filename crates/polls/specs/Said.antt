@@ -3,13 +3,12 @@ use Prim.Native.Nat.{ℕ}
 use mathlib.Core.List.{List, [], _∷_}
 use Rattle.models.specs.Said.{Said, says, refused}
 use Rattle.rows.specs.Values.{reportValues}
-use Rattle.polls.specs.declared.PollAnswer.{PollAnswer}
-use Rattle.polls.specs.declared.PollAnswer.the-variants as poll
+use Rattle.polls.specs.declared.{PollAnswer.PollAnswer}
 
 abbrev pub pollSaid : PollAnswer → Said
-pollSaid (poll.Refused r) = refused r
-pollSaid (poll.Report x) = says (reportValues x)
-pollSaid (poll.Asked token) = says (token ∷ [])
+pollSaid (PollAnswer.Refused r) = refused r
+pollSaid (PollAnswer.Report x) = says (reportValues x)
+pollSaid (PollAnswer.Asked token) = says (token ∷ [])
 
 abbrev pub pollNumbers : List ℕ
 pollNumbers = 1 ∷ 3 ∷ 40 ∷ 28 ∷ []

@@ -3,15 +3,13 @@ use Prim.Native.Nat.{ℕ}
 use mathlib.Core.List.{List, [], _∷_}
 use Rattle.words.specs.Words.{optionU64Words}
 use Rattle.models.specs.Codes.{controllerWord}
-use Rattle.models.specs.declared.RequestReport.{RequestReport}
+use Rattle.models.specs.declared.{RequestReport.RequestReport}
 use Rattle.rows.specs.Values.{reportValues}
-use Rattle.targets.specs.declared.wants.Wanted.{Wanted}
-use Rattle.targets.specs.declared.wants.Wanted.the-variants as wanted
-use Rattle.session.specs.declared.Session.{Session}
+use Rattle.targets.specs.declared.{wants.Wanted.Wanted}
+use Rattle.session.specs.declared.{Session.Session}
 use Rattle.session_words.specs.State.{portsWords, stallWords, flightWords, portsTail, revisionTail, stallTail}
 use Rattle.answer_words.specs.Encode.{refusalWords}
-use Rattle.questions.specs.declared.QuestionAnswer.{QuestionAnswer}
-use Rattle.questions.specs.declared.QuestionAnswer.the-variants as answer
+use Rattle.questions.specs.declared.{QuestionAnswer.QuestionAnswer}
 
 -- of what is in flight the kind alone
 unfoldable pub sessionStatusWords : Session → List ℕ
@@ -27,13 +25,13 @@ unfoldable pub placedWords : ℕ → RequestReport → List ℕ
 placedWords place x = 12 ∷ place ∷ reportValues x
 
 abbrev pub wantedWords : Wanted → List ℕ
-wantedWords wanted.Nothing = 13 ∷ 0 ∷ 0 ∷ []
-wantedWords (wanted.First number) = 13 ∷ 1 ∷ number ∷ []
-wantedWords (wanted.Second number) = 13 ∷ 2 ∷ number ∷ []
+wantedWords Wanted.Nothing = 13 ∷ 0 ∷ 0 ∷ []
+wantedWords (Wanted.First number) = 13 ∷ 1 ∷ number ∷ []
+wantedWords (Wanted.Second number) = 13 ∷ 2 ∷ number ∷ []
 
 abbrev pub questionWords : QuestionAnswer → List ℕ
-questionWords (answer.Refused r) = refusalWords r
-questionWords (answer.Status s) = sessionStatusWords s
-questionWords answer.NoReport = 5 ∷ []
-questionWords (answer.ReportAt place x) = placedWords place x
-questionWords (answer.Reading x) = wantedWords x
+questionWords (QuestionAnswer.Refused r) = refusalWords r
+questionWords (QuestionAnswer.Status s) = sessionStatusWords s
+questionWords QuestionAnswer.NoReport = 5 ∷ []
+questionWords (QuestionAnswer.ReportAt place x) = placedWords place x
+questionWords (QuestionAnswer.Reading x) = wantedWords x

@@ -11,40 +11,25 @@ use Rattle.chain.specs.After.{After, after}
 use Rattle.chain.specs.Chain.{_if_else_}
 use Rattle.models.specs.Kinds.{isControl, isConfigured, isPrepared}
 use Rattle.models.specs.Refusals.{refusalOf, fromBackend, rejected}
-use Rattle.models.specs.declared.DeviceSnapshot.{DeviceSnapshot}
-use Rattle.models.specs.declared.OperationError.{OperationError}
-use Rattle.models.specs.declared.OptionPorts.{OptionPorts}
-use Rattle.models.specs.declared.OptionPorts.the-variants as ports
-use Rattle.models.specs.declared.PortId.{PortId}
-use Rattle.models.specs.declared.PortReading.{PortReading}
+use Rattle.models.specs.declared.{DeviceSnapshot.DeviceSnapshot, OperationError.OperationError, OptionPorts.OptionPorts, PortId.PortId, PortReading.PortReading, RequestMetadata.RequestMetadata, Verdict.Verdict}
 use Rattle.models.specs.declared.PortReading.the-variants.{Word, Error}
-use Rattle.models.specs.declared.RequestMetadata.{RequestMetadata}
-use Rattle.models.specs.declared.Verdict.{Verdict}
-use Rattle.models.specs.declared.Verdict.the-variants as verdict
 use Rattle.bus.specs.Tables.{Bus, newPort, portIndex, portAt, putPort}
 use Rattle.bus.specs.Ports.{numberChecked, validatedRow, validatedBy, validated, observedRow, observePortBy, observePort, freshObserved, freshWord, freshReading, freshPortBy, freshPort}
-use Rattle.bus.specs.declared.ports.Observed.{Observed}
-use Rattle.bus.specs.declared.ports.Observed.the-variants as observed
-use Rattle.bus.specs.declared.ports.PortChecked.{PortChecked}
-use Rattle.bus.specs.declared.ports.PortChecked.the-variants as checked
+use Rattle.bus.specs.declared.{ports.Observed.Observed, ports.PortChecked.PortChecked}
 use Rattle.targets.specs.Target.{refusedDevice, knownDevice, preparedDevice, freshDevice, checkDeviceBy, checkDevice, endpointBy, checkEndpoint, checkTargetBy, checkTarget}
 use Rattle.targets.specs.Wants.{isMissing, secondWanted, secondBy, afterFirst, firstWanted, portWanted, deviceWanted, wantedBy, wantedReading}
-use Rattle.targets.specs.declared.Readings.{Readings}
-use Rattle.targets.specs.declared.target.DeviceChecked.{DeviceChecked}
-use Rattle.targets.specs.declared.target.DeviceChecked.the-variants as answer
-use Rattle.targets.specs.declared.wants.Wanted.{Wanted}
-use Rattle.targets.specs.declared.wants.Wanted.the-variants as wanted
+use Rattle.targets.specs.declared.{Readings.Readings, target.DeviceChecked.DeviceChecked, wants.Wanted.Wanted}
 use Rattle.questions.specs.Wants.{Taken, Means}
 
 -- refused by 33, with the error
 abbrev pub RefusedBy : OperationError → After Verdict Bus → Type 0
-RefusedBy e o = o .result ≡ verdict.Refused (fromBackend 33 e)
+RefusedBy e o = o .result ≡ Verdict.Refused (fromBackend 33 e)
 
 -- a port that was read is read again
 abbrev pub Rereads : OptionPorts → Bus → Type 0
 Rereads o b =
-    (id : PortId) (raw old new : ℕ) → validated o id b ≡ checked.Read old → freshWord raw o id b .result ≡ checked.Read new
-    → validated o id (freshWord raw o id b .lent) ≡ checked.Read new
+    (id : PortId) (raw old new : ℕ) → validated o id b ≡ PortChecked.Read old → freshWord raw o id b .result ≡ PortChecked.Read new
+    → validated o id (freshWord raw o id b .lent) ≡ PortChecked.Read new
 
 module _ (o : OptionPorts) (m : RequestMetadata) where
   abbrev pub Told : Wanted → Readings → Readings → After Verdict Bus → After Verdict Bus → Type 0
@@ -52,9 +37,9 @@ module _ (o : OptionPorts) (m : RequestMetadata) where
 
   -- what is done by y counts only where its first reading agrees
   agreeing : (w : Wanted) (x y : Readings) (a c e : After Verdict Bus) → (Taken (x .first) (y .first) → e ≡ c) → Told w x y a c → Told w x y a e
-  agreeing wanted.Nothing x y a c e k t = λ u v. k u ∙ t u v
-  agreeing (wanted.First n) x y a c e k t = t
-  agreeing (wanted.Second n) x y a c e k t = t
+  agreeing Wanted.Nothing x y a c e k t = λ u v. k u ∙ t u v
+  agreeing (Wanted.First n) x y a c e k t = t
+  agreeing (Wanted.Second n) x y a c e k t = t
 
   module _ (d : DeviceSnapshot) where
     -- 36, and the second reading, on the bus that the first left
@@ -62,15 +47,15 @@ module _ (o : OptionPorts) (m : RequestMetadata) where
       -- whether the request is control, and the device is configured
       abbrev wants : Bool → Bool → PortReading → Wanted
       wants control configured second =
-          wanted.Nothing if control else wanted.Nothing if not configured else wanted.Nothing if not (isMissing second) else wanted.Second (d .port .number)
+          Wanted.Nothing if control else Wanted.Nothing if not configured else Wanted.Nothing if not (isMissing second) else Wanted.Second (d .port .number)
 
       abbrev does : Bool → Bool → PortReading → After Verdict Bus
       does control configured second =
-          after verdict.Pass left if control else
+          after Verdict.Pass left if control else
           after (rejected 36) left if not configured else
           after (endpointBy (freshPort o (d .port) second left .result) m (freshPort o (d .port) second left .lent)) (freshPort o (d .port) second left .lent)
 
-      module _ (new : ℕ) (valid : validated o (d .port) left ≡ checked.Read new) where
+      module _ (new : ℕ) (valid : validated o (d .port) left ≡ PortChecked.Read new) where
         second-told : (c g : Bool) (f f' s s' : PortReading)
             → Told (wants c g s) (record { first = f; second = s }) (record { first = f'; second = s' }) (does c g s) (does c g s')
         unfolding _if_else_ freshPort freshPortBy freshReading endpointBy
@@ -81,27 +66,27 @@ module _ (o : OptionPorts) (m : RequestMetadata) where
 
       -- 35
       abbrev prepared : PortChecked → Bool → DeviceChecked
-      prepared (checked.Refused r) t = answer.Refused r
-      prepared (checked.Read raw) t = refusedDevice 35 if not t else answer.Ready d
+      prepared (PortChecked.Refused r) t = DeviceChecked.Refused r
+      prepared (PortChecked.Read raw) t = refusedDevice 35 if not t else DeviceChecked.Ready d
 
-      prepared-told : (p : PortChecked) (t : Bool) (f f' s s' : PortReading) → ((new : ℕ) → p ≡ checked.Read new → validated o (d .port) left ≡ checked.Read new)
+      prepared-told : (p : PortChecked) (t : Bool) (f f' s s' : PortReading) → ((new : ℕ) → p ≡ PortChecked.Read new → validated o (d .port) left ≡ PortChecked.Read new)
           → Told (secondBy (prepared p t) m s) (record { first = f; second = s }) (record { first = f'; second = s' }) (checkTargetBy (prepared p t) o m s left) (checkTargetBy (prepared p t) o m s' left)
       unfolding _if_else_ secondBy secondWanted checkTargetBy checkEndpoint
-      prepared-told (checked.Refused r) t f f' s s' k = λ u v. refl
-      prepared-told (checked.Read raw) false f f' s s' k = λ u v. refl
-      prepared-told (checked.Read raw) true f f' s s' k = second-told raw (k raw refl) (isControl (m .«transfer_type»)) (isConfigured (d .state)) f f' s s'
+      prepared-told (PortChecked.Refused r) t f f' s s' k = λ u v. refl
+      prepared-told (PortChecked.Read raw) false f f' s s' k = λ u v. refl
+      prepared-told (PortChecked.Read raw) true f f' s s' k = second-told raw (k raw refl) (isControl (m .«transfer_type»)) (isConfigured (d .state)) f f' s s'
 
       prepared-is : (p : PortChecked) → preparedDevice p d ≡ prepared p (isPrepared (d .state))
       unfolding preparedDevice
-      prepared-is (checked.Refused r) = refl
-      prepared-is (checked.Read raw) = refl
+      prepared-is (PortChecked.Refused r) = refl
+      prepared-is (PortChecked.Read raw) = refl
 
     -- the first reading
     module _ (b : Bus) (again : Rereads o b) where
       abbrev firstOf : PortReading → PortReading → After Verdict Bus
       firstOf f s = checkTargetBy (preparedDevice (freshReading f o (d .port) b .result) d) o m s (freshReading f o (d .port) b .lent)
 
-      first-told : (old : ℕ) → validated o (d .port) b ≡ checked.Read old → (f f' s s' : PortReading)
+      first-told : (old : ℕ) → validated o (d .port) b ≡ PortChecked.Read old → (f f' s s' : PortReading)
           → Told (firstWanted f s o d m b) (record { first = f; second = s }) (record { first = f'; second = s' }) (firstOf f s) (firstOf f' s')
       unfolding firstWanted afterFirst freshReading preparedDevice checkTargetBy
       first-told old e (Error x) f' s s' = refl
@@ -117,8 +102,8 @@ module _ (o : OptionPorts) (m : RequestMetadata) where
 
       port-told : (p : PortChecked) → validated o (d .port) b ≡ p → (x y : Readings) → Told (portWanted p d o m x b) x y (portOf p x) (portOf p y)
       unfolding portWanted freshPortBy preparedDevice checkTargetBy
-      port-told (checked.Refused r) e x y = λ u v. refl
-      port-told (checked.Read old) e x y = first-told old e (x .first) (y .first) (x .second) (y .second)
+      port-told (PortChecked.Refused r) e x y = λ u v. refl
+      port-told (PortChecked.Read old) e x y = first-told old e (x .first) (y .first) (x .second) (y .second)
 
   -- 26 to 28
   module _ (b : Bus) (again : Rereads o b) (x y : Readings) where
@@ -127,8 +112,8 @@ module _ (o : OptionPorts) (m : RequestMetadata) where
 
     device-told : (k : DeviceChecked) → Told (wantedBy k o m x b) x y (deviceOf k x) (deviceOf k y)
     unfolding wantedBy deviceWanted checkDeviceBy freshDevice freshPort checkTargetBy
-    device-told (answer.Refused r) = λ u v. refl
-    device-told (answer.Ready d) = port-told d b again (validated o (d .port) b) refl x y
+    device-told (DeviceChecked.Refused r) = λ u v. refl
+    device-told (DeviceChecked.Ready d) = port-told d b again (validated o (d .port) b) refl x y
 
     pub target-told : (i : Bool) → Told (wantedReading i o m x b) x y (checkTarget i o m x b) (checkTarget i o m y b)
     unfolding wantedReading checkTarget checkDevice
@@ -137,32 +122,32 @@ module _ (o : OptionPorts) (m : RequestMetadata) where
 -- ---- a port that was read is read again
 -- a count is a byte
 abbrev pub CountFits : OptionPorts → Type 0
-CountFits ports.None = Unit {0}
-CountFits (ports.Some p) = p .count < 2 ^ 8
+CountFits OptionPorts.None = Unit {0}
+CountFits (OptionPorts.Some p) = p .count < 2 ^ 8
 
-in-count : (z c : Bool) (number most : ℕ) → ltb most number ≡ c → (verdict.Refused (refusalOf 30) if z || c else verdict.Pass) ≡ verdict.Pass → number ≤ most
+in-count : (z c : Bool) (number most : ℕ) → ltb most number ≡ c → (Verdict.Refused (refusalOf 30) if z || c else Verdict.Pass) ≡ Verdict.Pass → number ≤ most
 unfolding _if_else_
 in-count true c number most e h = let z : _≡_ {A = ℕ} 0 1 = cc in absurd (omega arith)
 in-count false true number most e h = let z : _≡_ {A = ℕ} 0 1 = cc in absurd (omega arith)
 in-count false false number most e h = ltb-false most number e
 
-number-fits : (o : OptionPorts) (number : ℕ) → CountFits o → numberChecked o number ≡ verdict.Pass → portIndex number < 255
+number-fits : (o : OptionPorts) (number : ℕ) → CountFits o → numberChecked o number ≡ Verdict.Pass → portIndex number < 255
 unfolding numberChecked
-number-fits ports.None number h e = let z : _≡_ {A = ℕ} 0 1 = cc in absurd (omega arith)
-number-fits (ports.Some p) number h e = omega (arith, in-count (eqb number 0) (ltb (p .count) number) number (p .count) refl e)
+number-fits OptionPorts.None number h e = let z : _≡_ {A = ℕ} 0 1 = cc in absurd (omega arith)
+number-fits (OptionPorts.Some p) number h e = omega (arith, in-count (eqb number 0) (ltb (p .count) number) number (p .count) refl e)
 
 module _ (o : OptionPorts) (b : Bus) (id : PortId) (new : ℕ) where
-  row-again : portIndex (id .number) < length (b .ports) → (v : Observed) → freshObserved (observePortBy v (id .number) b .result) o id ≡ checked.Read new
-      → validatedRow o id (portAt (observePortBy v (id .number) b .lent) (id .number)) ≡ checked.Read new
+  row-again : portIndex (id .number) < length (b .ports) → (v : Observed) → freshObserved (observePortBy v (id .number) b .result) o id ≡ PortChecked.Read new
+      → validatedRow o id (portAt (observePortBy v (id .number) b .lent) (id .number)) ≡ PortChecked.Read new
   unfolding observePortBy freshObserved putPort
-  row-again h (observed.Refused r) e = let z : _≡_ {A = ℕ} 0 1 = cc in absurd (omega arith)
-  row-again h (observed.To row) e = ap (validatedRow o id) (getD-set-same (b .ports) (portIndex (id .number)) row newPort h) ∙ e
+  row-again h (Observed.Refused r) e = let z : _≡_ {A = ℕ} 0 1 = cc in absurd (omega arith)
+  row-again h (Observed.To row) e = ap (validatedRow o id) (getD-set-same (b .ports) (portIndex (id .number)) row newPort h) ∙ e
 
-  number-again : (raw old : ℕ) → length (b .ports) ≡ 255 → CountFits o → (v : Verdict) → numberChecked o (id .number) ≡ v → validatedBy v o id b ≡ checked.Read old
-      → freshWord raw o id b .result ≡ checked.Read new → validatedBy v o id (freshWord raw o id b .lent) ≡ checked.Read new
+  number-again : (raw old : ℕ) → length (b .ports) ≡ 255 → CountFits o → (v : Verdict) → numberChecked o (id .number) ≡ v → validatedBy v o id b ≡ PortChecked.Read old
+      → freshWord raw o id b .result ≡ PortChecked.Read new → validatedBy v o id (freshWord raw o id b .lent) ≡ PortChecked.Read new
   unfolding validatedBy freshWord observePort
-  number-again raw old n h (verdict.Refused r) ev e ew = let z : _≡_ {A = ℕ} 0 1 = cc in absurd (omega arith)
-  number-again raw old n h verdict.Pass ev e ew = row-again (omega (arith, number-fits o (id .number) h ev)) (observedRow (portAt b (id .number)) raw) ew
+  number-again raw old n h (Verdict.Refused r) ev e ew = let z : _≡_ {A = ℕ} 0 1 = cc in absurd (omega arith)
+  number-again raw old n h Verdict.Pass ev e ew = row-again (omega (arith, number-fits o (id .number) h ev)) (observedRow (portAt b (id .number)) raw) ew
 
 pub rereads : (o : OptionPorts) (b : Bus) → length (b .ports) ≡ 255 → CountFits o → Rereads o b
 unfolding validated

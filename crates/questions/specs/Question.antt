@@ -1,16 +1,13 @@
 -- The questions, each with its arguments, and their answers. Assumes nothing.
 use Prim.Native.Nat.{ℕ}
 use mathlib.Core.List.{List}
-use Rattle.models.specs.declared.ControlPlan.{ControlPlan}
-use Rattle.models.specs.declared.PortReading.{PortReading}
+use Rattle.models.specs.declared.{ControlPlan.ControlPlan, PortReading.PortReading}
 use Rattle.reports.specs.Scan.{reportFrom}
-use Rattle.reports.specs.declared.PlacedReport.{PlacedReport}
-use Rattle.reports.specs.declared.PlacedReport.the-variants as placed
+use Rattle.reports.specs.declared.{PlacedReport.PlacedReport}
 use Rattle.submissions.specs.Submit.{Request}
 use Rattle.submissions.specs.Wants.{submitWants, planWants}
 use Rattle.calls.specs.Step.{World, worldStore}
-use Rattle.questions.specs.declared.QuestionAnswer.{QuestionAnswer}
-use Rattle.questions.specs.declared.QuestionAnswer.the-variants as answer
+use Rattle.questions.specs.declared.{QuestionAnswer.QuestionAnswer}
 
 pub data Question : Type 0 where
   SessionStatus : Question
@@ -20,12 +17,12 @@ pub data Question : Type 0 where
   PlanWants : ControlPlan → List ℕ → PortReading → Question
 
 abbrev pub ofPlaced : PlacedReport → QuestionAnswer
-ofPlaced (placed.Refused r) = answer.Refused r
-ofPlaced placed.None = answer.NoReport
-ofPlaced (placed.At i x) = answer.ReportAt i x
+ofPlaced (PlacedReport.Refused r) = QuestionAnswer.Refused r
+ofPlaced PlacedReport.None = QuestionAnswer.NoReport
+ofPlaced (PlacedReport.At i x) = QuestionAnswer.ReportAt i x
 
 unfoldable pub questionOf : Question → World → QuestionAnswer
-questionOf SessionStatus w = answer.Status (w .session)
+questionOf SessionStatus w = QuestionAnswer.Status (w .session)
 questionOf (ReportFrom place) w = ofPlaced (reportFrom place (w .session) (worldStore w))
-questionOf (SubmitWants packets q) w = answer.Reading (submitWants packets q (w .session) (w .lent))
-questionOf (PlanWants q bytes first) w = answer.Reading (planWants q bytes first (w .session) (w .lent))
+questionOf (SubmitWants packets q) w = QuestionAnswer.Reading (submitWants packets q (w .session) (w .lent))
+questionOf (PlanWants q bytes first) w = QuestionAnswer.Reading (planWants q bytes first (w .session) (w .lent))

@@ -11,23 +11,18 @@ use borrow.Author.Tests.{eqb-true, eqb-false, ltb-true, ltb-false}
 use Rattle.chain.specs.After.{After}
 use Rattle.chain.specs.Chain.{_if_else_}
 use Rattle.chain.proofs.Chain.{caseB, if-all}
-use Rattle.words.specs.declared.OptionU32.{OptionU32}
+use Rattle.words.specs.declared.{OptionU32.OptionU32}
 use Rattle.models.specs.Requests.{deviceMayAccess}
-use Rattle.models.specs.declared.RequestState.{RequestState}
+use Rattle.models.specs.declared.{RequestState.RequestState, Verdict.Verdict}
 use Rattle.models.specs.declared.RequestState.the-variants.{Pending, Completed, Failed, Aborted}
-use Rattle.models.specs.declared.Verdict.{Verdict}
-use Rattle.models.specs.declared.Verdict.the-variants as verdict
 use Rattle.rows.specs.Table.{emptyRow, rowIn, idIn}
 use Rattle.rows.specs.Store.{Store, putIn}
-use Rattle.rows.specs.declared.Row.{Row}
+use Rattle.rows.specs.declared.{Row.Row}
 use Rattle.rules.specs.Rules.{moved, whilePending, completed, abortConfirmed, changeRow}
-use Rattle.rules.specs.declared.Change.the-variants as change
-use Rattle.rules.specs.declared.Step.{Step}
-use Rattle.rules.specs.declared.Step.the-variants as step
-use Rattle.checks.specs.declared.completion.CompletionTest.{CompletionTest}
-use Rattle.checks.specs.declared.completion.CompletionTest.the-variants as test
+use Rattle.rules.specs.declared.{Change.Change, Step.Step}
+use Rattle.checks.specs.declared.{completion.CompletionTest.CompletionTest}
 use Rattle.session.specs.Lent.{Memory}
-use Rattle.session.specs.declared.Size.{Size}
+use Rattle.session.specs.declared.{Size.Size}
 use Rattle.recovery.specs.Entries.{RowLists, RowEntry, readEntries, rowCompletedBy, testedBy, completeOne, abortedBy, abortOne, onwardBy, completeAll, abortAll, abortsIn, applyAll}
 use Rattle.recovery.specs.Reports.{idsOf, idLists}
 
@@ -37,10 +32,10 @@ Alike p rows left = idIn left p ≡ idIn rows p
 
 -- ---- one row
 abbrev KeepsId : Row → Step → Type 0
-KeepsId r (step.Refused x) = r .id ≡ r .id
-KeepsId r (step.To next x) = next .id ≡ r .id
+KeepsId r (Step.Refused x) = r .id ≡ r .id
+KeepsId r (Step.To next x) = next .id ≡ r .id
 
-complete-keeps : (r : Row) (actual n : ℕ) → KeepsId r (changeRow r (change.Complete actual n))
+complete-keeps : (r : Row) (actual n : ℕ) → KeepsId r (changeRow r (Change.Complete actual n))
 unfolding changeRow completed whilePending moved
 complete-keeps r actual n = by (r .state)
   where
@@ -50,7 +45,7 @@ complete-keeps r actual n = by (r .state)
     by (Failed e c q) = refl
     by Aborted = refl
 
-abort-keeps : (r : Row) → KeepsId r (changeRow r change.ConfirmAbort)
+abort-keeps : (r : Row) → KeepsId r (changeRow r Change.ConfirmAbort)
 unfolding changeRow abortConfirmed moved
 abort-keeps r = if-all (KeepsId r) _ (not (deviceMayAccess (r .state))) _ refl refl
 
@@ -70,25 +65,25 @@ module _ (p : ℕ) where
   complete-alike : (d : Step) (z : Size) (i : ℕ) (bytes : List ℕ) (m : Memory) → KeepsId (rowIn (m .store .rows) i) d
       → Alike p (m .store .rows) (rowCompletedBy d z i bytes m .lent .store .rows)
   unfolding rowCompletedBy putIn
-  complete-alike (step.Refused x) z i bytes m k = refl
-  complete-alike (step.To next x) z i bytes m k = put-alike p (m .store .rows) i next k
+  complete-alike (Step.Refused x) z i bytes m k = refl
+  complete-alike (Step.To next x) z i bytes m k = put-alike p (m .store .rows) i next k
 
   tested-alike : (t : CompletionTest) (code : OptionU32) (z : Size) (i : ℕ) (bytes : List ℕ) (m : Memory)
       → Alike p (m .store .rows) (testedBy t code z i bytes m .lent .store .rows)
   unfolding testedBy
-  tested-alike test.MissingLength code z i bytes m = refl
-  tested-alike test.Invalid code z i bytes m = refl
-  tested-alike (test.Valid actual n) code z i bytes m = complete-alike _ z i bytes m (complete-keeps (rowIn (m .store .rows) i) actual n)
+  tested-alike CompletionTest.MissingLength code z i bytes m = refl
+  tested-alike CompletionTest.Invalid code z i bytes m = refl
+  tested-alike (CompletionTest.Valid actual n) code z i bytes m = complete-alike _ z i bytes m (complete-keeps (rowIn (m .store .rows) i) actual n)
 
   abort-alike : (d : Step) (i : ℕ) (s : Store) → KeepsId (rowIn (s .rows) i) d → Alike p (s .rows) (abortedBy d i s .lent .rows)
   unfolding abortedBy putIn
-  abort-alike (step.Refused x) i s k = refl
-  abort-alike (step.To next x) i s k = put-alike p (s .rows) i next k
+  abort-alike (Step.Refused x) i s k = refl
+  abort-alike (Step.To next x) i s k = put-alike p (s .rows) i next k
 
   onward : {L : Type 0} (rows : L → List Row) (r : List Row) (v : Verdict) (o : After Verdict L) (next : L → After Verdict L)
       → Alike p r (rows (o .lent)) → Alike p (rows (o .lent)) (rows (next (o .lent) .lent)) → Alike p r (rows (onwardBy v o next .lent))
-  onward rows r (verdict.Refused x) o next a b = a
-  onward rows r verdict.Pass o next a b = b ∙ a
+  onward rows r (Verdict.Refused x) o next a b = a
+  onward rows r Verdict.Pass o next a b = b ∙ a
 
   completions-alike : (z : Size) (es : List RowEntry) (bytes : List ℕ) (m : Memory)
       → Alike p (m .store .rows) (completeAll z es bytes m .lent .store .rows)

@@ -5,48 +5,30 @@ use mathlib.Core.Path.{_≡_, refl}
 use lib.ListN.{length, getD, take, drop}
 use Rattle.chain.specs.After.{After, after}
 use Rattle.chain.specs.Lists.{foundIn}
-use Rattle.chain.specs.declared.Found.{Found}
-use Rattle.chain.specs.declared.Found.the-variants as found
+use Rattle.chain.specs.declared.{Found.Found}
 use Rattle.chain.proofs.Chain.{if-all}
-use Rattle.words.specs.declared.OptionU32.{OptionU32}
+use Rattle.words.specs.declared.{OptionU32.OptionU32}
 use Rattle.models.specs.Said.{Tabled, verdictSaid}
-use Rattle.models.specs.declared.BackendCompletion.{BackendCompletion}
-use Rattle.models.specs.declared.RequestId.{RequestId}
-use Rattle.models.specs.declared.Verdict.{Verdict}
-use Rattle.models.specs.declared.Verdict.the-variants as verdict
+use Rattle.models.specs.declared.{BackendCompletion.BackendCompletion, RequestId.RequestId, Verdict.Verdict}
 use Rattle.models.proofs.Said.{tabled-says, tabled-own, tabled-backend, tabled-code, tabled-in, said-of}
 use Rattle.rows.specs.Store.{Store}
 use Rattle.rows.specs.Table.{emptyRow}
-use Rattle.rows.specs.declared.Row.{Row}
+use Rattle.rows.specs.declared.{Row.Row}
 use Rattle.rules.specs.Rules.{changeRow}
 use Rattle.rules.specs.Said.{stepSaid}
-use Rattle.rules.specs.declared.Change.the-variants as change
-use Rattle.rules.specs.declared.Step.{Step}
-use Rattle.rules.specs.declared.Step.the-variants as step
+use Rattle.rules.specs.declared.{Change.Change, Step.Step}
 use Rattle.rules.proofs.Said.{change-tabled}
 use Rattle.ledger.specs.Search.{isAt}
 use Rattle.checks.specs.Completion.{testCompletion}
-use Rattle.checks.specs.declared.completion.CompletionTest.{CompletionTest}
-use Rattle.checks.specs.declared.completion.CompletionTest.the-variants as test
+use Rattle.checks.specs.declared.{completion.CompletionTest.CompletionTest}
 use Rattle.session.specs.Lent.{Memory}
-use Rattle.session.specs.declared.InFlight.{InFlight}
-use Rattle.session.specs.declared.InFlight.the-variants as flight
-use Rattle.session.specs.declared.Recovery.{Recovery}
-use Rattle.session.specs.declared.RecoveryKind.{RecoveryKind}
-use Rattle.session.specs.declared.Session.{Session}
-use Rattle.session.specs.declared.Size.{Size}
+use Rattle.session.specs.declared.{InFlight.InFlight, Recovery.Recovery, RecoveryKind.RecoveryKind, Session.Session, Size.Size}
 use Rattle.session.proofs.Said.{guarded-all}
 use Rattle.recovery.specs.Entries.{RowLists, RowEntry, readEntries, rowCompletedBy, testedBy, completeOne, abortedBy, abortOne, onwardBy, completeAll, abortAll, abortsIn, applyAll}
 use Rattle.recovery.specs.Recover.{begunAs, beginRow, recoverBy, recoverOf}
 use Rattle.recovery.specs.RecoveryReply.{ReplyLists, concludedBy, settledOf, doneOf, replyBy, replySized, replyIn, recoveryReplyOf}
-use Rattle.recovery.specs.Said.{beginSaid, recoverySaid, recoverNumbers, recoveryReplyNumbers}
-use Rattle.recovery.specs.declared.AbortReport.{AbortReport}
-use Rattle.recovery.specs.declared.Begun.{Begun}
-use Rattle.recovery.specs.declared.recovery_reply.Ended.{Ended}
-use Rattle.recovery.specs.declared.Ids.{Ids}
-use Rattle.recovery.specs.declared.Recovered.{Recovered}
-use Rattle.recovery.specs.declared.RecoveryReply.{RecoveryReply}
-use Rattle.recovery.specs.declared.RecoveryReply.the-variants as reply
+use Rattle.recovery.specs.Said.{beginSaid, recoverySaid, recoverNumbers, entryNumbers, recoveryReplyNumbers}
+use Rattle.recovery.specs.declared.{AbortReport.AbortReport, Begun.Begun, Ids.Ids, Recovered.Recovered, RecoveryReply.RecoveryReply, recovery_reply.Ended.Ended}
 
 -- ---- the start
 abbrev Begins : Begun → Type 0
@@ -58,8 +40,8 @@ row-tabled id kind r s rows = if-all Begins _ _ _ (tabled-own _ 43 refl) (if-all
 
 recover-by : (f : Found) (id : RequestId) (kind : RecoveryKind) (s : Session) (rows : List Row) → Begins (recoverBy f id kind s rows)
 unfolding recoverBy
-recover-by found.Nothing id kind s rows = tabled-own _ 40 refl
-recover-by (found.At i) id kind s rows = row-tabled id kind _ s rows
+recover-by Found.Nothing id kind s rows = tabled-own _ 40 refl
+recover-by (Found.At i) id kind s rows = row-tabled id kind _ s rows
 
 module _ (id : RequestId) (kind : RecoveryKind) (s : Session) (store : Store) where
   pub recover-tabled : Tabled recoverNumbers (beginSaid (recoverOf id kind s store .answer))
@@ -72,19 +54,19 @@ module _ (id : RequestId) (kind : RecoveryKind) (s : Session) (store : Store) wh
 
 -- ---- an entry
 abbrev Enters : {L : Type 0} → After Verdict L → Type 0
-Enters o = Tabled recoveryReplyNumbers (verdictSaid (o .result))
+Enters o = Tabled entryNumbers (verdictSaid (o .result))
 
 completed-by : (x : Step) → Tabled (41 ∷ []) (stepSaid x) → (z : Size) (i : ℕ) (bytes : List ℕ) (m : Memory) → Enters (rowCompletedBy x z i bytes m)
 unfolding rowCompletedBy
-completed-by (step.Refused r) h z i bytes m = tabled-in recoveryReplyNumbers (41 ∷ []) refl _ h
-completed-by (step.To next x) h z i bytes m = tabled-says _ _
+completed-by (Step.Refused r) h z i bytes m = tabled-in entryNumbers (41 ∷ []) refl _ h
+completed-by (Step.To next x) h z i bytes m = tabled-says _ _
 
 tested-by : (t : CompletionTest) (code : OptionU32) (z : Size) (i : ℕ) (bytes : List ℕ) (m : Memory) → Enters (testedBy t code z i bytes m)
 unfolding testedBy
-tested-by test.MissingLength code z i bytes m = tabled-own _ 47 refl
-tested-by test.Invalid code z i bytes m = tabled-code _ code refl
-tested-by (test.Valid actual n) code z i bytes m =
-    completed-by (changeRow (getD (m .store .rows) i emptyRow) (change.Complete actual n)) (change-tabled _ (change.Complete actual n)) z i bytes m
+tested-by CompletionTest.MissingLength code z i bytes m = tabled-own _ 47 refl
+tested-by CompletionTest.Invalid code z i bytes m = tabled-code _ code refl
+tested-by (CompletionTest.Valid actual n) code z i bytes m =
+    completed-by (changeRow (getD (m .store .rows) i emptyRow) (Change.Complete actual n)) (change-tabled _ (Change.Complete actual n)) z i bytes m
 
 one-tabled : (z : Size) (i : ℕ) (c : BackendCompletion) (bytes : List ℕ) (m : Memory) → Enters (completeOne z i c bytes m)
 unfolding completeOne
@@ -92,17 +74,17 @@ one-tabled z i c bytes m = tested-by (testCompletion c (length bytes) (getD (m .
 
 aborted-by : (x : Step) → Tabled (43 ∷ []) (stepSaid x) → (i : ℕ) (store : Store) → Enters (abortedBy x i store)
 unfolding abortedBy
-aborted-by (step.Refused r) h i store = tabled-in recoveryReplyNumbers (43 ∷ []) refl _ h
-aborted-by (step.To next x) h i store = tabled-says _ _
+aborted-by (Step.Refused r) h i store = tabled-in entryNumbers (43 ∷ []) refl _ h
+aborted-by (Step.To next x) h i store = tabled-says _ _
 
 abort-tabled : (i : ℕ) (store : Store) → Enters (abortOne i store)
 unfolding abortOne
-abort-tabled i store = aborted-by (changeRow (getD (store .rows) i emptyRow) change.ConfirmAbort) (change-tabled _ change.ConfirmAbort) i store
+abort-tabled i store = aborted-by (changeRow (getD (store .rows) i emptyRow) Change.ConfirmAbort) (change-tabled _ Change.ConfirmAbort) i store
 
 -- ---- all of them
 onward : {L : Type 0} (v : Verdict) (o : After Verdict L) (next : L → After Verdict L) → Enters o → ((l : L) → Enters (next l)) → Enters (onwardBy v o next)
-onward (verdict.Refused r) o next h k = h
-onward verdict.Pass o next h k = k (o .lent)
+onward (Verdict.Refused r) o next h k = h
+onward Verdict.Pass o next h k = k (o .lent)
 
 completions-tabled : (z : Size) (es : List RowEntry) (bytes : List ℕ) (m : Memory) → Enters (completeAll z es bytes m)
 completions-tabled z [] bytes m = tabled-says _ _
@@ -114,7 +96,7 @@ aborts-tabled : (is : List ℕ) (store : Store) → Enters (abortAll is store)
 aborts-tabled [] store = tabled-says _ _
 aborts-tabled (i ∷ is) store = onward (abortOne i store .result) (abortOne i store) _ (abort-tabled i store) (λ left. aborts-tabled is left)
 
-entries-tabled : (z : Size) (l : RowLists) (m : Memory) → Enters (applyAll z l m)
+pub entries-tabled : (z : Size) (l : RowLists) (m : Memory) → Enters (applyAll z l m)
 unfolding applyAll
 entries-tabled z l m =
     let es : List RowEntry = readEntries (l .completed) (l .completions) in
@@ -125,11 +107,11 @@ entries-tabled z l m =
 abbrev Replies : After Recovered Memory → Type 0
 Replies o = Tabled recoveryReplyNumbers (recoverySaid (o .result .answer))
 
-concluded-by : (v : Verdict) → Tabled recoveryReplyNumbers (verdictSaid v) → (e : Ended) (x : AbortReport) (ids : Ids) (rows : List Row)
+concluded-by : (v : Verdict) → Tabled entryNumbers (verdictSaid v) → (e : Ended) (x : AbortReport) (ids : Ids) (rows : List Row)
     → Tabled recoveryReplyNumbers (recoverySaid (concludedBy v e x ids rows .answer))
 unfolding concludedBy
-concluded-by (verdict.Refused r) h e x ids rows = h
-concluded-by verdict.Pass h e x ids rows = tabled-says _ _
+concluded-by (Verdict.Refused r) h e x ids rows = tabled-in recoveryReplyNumbers entryNumbers refl _ h
+concluded-by Verdict.Pass h e x ids rows = tabled-says _ _
 
 settled-tabled : (e : Ended) (l : RowLists) (m : Memory) → Replies (settledOf e l m)
 unfolding settledOf
@@ -141,16 +123,16 @@ done-tabled e affected own l m = if-all Replies _ _ _ (tabled-own _ 46 refl) (se
 
 reply-by : (r : RecoveryReply) (x : Recovery) (l : ReplyLists) (idle : Session) (m : Memory) → Replies (replyBy r x l idle m)
 unfolding replyBy
-reply-by (reply.Error e) x l idle m = tabled-backend _ 45 e refl refl
-reply-by (reply.Done o) x l idle m = done-tabled _ _ _ l m
+reply-by (RecoveryReply.Error e) x l idle m = tabled-backend _ 45 e refl refl
+reply-by (RecoveryReply.Done o) x l idle m = done-tabled _ _ _ l m
 
 module _ (r : RecoveryReply) (l : ReplyLists) (s : Session) (m : Memory) where
   reply-in : (f : InFlight) → Replies (replyIn f r l s m)
   unfolding replyIn replySized
-  reply-in flight.Nothing = tabled-own _ 2 refl
-  reply-in (flight.Submission id) = tabled-own _ 2 refl
-  reply-in (flight.Poll id) = tabled-own _ 2 refl
-  reply-in (flight.Recovery x) = if-all Replies _ _ _ (tabled-own _ 3 refl) (if-all Replies _ _ _ (tabled-own _ 49 refl) (reply-by r x l _ m))
+  reply-in InFlight.Nothing = tabled-own _ 2 refl
+  reply-in (InFlight.Submission id) = tabled-own _ 2 refl
+  reply-in (InFlight.Poll id) = tabled-own _ 2 refl
+  reply-in (InFlight.Recovery x) = if-all Replies _ _ _ (tabled-own _ 3 refl) (if-all Replies _ _ _ (tabled-own _ 49 refl) (reply-by r x l _ m))
 
   pub recovery-reply-tabled : Tabled recoveryReplyNumbers (recoverySaid (recoveryReplyOf r l s m .result .answer))
   unfolding recoveryReplyOf

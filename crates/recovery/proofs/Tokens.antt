@@ -11,21 +11,16 @@ use Rattle.chain.specs.Lists.{listed}
 use Rattle.chain.proofs.Lists.{getD-any}
 use Rattle.words.proofs.Records.{map-tab, tab-same}
 use Rattle.rows.specs.Table.{readRows}
-use Rattle.rows.specs.declared.Row.{Row}
+use Rattle.rows.specs.declared.{Row.Row}
 use Rattle.session.specs.Lent.{Memory}
-use Rattle.session.specs.declared.Size.{Size}
+use Rattle.session.specs.declared.{Size.Size}
 use Rattle.scope.specs.Scope.{meant}
 use Rattle.scope.specs.Returned.{broughtAt, Returned, returnedAt, readReturned, listsAgree}
 use Rattle.recovery.specs.Entries.{rowLists, RowEntry, entryAt, readEntries}
 use Rattle.recovery.specs.Places.{Below, Places}
 use Rattle.recovery.specs.RecoveryReply.{replyLists, rowsMeant, idsBy, Counts, Settles, settledOf}
 use Rattle.recovery.specs.Reports.{from, idLists, idsIn, filled}
-use Rattle.recovery.specs.declared.Ids.{Ids}
-use Rattle.recovery.specs.declared.Recovered.{Recovered}
-use Rattle.recovery.specs.declared.RecoveryAnswer.{RecoveryAnswer}
-use Rattle.recovery.specs.declared.RecoveryAnswer.the-variants as answer
-use Rattle.recovery.specs.declared.recovery_reply.Ended.{Ended}
-use Rattle.recovery.specs.declared.recovery_reply.Settled.{Settled}
+use Rattle.recovery.specs.declared.{Ids.Ids, Recovered.Recovered, RecoveryAnswer.RecoveryAnswer, recovery_reply.Ended.Ended, recovery_reply.Settled.Settled}
 use Rattle.recovery.proofs.entries.Laws.{meant-in}
 
 module _ (place : ℕ → ℕ) where
@@ -96,8 +91,8 @@ module _ (affected own a b list : List ℕ) (e : list ≡ listed 128 0 (map (mea
     -- by the answer: the ids of a report are at as many places as it counts
     counted : (x : RecoveryAnswer) (rows : List Row) → Counts x (length (take n (take end list))) (length (from n (take end list)))
         → idsIn x rows list ≡ idsBy x (idLists rows (take n (take end list)) (from n (take end list)))
-    counted (answer.Refused r) rows h = refl
-    counted (answer.Report x) rows h =
+    counted (RecoveryAnswer.Refused r) rows h = refl
+    counted (RecoveryAnswer.Report x) rows h =
         let c : x .completed ≡ n = h .0 ∙ ap length first-is ∙ count-is in
         let d : x .aborted ≡ length (meantBy b) = h .1 ∙ ap length rest-is in
         let one : take (x .completed) list ≡ meantBy a = rw (c, parts) (take-at (meantBy a) (meantBy b ++ behind) n count-is) in

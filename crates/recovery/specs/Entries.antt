@@ -5,25 +5,20 @@ use lib.ListN.{length, getD, take, drop}
 use denote.Ref.{now}
 use Rattle.chain.specs.After.{After, after}
 use Rattle.words.specs.Records.{tab, spliceCut}
-use Rattle.words.specs.declared.OptionU32.{OptionU32}
+use Rattle.words.specs.declared.{OptionU32.OptionU32}
 use Rattle.models.specs.Refusals.{refusalOf, invalidCompletion}
-use Rattle.models.specs.declared.BackendCompletion.{BackendCompletion}
-use Rattle.models.specs.declared.Verdict.{Verdict}
-use Rattle.models.specs.declared.Verdict.the-variants as verdict
+use Rattle.models.specs.declared.{BackendCompletion.BackendCompletion, Verdict.Verdict}
 use Rattle.rows.specs.Table.{emptyRow}
 use Rattle.rows.specs.Store.{Store, putIn}
 use Rattle.rules.specs.Rules.{changeRow}
-use Rattle.rules.specs.declared.Change.the-variants as change
-use Rattle.rules.specs.declared.Step.{Step}
-use Rattle.rules.specs.declared.Step.the-variants as step
+use Rattle.rules.specs.declared.{Change.Change, Step.Step}
 use Rattle.checks.specs.Completion.{testCompletion}
-use Rattle.checks.specs.declared.completion.CompletionTest.{CompletionTest}
-use Rattle.checks.specs.declared.completion.CompletionTest.the-variants as test
+use Rattle.checks.specs.declared.{completion.CompletionTest.CompletionTest}
 use Rattle.session.specs.Lent.{Memory, memory, Slice}
 use Rattle.session.specs.Sizes.{placeOf}
-use Rattle.session.specs.declared.Size.{Size}
+use Rattle.session.specs.declared.{Size.Size}
 use Rattle.scope.specs.Returned.{broughtAt}
-use Rattle.scope.specs.declared.returned.Brought.{Brought}
+use Rattle.scope.specs.declared.{returned.Brought.Brought}
 
 -- what a reply brings of rows: the places of those that are completed, the words of their completions, the places of those that are
 -- aborted, and the data
@@ -44,16 +39,16 @@ rowListsIn completed completions aborted bytes =
 
 -- 41: a Failed row. Else the row changes, and the data overwrites the first of its bytes only, cut at their end
 unfoldable pub rowCompletedBy : Step → Size → ℕ → List ℕ → Memory → After Verdict Memory
-rowCompletedBy (step.Refused r) z i bytes m = after (verdict.Refused r) m
-rowCompletedBy (step.To next report) z i bytes m =
-    after verdict.Pass (memory (putIn (m .store) i next) (spliceCut (placeOf z i .start) (z .«row_bytes») bytes (m .area)))
+rowCompletedBy (Step.Refused r) z i bytes m = after (Verdict.Refused r) m
+rowCompletedBy (Step.To next report) z i bytes m =
+    after Verdict.Pass (memory (putIn (m .store) i next) (spliceCut (placeOf z i .start) (z .«row_bytes») bytes (m .area)))
 
 -- 47, 48 with the completion's code, 41
 unfoldable pub testedBy : CompletionTest → OptionU32 → Size → ℕ → List ℕ → Memory → After Verdict Memory
-testedBy test.MissingLength code z i bytes m = after (verdict.Refused (refusalOf 47)) m
-testedBy test.Invalid code z i bytes m = after (verdict.Refused (invalidCompletion code)) m
-testedBy (test.Valid actual n) code z i bytes m =
-    rowCompletedBy (changeRow (getD (m .store .rows) i emptyRow) (change.Complete actual n)) z i bytes m
+testedBy CompletionTest.MissingLength code z i bytes m = after (Verdict.Refused (refusalOf 47)) m
+testedBy CompletionTest.Invalid code z i bytes m = after (Verdict.Refused (invalidCompletion code)) m
+testedBy (CompletionTest.Valid actual n) code z i bytes m =
+    rowCompletedBy (changeRow (getD (m .store .rows) i emptyRow) (Change.Complete actual n)) z i bytes m
 
 unfoldable pub completeOne : Size → ℕ → BackendCompletion → List ℕ → Memory → After Verdict Memory
 completeOne z i c bytes m =
@@ -62,18 +57,18 @@ completeOne z i c bytes m =
 -- ---- an abort of row i; one that is not held, which no call leads to, is the ledger's 43
 
 unfoldable pub abortedBy : Step → ℕ → Store → After Verdict Store
-abortedBy (step.Refused r) i store = after (verdict.Refused r) store
-abortedBy (step.To next report) i store = after verdict.Pass (putIn store i next)
+abortedBy (Step.Refused r) i store = after (Verdict.Refused r) store
+abortedBy (Step.To next report) i store = after Verdict.Pass (putIn store i next)
 
 unfoldable pub abortOne : ℕ → Store → After Verdict Store
-abortOne i store = abortedBy (changeRow (getD (store .rows) i emptyRow) change.ConfirmAbort) i store
+abortOne i store = abortedBy (changeRow (getD (store .rows) i emptyRow) Change.ConfirmAbort) i store
 
 -- ---- all of them
 
 -- what follows an entry: nothing, where it is refused
 abbrev pub onwardBy : {L : Type 0} → Verdict → After Verdict L → (L → After Verdict L) → After Verdict L
-onwardBy (verdict.Refused r) o next = o
-onwardBy verdict.Pass o next = next (o .lent)
+onwardBy (Verdict.Refused r) o next = o
+onwardBy Verdict.Pass o next = next (o .lent)
 
 -- an entry: the place of its row, and what came for it
 pub record RowEntry : Type 0 where
@@ -88,13 +83,13 @@ readEntries places words = tab (entryAt places words) (length places)
 
 -- completions in order, each with the next bytes of the data area
 abbrev pub completeAll : Size → List RowEntry → List ℕ → Memory → After Verdict Memory
-completeAll z [] bytes m = after verdict.Pass m
+completeAll z [] bytes m = after Verdict.Pass m
 completeAll z (e ∷ es) bytes m =
     let one = completeOne z (e .row) (e .brought .completion) (take (e .brought .given) bytes) m in
     onwardBy (one .result) one (λ (left : Memory). completeAll z es (drop (e .brought .given) bytes) left)
 
 abbrev pub abortAll : List ℕ → Store → After Verdict Store
-abortAll [] store = after verdict.Pass store
+abortAll [] store = after Verdict.Pass store
 abortAll (i ∷ is) store = onwardBy (abortOne i store .result) (abortOne i store) (λ (left : Store). abortAll is left)
 
 -- the aborts leave the area as it is

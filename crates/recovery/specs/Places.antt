@@ -6,7 +6,7 @@ use mathlib.Core.Path.{_≡_}
 use lib.ListN.{length, getD}
 use Rattle.rows.specs.Table.{readRows}
 use Rattle.session.specs.Sizes.{memorySizes}
-use Rattle.session.specs.declared.Size.{Size}
+use Rattle.session.specs.declared.{Size.Size}
 use Rattle.scope.specs.Returned.{listsAgree}
 
 -- the store has rows, and each place is one of them

@@ -4,29 +4,23 @@ use mathlib.Core.List.{List}
 use lib.ListN.{length, getD, replicate}
 use Rattle.chain.specs.Chain.{_if_else_}
 use Rattle.chain.specs.Lists.{foundIn, listed}
-use Rattle.chain.specs.declared.Found.{Found}
-use Rattle.chain.specs.declared.Found.the-variants as found
+use Rattle.chain.specs.declared.{Found.Found}
 use Rattle.models.specs.Refusals.{refusalOf}
 use Rattle.models.specs.Requests.{deviceMayAccess}
-use Rattle.models.specs.declared.Refusal.{Refusal}
-use Rattle.models.specs.declared.RequestId.{RequestId}
+use Rattle.models.specs.declared.{Refusal.Refusal, RequestId.RequestId}
 use Rattle.rows.specs.Table.{emptyRow}
 use Rattle.rows.specs.Store.{Store}
-use Rattle.rows.specs.declared.Row.{Row}
+use Rattle.rows.specs.declared.{Row.Row}
 use Rattle.ledger.specs.Search.{isAt}
 use Rattle.session.specs.Lent.{storeFits}
 use Rattle.session.specs.Start.{guarded}
 use Rattle.session.specs.Session.{mayRecover, withFlight}
-use Rattle.session.specs.declared.InFlight.the-variants as flight
-use Rattle.session.specs.declared.Recovery.{Recovery}
-use Rattle.session.specs.declared.RecoveryKind.{RecoveryKind}
-use Rattle.session.specs.declared.Session.{Session}
+use Rattle.session.specs.declared.{InFlight.InFlight, Recovery.Recovery, RecoveryKind.RecoveryKind, Session.Session}
 use Rattle.scope.specs.Affected.{affectedOf, tokensOf}
-use Rattle.recovery.specs.declared.BeginAnswer.the-variants as begin
-use Rattle.recovery.specs.declared.Begun.{Begun}
+use Rattle.recovery.specs.declared.{BeginAnswer.BeginAnswer, Begun.Begun}
 
 abbrev pub beginRefused : Session → Refusal → Begun
-beginRefused s r = record { answer = begin.Refused r; session = s; tokens = replicate 128 0; count = 0 }
+beginRefused s r = record { answer = BeginAnswer.Refused r; session = s; tokens = replicate 128 0; count = 0 }
 
 abbrev pub recoveryOf : RequestId → RecoveryKind → Row → Recovery
 recoveryOf id kind r = record { target = id; device = r .metadata .device; endpoint = r .metadata .endpoint; kind = kind }
@@ -34,8 +28,8 @@ recoveryOf id kind r = record { target = id; device = r .metadata .device; endpo
 -- the operation is in flight; the affected tokens by ascending id
 unfoldable pub begunAs : Recovery → Session → List Row → Begun
 begunAs x s rows = record {
-  answer = begin.Recover x;
-  session = withFlight s (flight.Recovery x);
+  answer = BeginAnswer.Recover x;
+  session = withFlight s (InFlight.Recovery x);
   tokens = listed 128 0 (tokensOf rows (affectedOf (x .device) (x .endpoint) rows));
   count = length (affectedOf (x .device) (x .endpoint) rows);
 }
@@ -49,8 +43,8 @@ beginRow id kind r s rows =
 
 -- 40
 unfoldable pub recoverBy : Found → RequestId → RecoveryKind → Session → List Row → Begun
-recoverBy found.Nothing id kind s rows = beginRefused s (refusalOf 40)
-recoverBy (found.At i) id kind s rows = beginRow id kind (getD rows i emptyRow) s rows
+recoverBy Found.Nothing id kind s rows = beginRefused s (refusalOf 40)
+recoverBy (Found.At i) id kind s rows = beginRow id kind (getD rows i emptyRow) s rows
 
 -- 1, 3
 unfoldable pub recoverOf : RequestId → RecoveryKind → Session → Store → Begun

@@ -9,44 +9,23 @@ use denote.Ref.{now}
 use Rattle.chain.specs.After.{After, after}
 use Rattle.chain.specs.Chain.{_if_else_}
 use Rattle.chain.specs.Lists.{anyIn}
-use Rattle.words.specs.declared.OptionU64.{OptionU64}
-use Rattle.words.specs.declared.OptionU64.the-variants as u64
+use Rattle.words.specs.declared.{OptionU64.OptionU64}
 use Rattle.models.specs.Refusals.{refusalOf, fromBackend}
 use Rattle.models.specs.Requests.{sameDevice}
 use Rattle.models.specs.declared.ControllerState.the-variants.{Initialized}
-use Rattle.models.specs.declared.Refusal.{Refusal}
-use Rattle.models.specs.declared.Verdict.{Verdict}
-use Rattle.models.specs.declared.Verdict.the-variants as verdict
+use Rattle.models.specs.declared.{Refusal.Refusal, Verdict.Verdict}
 use Rattle.rows.specs.Table.{readRows, isUncertain}
-use Rattle.rows.specs.declared.Row.{Row}
+use Rattle.rows.specs.declared.{Row.Row}
 use Rattle.checks.specs.Completion.{hasError}
 use Rattle.session.specs.Lent.{Memory, memoryFits, Slice}
 use Rattle.session.specs.Session.{withController, withFlight, withStall, marked}
-use Rattle.session.specs.declared.InFlight.{InFlight}
-use Rattle.session.specs.declared.InFlight.the-variants as flight
-use Rattle.session.specs.declared.OptionStall.{OptionStall}
-use Rattle.session.specs.declared.OptionStall.the-variants as stall
-use Rattle.session.specs.declared.RecoverableStall.{RecoverableStall}
-use Rattle.session.specs.declared.Recovery.{Recovery}
-use Rattle.session.specs.declared.RecoveryKind.{RecoveryKind}
-use Rattle.session.specs.declared.RecoveryKind.the-variants as kind
-use Rattle.session.specs.declared.Session.{Session}
+use Rattle.session.specs.declared.{InFlight.InFlight, OptionStall.OptionStall, RecoverableStall.RecoverableStall, Recovery.Recovery, RecoveryKind.RecoveryKind, Session.Session}
 use Rattle.scope.specs.Affected.{affectedOf, tokensOf}
 use Rattle.scope.specs.Scope.{meant, inScope}
 use Rattle.scope.specs.Returned.{listsAgree}
 use Rattle.recovery.specs.Entries.{RowLists, rowLists, applyAll}
 use Rattle.recovery.specs.Reports.{idLists, noIds}
-use Rattle.recovery.specs.declared.AbortReport.{AbortReport}
-use Rattle.recovery.specs.declared.Ids.{Ids}
-use Rattle.recovery.specs.declared.Outcome.{Outcome}
-use Rattle.recovery.specs.declared.Recovered.{Recovered}
-use Rattle.recovery.specs.declared.RecoveryAnswer.{RecoveryAnswer}
-use Rattle.recovery.specs.declared.RecoveryAnswer.the-variants as answer
-use Rattle.recovery.specs.declared.RecoveryReply.{RecoveryReply}
-use Rattle.recovery.specs.declared.RecoveryReply.the-variants as reply
-use Rattle.recovery.specs.declared.Replied.{Replied}
-use Rattle.recovery.specs.declared.recovery_reply.Ended.{Ended}
-use Rattle.recovery.specs.declared.recovery_reply.Settled.{Settled}
+use Rattle.recovery.specs.declared.{AbortReport.AbortReport, Ids.Ids, Outcome.Outcome, Recovered.Recovered, RecoveryAnswer.RecoveryAnswer, RecoveryReply.RecoveryReply, Replied.Replied, recovery_reply.Ended.Ended, recovery_reply.Settled.Settled}
 
 -- what comes with a reply: the tokens that the backend completed, the words of their completions, those that it aborted, and the data
 pub record ReplyLists : Type 0 where
@@ -67,7 +46,7 @@ abbrev pub rowsMeant : (ℕ → ℕ) → ReplyLists → RowLists
 rowsMeant place l = rowLists (map place (l .tokens)) (l .completions) (map place (l .aborted)) (l .bytes)
 
 abbrev pub recoveryRefused : Session → Refusal → Recovered
-recoveryRefused s r = record { answer = answer.Refused r; session = s; ids = noIds }
+recoveryRefused s r = record { answer = RecoveryAnswer.Refused r; session = s; ids = noIds }
 
 -- ---- by the places of rows
 
@@ -75,11 +54,11 @@ abbrev pub rowsOut : Slice → List Row
 rowsOut rows = readRows (now (rows .exit))
 
 abbrev pub replyRefused : Session → Refusal → Replied
-replyRefused s r = record { answer = answer.Refused r; session = s; places = replicate 128 0 }
+replyRefused s r = record { answer = RecoveryAnswer.Refused r; session = s; places = replicate 128 0 }
 
 abbrev pub idsBy : RecoveryAnswer → Ids → Ids
-idsBy (answer.Refused r) ids = noIds
-idsBy (answer.Report x) ids = ids
+idsBy (RecoveryAnswer.Refused r) ids = noIds
+idsBy (RecoveryAnswer.Report x) ids = ids
 
 -- what is answered after the entries, with these ids; a refusal has none
 abbrev pub withIds : Settled → Ids → Recovered
@@ -87,8 +66,8 @@ withIds x ids = record { answer = x .answer; session = x .session; ids = idsBy (
 
 -- a report names n completed requests and m aborted ones
 abbrev pub Counts : RecoveryAnswer → ℕ → ℕ → Type 0
-Counts (answer.Refused r) n m = Unit {0}
-Counts (answer.Report x) n m = (x .completed ≡ n) × (x .aborted ≡ m)
+Counts (RecoveryAnswer.Refused r) n m = Unit {0}
+Counts (RecoveryAnswer.Report x) n m = (x .completed ≡ n) × (x .aborted ≡ m)
 
 -- a recovery whose reply is in: the session without it, the recovery, and what the backend says
 abbrev pub ended : Session → Recovery → Outcome → Ended
@@ -101,8 +80,8 @@ isWhole o = o .«restart_ready» && not (hasError (o .error))
 -- ---- the session after the entries
 
 abbrev pub isRevision : OptionU64 → ℕ → Bool
-isRevision u64.None n = false
-isRevision (u64.Some m) n = eqb m n
+isRevision OptionU64.None n = false
+isRevision (OptionU64.Some m) n = eqb m n
 
 -- the note is of the recovery's device and endpoint, no row is Failed and not quiescent, and the session's revision is the note's
 abbrev pub matching : RecoverableStall → Recovery → Bool → Session → Bool
@@ -111,14 +90,14 @@ matching note x certain s =
 
 -- a reset takes the stall note; where it matches, the controller is Initialized again
 unfoldable pub restoredBy : OptionStall → Recovery → Bool → Session → Session
-restoredBy stall.None x certain s = withStall s stall.None
-restoredBy (stall.Some note) x certain s =
-    withController (withStall s stall.None) Initialized (s .«recovery_revision») if matching note x certain s else
-    withStall s stall.None
+restoredBy OptionStall.None x certain s = withStall s OptionStall.None
+restoredBy (OptionStall.Some note) x certain s =
+    withController (withStall s OptionStall.None) Initialized (s .«recovery_revision») if matching note x certain s else
+    withStall s OptionStall.None
 
 unfoldable pub resetBy : RecoveryKind → Recovery → List Row → Session → Session
-resetBy kind.Abort x rows s = s
-resetBy (kind.Reset preserve) x rows s = restoredBy (s .«recoverable_stall») x (not (anyIn isUncertain rows)) s
+resetBy RecoveryKind.Abort x rows s = s
+resetBy (RecoveryKind.Reset preserve) x rows s = restoredBy (s .«recoverable_stall») x (not (anyIn isUncertain rows)) s
 
 -- an error or not ready marks recovery
 unfoldable pub sessionAfter : Ended → List Row → Session
@@ -143,13 +122,13 @@ abortReport e n m = record {
 }
 
 unfoldable pub concludedBy : Verdict → Ended → AbortReport → Ids → List Row → Recovered
-concludedBy (verdict.Refused r) e report ids rows = recoveryRefused (refusedAfter r (e .idle)) r
-concludedBy verdict.Pass e report ids rows = record { answer = answer.Report report; session = sessionAfter e rows; ids = ids }
+concludedBy (Verdict.Refused r) e report ids rows = recoveryRefused (refusedAfter r (e .idle)) r
+concludedBy Verdict.Pass e report ids rows = record { answer = RecoveryAnswer.Report report; session = sessionAfter e rows; ids = ids }
 
 -- the same without ids
 unfoldable pub concludedTo : Verdict → Ended → AbortReport → List Row → Settled
-concludedTo (verdict.Refused r) e report rows = record { answer = answer.Refused r; session = refusedAfter r (e .idle) }
-concludedTo verdict.Pass e report rows = record { answer = answer.Report report; session = sessionAfter e rows }
+concludedTo (Verdict.Refused r) e report rows = record { answer = RecoveryAnswer.Refused r; session = refusedAfter r (e .idle) }
+concludedTo Verdict.Pass e report rows = record { answer = RecoveryAnswer.Report report; session = sessionAfter e rows }
 
 -- ---- the stages
 
@@ -173,8 +152,8 @@ doneOf e affected own l m =
 
 -- 45, always with a mark
 unfoldable pub replyBy : RecoveryReply → Recovery → ReplyLists → Session → Memory → After Recovered Memory
-replyBy (reply.Error e) x l idle m = after (recoveryRefused (marked idle) (fromBackend 45 e)) m
-replyBy (reply.Done o) x l idle m =
+replyBy (RecoveryReply.Error e) x l idle m = after (recoveryRefused (marked idle) (fromBackend 45 e)) m
+replyBy (RecoveryReply.Done o) x l idle m =
     let affected = affectedOf (x .device) (x .endpoint) (m .store .rows) in
     doneOf (ended idle x o) affected (tokensOf (m .store .rows) affected) l m
 
@@ -183,14 +162,14 @@ unfoldable pub replySized : RecoveryReply → Recovery → ReplyLists → Sessio
 replySized r x l s m =
     after (recoveryRefused s (refusalOf 3)) m if not (memoryFits (s .size) m) else
     after (recoveryRefused s (refusalOf 49)) m if not (listsAgree (length (l .tokens)) (l .completions) (length (l .bytes))) else
-    replyBy r x l (withFlight s flight.Nothing) m
+    replyBy r x l (withFlight s InFlight.Nothing) m
 
 -- 2: no recovery is in flight
 unfoldable pub replyIn : InFlight → RecoveryReply → ReplyLists → Session → Memory → After Recovered Memory
-replyIn flight.Nothing r l s m = after (recoveryRefused s (refusalOf 2)) m
-replyIn (flight.Submission id) r l s m = after (recoveryRefused s (refusalOf 2)) m
-replyIn (flight.Poll id) r l s m = after (recoveryRefused s (refusalOf 2)) m
-replyIn (flight.Recovery x) r l s m = replySized r x l s m
+replyIn InFlight.Nothing r l s m = after (recoveryRefused s (refusalOf 2)) m
+replyIn (InFlight.Submission id) r l s m = after (recoveryRefused s (refusalOf 2)) m
+replyIn (InFlight.Poll id) r l s m = after (recoveryRefused s (refusalOf 2)) m
+replyIn (InFlight.Recovery x) r l s m = replySized r x l s m
 
 unfoldable pub recoveryReplyOf : RecoveryReply → ReplyLists → Session → Memory → After Recovered Memory
 recoveryReplyOf r l s m = replyIn (s .«in_flight») r l s m

@@ -3,14 +3,10 @@ use Prim.Native.Nat.{ℕ, _+_, _-_}
 use mathlib.Core.List.{List, map}
 use lib.ListN.{length, take, drop, replicate}
 use Rattle.chain.specs.Lists.{listed}
-use Rattle.models.specs.declared.RequestId.{RequestId}
+use Rattle.models.specs.declared.{RequestId.RequestId}
 use Rattle.rows.specs.Table.{idIn}
-use Rattle.rows.specs.declared.Row.{Row}
-use Rattle.recovery.specs.declared.Ids.{Ids}
-use Rattle.recovery.specs.declared.Recovered.{Recovered}
-use Rattle.recovery.specs.declared.RecoveryAnswer.{RecoveryAnswer}
-use Rattle.recovery.specs.declared.RecoveryAnswer.the-variants as answer
-use Rattle.recovery.specs.declared.Replied.{Replied}
+use Rattle.rows.specs.declared.{Row.Row}
+use Rattle.recovery.specs.declared.{Ids.Ids, Recovered.Recovered, RecoveryAnswer.RecoveryAnswer, Replied.Replied}
 
 abbrev pub noId : RequestId
 noId = record { session = 0; generation = 0; sequence = 0 }
@@ -33,13 +29,13 @@ from n places = take (length places - n) (drop n places)
 
 -- how many requests an answer names
 abbrev pub manyIn : RecoveryAnswer → ℕ
-manyIn (answer.Refused r) = 0
-manyIn (answer.Report x) = x .completed + x .aborted
+manyIn (RecoveryAnswer.Refused r) = 0
+manyIn (RecoveryAnswer.Report x) = x .completed + x .aborted
 
 -- the ids of the rows at the first places, as many as were completed, and at the next, as many as were aborted; a refusal has none
 abbrev pub idsIn : RecoveryAnswer → List Row → List ℕ → Ids
-idsIn (answer.Refused r) rows places = noIds
-idsIn (answer.Report x) rows places = idLists rows (take (x .completed) places) (take (x .aborted) (drop (x .completed) places))
+idsIn (RecoveryAnswer.Refused r) rows places = noIds
+idsIn (RecoveryAnswer.Report x) rows places = idLists rows (take (x .completed) places) (take (x .aborted) (drop (x .completed) places))
 
 abbrev pub filled : Replied → List Row → Recovered
 filled r rows = record { answer = r .answer; session = r .session; ids = idsIn (r .answer) rows (r .places) }

@@ -6,20 +6,16 @@ use Rattle.words.specs.Words.{flagWord}
 use Rattle.models.specs.Said.{Said, says, refused}
 use Rattle.models.specs.Values.{requestIdWords, deviceIdWords, optionErrorWords}
 use Rattle.session.specs.Said.{recoveryWord}
-use Rattle.session.specs.declared.Recovery.{Recovery}
-use Rattle.recovery.specs.declared.AbortReport.{AbortReport}
-use Rattle.recovery.specs.declared.BeginAnswer.{BeginAnswer}
-use Rattle.recovery.specs.declared.BeginAnswer.the-variants as begin
-use Rattle.recovery.specs.declared.RecoveryAnswer.{RecoveryAnswer}
-use Rattle.recovery.specs.declared.RecoveryAnswer.the-variants as answer
+use Rattle.session.specs.declared.{Recovery.Recovery}
+use Rattle.recovery.specs.declared.{AbortReport.AbortReport, BeginAnswer.BeginAnswer, RecoveryAnswer.RecoveryAnswer}
 
 -- target, device, endpoint, and what the backend is to do
 abbrev pub recoveringValues : Recovery → List ℕ
 recoveringValues x = requestIdWords (x .target) ++ deviceIdWords (x .device) ++ x .endpoint ∷ recoveryWord (x .kind) ∷ []
 
 abbrev pub beginSaid : BeginAnswer → Said
-beginSaid (begin.Refused r) = refused r
-beginSaid (begin.Recover x) = says (recoveringValues x)
+beginSaid (BeginAnswer.Refused r) = refused r
+beginSaid (BeginAnswer.Recover x) = says (recoveringValues x)
 
 -- target, device, endpoint, how many completed, how many aborted, ready, error
 abbrev pub recoveredValues : AbortReport → List ℕ
@@ -28,12 +24,15 @@ recoveredValues x =
     ++ x .endpoint ∷ x .completed ∷ x .aborted ∷ flagWord (x .«restart_ready») ∷ optionErrorWords (x .error)
 
 abbrev pub recoverySaid : RecoveryAnswer → Said
-recoverySaid (answer.Refused r) = refused r
-recoverySaid (answer.Report x) = says (recoveredValues x)
+recoverySaid (RecoveryAnswer.Refused r) = refused r
+recoverySaid (RecoveryAnswer.Report x) = says (recoveredValues x)
 
 abbrev pub recoverNumbers : List ℕ
 recoverNumbers = 1 ∷ 3 ∷ 40 ∷ 43 ∷ 44 ∷ []
 
--- 43 is the ledger's, of an abort of a row that is not held: no calls lead to one
+-- of an entry; 43 is the ledger's, of an abort of a row that is not held: no calls lead to one
+abbrev pub entryNumbers : List ℕ
+entryNumbers = 47 ∷ 48 ∷ 41 ∷ 43 ∷ []
+
 abbrev pub recoveryReplyNumbers : List ℕ
-recoveryReplyNumbers = 2 ∷ 3 ∷ 49 ∷ 45 ∷ 46 ∷ 47 ∷ 48 ∷ 41 ∷ 43 ∷ []
+recoveryReplyNumbers = 2 ∷ 3 ∷ 49 ∷ 45 ∷ 46 ∷ entryNumbers

@@ -8,14 +8,13 @@ use lib.ListN.{length}
 use mir.Syntax.{w64}
 use mir.Val.{Fits}
 use Rattle.chain.specs.Lists.{foundIn}
-use Rattle.chain.specs.declared.Found.{Found}
-use Rattle.chain.specs.declared.Found.the-variants as found
+use Rattle.chain.specs.declared.{Found.Found}
 use Rattle.chain.proofs.Chain.{fits-told}
 use Rattle.rows.specs.Table.{readRows}
-use Rattle.rows.specs.declared.Row.{Row}
+use Rattle.rows.specs.declared.{Row.Row}
 use Rattle.ledger.proofs.Found.{found-in}
 use Rattle.session.specs.Sizes.{memorySizes}
-use Rattle.session.specs.declared.Size.{Size}
+use Rattle.session.specs.declared.{Size.Size}
 use Rattle.session.proofs.sizes.Laws.{place-in, place-small}
 
 module _ (z : Size) (w : List ℕ) (size : ℕ) (f : Bool) (ef : f ≡ memorySizes z (length w) size) (t : not f ≡ false) where
@@ -23,6 +22,6 @@ module _ (z : Size) (w : List ℕ) (size : ℕ) (f : Bool) (ef : f ≡ memorySiz
   place-fits i h = omega (arith, place-small z w size (fits-told f _ ef t) i h)
 
   -- of a row that was found
-  pub found-place : (p : Row → Bool) (g : Found) (i : ℕ) → g ≡ foundIn p (readRows w) → g ≡ found.At i
+  pub found-place : (p : Row → Bool) (g : Found) (i : ℕ) → g ≡ foundIn p (readRows w) → g ≡ Found.At i
       → i * z .«row_bytes» + z .«row_bytes» ≤ size
   found-place p g i eg e = place-in z w size (fits-told f _ ef t) i (found-in p (readRows w) g i eg e)

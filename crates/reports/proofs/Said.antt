@@ -4,35 +4,25 @@ use mathlib.Core.Bool.{true}
 use mathlib.Core.List.{List, [], _∷_}
 use mathlib.Core.Path.{_≡_, refl}
 use Rattle.chain.specs.After.{After, after}
-use Rattle.chain.specs.declared.Found.{Found}
-use Rattle.chain.specs.declared.Found.the-variants as found
+use Rattle.chain.specs.declared.{Found.Found}
 use Rattle.chain.specs.Lists.{isAmong, allIn}
 use Rattle.chain.proofs.Chain.{both, if-all}
 use Rattle.models.specs.Said.{Tabled}
-use Rattle.models.specs.declared.RequestId.{RequestId}
+use Rattle.models.specs.declared.{RequestId.RequestId}
 use Rattle.models.proofs.Said.{tabled-says, tabled-own, tabled-in, said-of}
 use Rattle.rows.specs.Store.{Store}
-use Rattle.rows.specs.declared.Row.{Row}
-use Rattle.rules.specs.declared.Change.{Change}
+use Rattle.rows.specs.declared.{Row.Row}
+use Rattle.rules.specs.declared.{Change.Change}
 use Rattle.ledger.specs.Apply.{applyOf}
 use Rattle.ledger.specs.Said.{appliedSaid, applyNumbers}
-use Rattle.ledger.specs.declared.Applied.{Applied}
-use Rattle.ledger.specs.declared.Applied.the-variants as applied
+use Rattle.ledger.specs.declared.{Applied.Applied}
 use Rattle.ledger.proofs.Said.{apply-tabled}
-use Rattle.session.specs.declared.InFlight.{InFlight}
-use Rattle.session.specs.declared.Session.{Session}
+use Rattle.session.specs.declared.{InFlight.InFlight, Session.Session}
 use Rattle.session.proofs.Said.{guarded-all}
 use Rattle.reports.specs.Change.{reportedBy, changeOf}
 use Rattle.reports.specs.Said.{reportSaid, nextSaid, tallySaid, partSaid, statusNumbers, tallyNumbers}
 use Rattle.reports.specs.Status.{shownAt, statusBy, statusOf, better, bestFrom, nextOf, shownCount, partBy, completedPart, heldCountOf, tallyOf, heldBytesOf}
-use Rattle.reports.specs.declared.HeldAnswer.{HeldAnswer}
-use Rattle.reports.specs.declared.NextReport.{NextReport}
-use Rattle.reports.specs.declared.NextReport.the-variants as next
-use Rattle.reports.specs.declared.OptionId.{OptionId}
-use Rattle.reports.specs.declared.PartAnswer.{PartAnswer}
-use Rattle.reports.specs.declared.ReportAnswer.{ReportAnswer}
-use Rattle.reports.specs.declared.Reported.{Reported}
-use Rattle.reports.specs.declared.Tally.{Tally}
+use Rattle.reports.specs.declared.{HeldAnswer.HeldAnswer, NextReport.NextReport, OptionId.OptionId, PartAnswer.PartAnswer, ReportAnswer.ReportAnswer, Reported.Reported, Tally.Tally}
 
 -- ---- a report by id
 abbrev Shows : ReportAnswer → Type 0
@@ -40,8 +30,8 @@ Shows x = Tabled statusNumbers (reportSaid x)
 
 status-by : (f : Found) (rows : List Row) → Shows (statusBy f rows)
 unfolding statusBy
-status-by found.Nothing rows = tabled-own _ 40 refl
-status-by (found.At i) rows = tabled-says _ _
+status-by Found.Nothing rows = tabled-own _ 40 refl
+status-by (Found.At i) rows = tabled-says _ _
 
 module _ (id : RequestId) (s : Session) (store : Store) where
   pub status-tabled : Tabled statusNumbers (reportSaid (statusOf id s store))
@@ -67,7 +57,7 @@ module _ (f : InFlight) (o : OptionId) where
 module _ (o : OptionId) (s : Session) (store : Store) where
   pub next-tabled : Tabled tallyNumbers (nextSaid (nextOf o s store))
   unfolding nextOf
-  next-tabled = if-all Nexts _ _ _ (tabled-own _ 3 refl) (best-tabled (s .«in_flight») o (store .rows) next.None (tabled-says _ _))
+  next-tabled = if-all Nexts _ _ _ (tabled-own _ 3 refl) (best-tabled (s .«in_flight») o (store .rows) NextReport.None (tabled-says _ _))
 
   pub next-said : (x : NextReport) → x ≡ nextOf o s store → (x ≡ nextOf o s store) × Tabled tallyNumbers (nextSaid x)
   next-said x e = said-of Nexts _ _ e next-tabled
@@ -107,8 +97,8 @@ Parts x = Tabled statusNumbers (partSaid x)
 
 part-by : (f : Found) (room : ℕ) (rows : List Row) → Parts (partBy f room rows)
 unfolding partBy
-part-by found.Nothing room rows = tabled-own _ 40 refl
-part-by (found.At i) room rows = tabled-says _ _
+part-by Found.Nothing room rows = tabled-own _ 40 refl
+part-by (Found.At i) room rows = tabled-says _ _
 
 module _ (id : RequestId) (size : ℕ) (s : Session) (store : Store) where
   pub part-tabled : Tabled statusNumbers (partSaid (completedPart id size s store))
@@ -122,8 +112,8 @@ module _ (id : RequestId) (size : ℕ) (s : Session) (store : Store) where
 module _ (ns : List ℕ) (c : Change) (all : allIn (1 ∷ 3 ∷ applyNumbers c) ns ≡ true) where
   reported-by : (x : Applied) → Tabled ns (appliedSaid x) → (s : Session) → Tabled ns (reportSaid (reportedBy x s .answer))
   unfolding reportedBy
-  reported-by (applied.Refused r) h s = h
-  reported-by (applied.Done x) h s = h
+  reported-by (Applied.Refused r) h s = h
+  reported-by (Applied.Done x) h s = h
 
   module _ (id : RequestId) (s : Session) (store : Store) where
     pub change-tabled : Tabled ns (reportSaid (changeOf id c s store .result .answer))

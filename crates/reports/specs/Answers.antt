@@ -1,27 +1,23 @@
 -- What several calls answer, and what a backend's error does (document 01, "Request row"). Assumes nothing.
 use mathlib.Core.Bool.{Bool, true, false}
 use Rattle.chain.specs.Chain.{_if_else_}
-use Rattle.models.specs.declared.ErrorCategory.{ErrorCategory}
-use Rattle.models.specs.declared.ErrorCategory.the-variants as category
-use Rattle.models.specs.declared.OperationError.{OperationError}
-use Rattle.models.specs.declared.Refusal.{Refusal}
+use Rattle.models.specs.declared.{ErrorCategory.ErrorCategory, OperationError.OperationError, Refusal.Refusal}
 use Rattle.session.specs.Session.{marked}
-use Rattle.session.specs.declared.Session.{Session}
-use Rattle.reports.specs.declared.Reported.{Reported}
-use Rattle.reports.specs.declared.ReportAnswer.the-variants as report
+use Rattle.session.specs.declared.{Session.Session}
+use Rattle.reports.specs.declared.{ReportAnswer.ReportAnswer, Reported.Reported}
 
 -- a backend's error of a category other than Validation or Unsupported marks recovery
 abbrev pub isMild : ErrorCategory → Bool
-isMild category.Validation = true
-isMild category.Unsupported = true
-isMild category.OperatingSystem = false
-isMild category.Controller = false
-isMild category.Timeout = false
-isMild category.Disconnect = false
-isMild category.RecoveryRequired = false
+isMild ErrorCategory.Validation = true
+isMild ErrorCategory.Unsupported = true
+isMild ErrorCategory.OperatingSystem = false
+isMild ErrorCategory.Controller = false
+isMild ErrorCategory.Timeout = false
+isMild ErrorCategory.Disconnect = false
+isMild ErrorCategory.RecoveryRequired = false
 
 unfoldable pub effect : OperationError → Session → Session
 effect e s = s if isMild (e .category) else marked s
 
 abbrev pub reportRefused : Session → Refusal → Reported
-reportRefused s r = record { answer = report.Refused r; session = s }
+reportRefused s r = record { answer = ReportAnswer.Refused r; session = s }

@@ -3,36 +3,28 @@ use Prim.Native.Nat.{ℕ}
 use mathlib.Core.List.{List, [], _∷_}
 use Rattle.models.specs.Said.{Said, says, refused}
 use Rattle.rows.specs.Values.{reportValues}
-use Rattle.reports.specs.declared.NextReport.{NextReport}
-use Rattle.reports.specs.declared.NextReport.the-variants as next
-use Rattle.reports.specs.declared.Part.{Part}
-use Rattle.reports.specs.declared.PartAnswer.{PartAnswer}
-use Rattle.reports.specs.declared.PartAnswer.the-variants as bytes
-use Rattle.reports.specs.declared.ReportAnswer.{ReportAnswer}
-use Rattle.reports.specs.declared.ReportAnswer.the-variants as report
-use Rattle.reports.specs.declared.Tally.{Tally}
-use Rattle.reports.specs.declared.Tally.the-variants as tally
+use Rattle.reports.specs.declared.{NextReport.NextReport, Part.Part, PartAnswer.PartAnswer, ReportAnswer.ReportAnswer, Tally.Tally}
 
 abbrev pub reportSaid : ReportAnswer → Said
-reportSaid (report.Refused r) = refused r
-reportSaid (report.Report x) = says (reportValues x)
+reportSaid (ReportAnswer.Refused r) = refused r
+reportSaid (ReportAnswer.Report x) = says (reportValues x)
 
 -- where the reports end there is no value
 abbrev pub nextSaid : NextReport → Said
-nextSaid (next.Refused r) = refused r
-nextSaid next.None = says []
-nextSaid (next.Report x) = says (reportValues x)
+nextSaid (NextReport.Refused r) = refused r
+nextSaid NextReport.None = says []
+nextSaid (NextReport.Report x) = says (reportValues x)
 
 abbrev pub tallySaid : Tally → Said
-tallySaid (tally.Refused r) = refused r
-tallySaid (tally.Number n) = says (n ∷ [])
+tallySaid (Tally.Refused r) = refused r
+tallySaid (Tally.Number n) = says (n ∷ [])
 
 abbrev pub partValues : Part → List ℕ
 partValues p = p .start ∷ p .length ∷ []
 
 abbrev pub partSaid : PartAnswer → Said
-partSaid (bytes.Refused r) = refused r
-partSaid (bytes.Part p) = says (partValues p)
+partSaid (PartAnswer.Refused r) = refused r
+partSaid (PartAnswer.Part p) = says (partValues p)
 
 -- the lent form has the number alone
 abbrev pub partNumber : PartAnswer → ℕ

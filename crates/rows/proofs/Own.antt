@@ -14,7 +14,7 @@ use Rattle.words.proofs.Records.{le-or-lt, part-getD}
 use Rattle.rows.specs.Codec.{readRow, readMetadata, recordOf}
 use Rattle.rows.specs.Table.{recordWords, rowWords, rowCount, recordAt, wordsAt, wordsOf, putWords, putRow, emptyRow, rowIn}
 use Rattle.rows.specs.Store.{Store, putIn, emptied, OwnAt}
-use Rattle.rows.specs.declared.Row.{Row}
+use Rattle.rows.specs.declared.{Row.Row}
 use Rattle.rows.proofs.Rows.{record-length}
 use Rattle.rows.proofs.Words.{put-length, words-put, words-kept, word-kept, zero-words}
 

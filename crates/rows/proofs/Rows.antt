@@ -10,8 +10,7 @@ use Rattle.words.proofs.Records.{length-tab, getD-tab, set-tab, tab-all, part-g
 use Rattle.rows.specs.Codec.{readRow, readMetadata, recordOf, statusWords}
 use Rattle.rows.specs.Table.{recordWords, rowWords, rowCount, recordAt, wordsAt, putWords, putRow, readRows, emptyRow, rowAt, wordAt}
 use Rattle.rows.specs.Store.{storeOf, putIn, emptied}
-use Rattle.rows.specs.declared.Row.{Row}
-use Rattle.rows.specs.declared.codec.StatusWords.{StatusWords}
+use Rattle.rows.specs.declared.{Row.Row, codec.StatusWords.StatusWords}
 use Rattle.rows.proofs.Words.{put-length, words-put, words-kept, zero-words}
 
 pub length-readRows : (l : List ℕ) → length (readRows l) ≡ rowCount l

@@ -5,24 +5,17 @@ use mathlib.Core.Bool.{Bool, true, false, cond}
 use lib.ListN.{getD, take, drop}
 use lib.Dec.{eqb, ltb}
 use Rattle.words.specs.Words.{readFlag, flagWord, readOptionU32, optionU32Word, readOptionI32, optionI32Word}
-use Rattle.words.specs.declared.OptionU32.{OptionU32}
+use Rattle.words.specs.declared.{OptionU32.OptionU32}
 use Rattle.models.specs.Codes.{readCategory, categoryWord, readTransfer, transferWord, readDirection, directionWord}
 use Rattle.models.specs.Values.{setupWords, setupTail}
-use Rattle.models.specs.declared.OperationError.{OperationError}
-use Rattle.models.specs.declared.OptionSetup.{OptionSetup}
-use Rattle.models.specs.declared.OptionSetup.the-variants as setup
-use Rattle.models.specs.declared.RequestMetadata.{RequestMetadata}
-use Rattle.models.specs.declared.RequestState.{RequestState}
+use Rattle.models.specs.declared.{OperationError.OperationError, OptionSetup.OptionSetup, RequestMetadata.RequestMetadata, RequestState.RequestState, SetupWords.SetupWords}
 use Rattle.models.specs.declared.RequestState.the-variants.{Pending, Completed, Failed, Aborted}
-use Rattle.models.specs.declared.SetupWords.{SetupWords}
-use Rattle.rows.specs.declared.Row.{Row}
-use Rattle.rows.specs.declared.codec.StateWords.{StateWords}
-use Rattle.rows.specs.declared.codec.StatusWords.{StatusWords}
+use Rattle.rows.specs.declared.{Row.Row, codec.StateWords.StateWords, codec.StatusWords.StatusWords}
 
 abbrev pub readSetupWords : ℕ → ℕ → ℕ → ℕ → ℕ → ℕ → OptionSetup
 readSetupWords present type request value index length =
-    cond (eqb present 0) setup.None
-    (setup.Some (record { «request_type» = type % 2 ^ 8; request = request % 2 ^ 8; value = value % 2 ^ 16; index = index % 2 ^ 16; length = length % 2 ^ 16 }))
+    cond (eqb present 0) OptionSetup.None
+    (OptionSetup.Some (record { «request_type» = type % 2 ^ 8; request = request % 2 ^ 8; value = value % 2 ^ 16; index = index % 2 ^ 16; length = length % 2 ^ 16 }))
 
 abbrev pub setupIn : SetupWords → OptionSetup
 setupIn p = readSetupWords (p .present) (p .«request_type») (p .request) (p .value) (p .index) (p .length)

@@ -6,12 +6,10 @@ use mathlib.Core.List.{List, [], _∷_}
 use lib.ListN.{length, getD, set}
 use Rattle.words.specs.Records.{tab, splice, part}
 use Rattle.models.specs.Requests.{deviceMayAccess, isPending, isUncertainFailure}
-use Rattle.models.specs.declared.RequestId.{RequestId}
-use Rattle.models.specs.declared.RequestReport.{RequestReport}
-use Rattle.models.specs.declared.RequestState.{RequestState}
+use Rattle.models.specs.declared.{RequestId.RequestId, RequestReport.RequestReport, RequestState.RequestState}
 use Rattle.models.specs.declared.RequestState.the-variants.{Pending}
 use Rattle.rows.specs.Codec.{readRow, recordOf, statusWords}
-use Rattle.rows.specs.declared.Row.{Row}
+use Rattle.rows.specs.declared.{Row.Row}
 
 -- how many words of a row stand in columns, how many in its record, and how many it has
 abbrev pub columnWords : ℕ

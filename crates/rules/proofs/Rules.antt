@@ -9,12 +9,12 @@ use types.Run.{OneOf}
 use Rattle.chain.proofs.Chain.{chain}
 use Rattle.models.proofs.RequestState.{the-type}
 use Rattle.models.specs.Requests.{isPending}
-use Rattle.models.specs.declared.RequestState.{RequestState}
+use Rattle.models.specs.declared.{RequestState.RequestState}
 use Rattle.models.specs.declared.RequestState.the-variants.{Pending, Completed, Failed, Aborted}
 use Rattle.rows.specs.InPlace.{cancelIn, lateIn}
-use Rattle.rows.specs.declared.Row.{Row}
+use Rattle.rows.specs.declared.{Row.Row}
 use Rattle.rules.specs.Rules.{refusedBy, moved, flagged, whilePending}
-use Rattle.rules.specs.declared.Step.{Step}
+use Rattle.rules.specs.declared.{Step.Step}
 
 -- a tag other than that of Pending
 other-tag : OneOf (1 ∷ 2 ∷ 3 ∷ []) 0 → ⊥

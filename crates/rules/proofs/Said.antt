@@ -5,16 +5,13 @@ use mathlib.Core.List.{[], _∷_}
 use mathlib.Core.Path.{_≡_, refl}
 use Rattle.chain.proofs.Chain.{if-all}
 use Rattle.models.specs.Said.{Tabled}
-use Rattle.models.specs.declared.RequestState.{RequestState}
+use Rattle.models.specs.declared.{RequestState.RequestState}
 use Rattle.models.specs.declared.RequestState.the-variants.{Pending, Completed, Failed, Aborted}
 use Rattle.models.proofs.Said.{tabled-says, tabled-own, said-of}
-use Rattle.rows.specs.declared.Row.{Row}
+use Rattle.rows.specs.declared.{Row.Row}
 use Rattle.rules.specs.Rules.{spendSequence, moved, freed, accepted, whilePending, logicalCancel, cancelWithdrawn, timeOut, completed, failed, abortConfirmed, reclaimed, changeRow}
 use Rattle.rules.specs.Said.{stepSaid, spentSaid, spendNumbers, changeNumbers}
-use Rattle.rules.specs.declared.Change.{Change}
-use Rattle.rules.specs.declared.Change.the-variants as change
-use Rattle.rules.specs.declared.Spent.{Spent}
-use Rattle.rules.specs.declared.Step.{Step}
+use Rattle.rules.specs.declared.{Change.Change, Spent.Spent, Step.Step}
 
 spend-tabled : (next : ℕ) → Tabled spendNumbers (spentSaid (spendSequence next))
 unfolding spendSequence
@@ -29,15 +26,15 @@ pending-tabled Aborted next = tabled-own _ 41 refl
 
 pub change-tabled : (r : Row) (c : Change) → Tabled (changeNumbers c) (stepSaid (changeRow r c))
 unfolding changeRow accepted moved freed logicalCancel cancelWithdrawn timeOut completed failed abortConfirmed reclaimed
-change-tabled r (change.Accept token) = tabled-says _ _
-change-tabled r change.Discard = tabled-says _ _
-change-tabled r change.LogicalCancel = pending-tabled _ _
-change-tabled r change.Timeout = pending-tabled _ _
-change-tabled r (change.Complete actual code) = pending-tabled _ _
-change-tabled r (change.Fail error code quiescent) = pending-tabled _ _
-change-tabled r change.ConfirmAbort = if-all (λ (x : Step). Tabled (43 ∷ []) (stepSaid x)) _ _ _ (tabled-own _ 43 refl) (tabled-says _ _)
-change-tabled r change.Reclaim = if-all (λ (x : Step). Tabled (42 ∷ []) (stepSaid x)) _ _ _ (tabled-own _ 42 refl) (tabled-says _ _)
-change-tabled r change.WithdrawCancel =
+change-tabled r (Change.Accept token) = tabled-says _ _
+change-tabled r Change.Discard = tabled-says _ _
+change-tabled r Change.LogicalCancel = pending-tabled _ _
+change-tabled r Change.Timeout = pending-tabled _ _
+change-tabled r (Change.Complete actual code) = pending-tabled _ _
+change-tabled r (Change.Fail error code quiescent) = pending-tabled _ _
+change-tabled r Change.ConfirmAbort = if-all (λ (x : Step). Tabled (43 ∷ []) (stepSaid x)) _ _ _ (tabled-own _ 43 refl) (tabled-says _ _)
+change-tabled r Change.Reclaim = if-all (λ (x : Step). Tabled (42 ∷ []) (stepSaid x)) _ _ _ (tabled-own _ 42 refl) (tabled-says _ _)
+change-tabled r Change.WithdrawCancel =
     if-all (λ (x : Step). Tabled (41 ∷ 59 ∷ []) (stepSaid x)) _ _ _ (tabled-own _ _ refl)
     (if-all (λ (x : Step). Tabled (41 ∷ 59 ∷ []) (stepSaid x)) _ _ _ (tabled-own _ _ refl) (tabled-says _ _))
 

@@ -3,24 +3,16 @@ use Prim.Native.Nat.{ℕ, _+_, _-_, _^_}
 use mathlib.Core.Bool.{Bool, true, false, not}
 use lib.Dec.{eqb}
 use Rattle.chain.specs.Chain.{_if_else_}
-use Rattle.words.specs.declared.OptionU32.{OptionU32}
+use Rattle.words.specs.declared.{OptionU32.OptionU32}
 use Rattle.models.specs.Refusals.{refusalOf}
 use Rattle.models.specs.Requests.{deviceMayAccess, isPending}
-use Rattle.models.specs.declared.OperationError.{OperationError}
-use Rattle.models.specs.declared.RequestId.{RequestId}
-use Rattle.models.specs.declared.RequestMetadata.{RequestMetadata}
-use Rattle.models.specs.declared.RequestState.{RequestState}
+use Rattle.models.specs.declared.{OperationError.OperationError, RequestId.RequestId, RequestMetadata.RequestMetadata, RequestState.RequestState}
 use Rattle.models.specs.declared.RequestState.the-variants.{Pending, Completed, Failed, Aborted}
 use Rattle.rows.specs.InPlace.{cancelIn, lateIn}
 use Rattle.rows.specs.Table.{emptyRow}
 pub use Rattle.rows.specs.Table.{reportOf, withToken, withState, flagged}
-use Rattle.rows.specs.declared.Row.{Row}
-use Rattle.rules.specs.declared.Step.{Step}
-use Rattle.rules.specs.declared.Step.the-variants as step
-use Rattle.rules.specs.declared.Change.{Change}
-use Rattle.rules.specs.declared.Change.the-variants as change
-use Rattle.rules.specs.declared.Spent.{Spent}
-use Rattle.rules.specs.declared.Spent.the-variants as spent
+use Rattle.rows.specs.declared.{Row.Row}
+use Rattle.rules.specs.declared.{Change.Change, Spent.Spent, Step.Step}
 
 -- the row of a submission, without a token yet
 unfoldable pub pendingRow : RequestId → RequestMetadata → Row
@@ -28,17 +20,17 @@ pendingRow id m = record { used = true; id = id; metadata = m; token = 0; «logi
 
 -- 39: the greatest sequence number is never given
 unfoldable pub spendSequence : ℕ → Spent
-spendSequence next = spent.Refused (refusalOf 39) if eqb next (2 ^ 64 - 1) else spent.Next (next + 1)
+spendSequence next = Spent.Refused (refusalOf 39) if eqb next (2 ^ 64 - 1) else Spent.Next (next + 1)
 
 -- a refusal, a step to a row that is reported as it then is, and one to a free row with the request reported as it was
 abbrev pub refusedBy : ℕ → Step
-refusedBy n = step.Refused (refusalOf n)
+refusedBy n = Step.Refused (refusalOf n)
 
 unfoldable pub moved : Row → Step
-moved r = step.To r (reportOf r)
+moved r = Step.To r (reportOf r)
 
 unfoldable pub freed : Row → Step
-freed r = step.To emptyRow (reportOf r)
+freed r = Step.To emptyRow (reportOf r)
 
 -- the backend took the submission
 unfoldable pub accepted : Row → ℕ → Step
@@ -79,12 +71,12 @@ unfoldable pub reclaimed : Row → Step
 reclaimed r = refusedBy 42 if deviceMayAccess (r .state) else freed r
 
 unfoldable pub changeRow : Row → Change → Step
-changeRow r (change.Accept token) = accepted r token
-changeRow r change.Discard = freed r
-changeRow r change.LogicalCancel = logicalCancel r
-changeRow r change.Timeout = timeOut r
-changeRow r (change.Complete actual code) = completed r actual code
-changeRow r (change.Fail error code quiescent) = failed r error code quiescent
-changeRow r change.ConfirmAbort = abortConfirmed r
-changeRow r change.Reclaim = reclaimed r
-changeRow r change.WithdrawCancel = cancelWithdrawn r
+changeRow r (Change.Accept token) = accepted r token
+changeRow r Change.Discard = freed r
+changeRow r Change.LogicalCancel = logicalCancel r
+changeRow r Change.Timeout = timeOut r
+changeRow r (Change.Complete actual code) = completed r actual code
+changeRow r (Change.Fail error code quiescent) = failed r error code quiescent
+changeRow r Change.ConfirmAbort = abortConfirmed r
+changeRow r Change.Reclaim = reclaimed r
+changeRow r Change.WithdrawCancel = cancelWithdrawn r

@@ -10,9 +10,9 @@ use lib.Dec.{ltb}
 use lib.ListN.{length, getD, length-map}
 use Rattle.chain.specs.Lists.{isAmong}
 use Rattle.chain.proofs.Chain.{caseB, both}
-use Rattle.models.specs.declared.DeviceId.{DeviceId}
+use Rattle.models.specs.declared.{DeviceId.DeviceId}
 use Rattle.rows.specs.Table.{isHeld, rowIn, idIn, tokenIn}
-use Rattle.rows.specs.declared.Row.{Row}
+use Rattle.rows.specs.declared.{Row.Row}
 use Rattle.scope.specs.Affected.{isAffected, comesBefore, insertRow, joined, affectedUpTo, affectedOf, tokensOf}
 use Rattle.scope.specs.Scope.{slotOf, meant}
 use Rattle.scope.proofs.affected.Laws.{affected-bounded}

@@ -4,11 +4,10 @@ use mathlib.Core.List.{List, [], _∷_, map}
 use mathlib.Core.Path.{_≡_, refl, sym, subst}
 use lib.ListN.{take, drop}
 use Rattle.chain.specs.After.{After}
-use Rattle.models.specs.declared.Verdict.{Verdict}
-use Rattle.models.specs.declared.Verdict.the-variants as verdict
+use Rattle.models.specs.declared.{Verdict.Verdict}
 use Rattle.rows.specs.Store.{Store}
 use Rattle.session.specs.Lent.{Memory, memory}
-use Rattle.session.specs.declared.Size.{Size}
+use Rattle.session.specs.declared.{Size.Size}
 use Rattle.scope.specs.Returned.{Returned}
 use Rattle.recovery.specs.Entries.{RowEntry, completeOne, onwardBy, completeAll, abortOne, abortAll, abortsIn, applyAll}
 use Rattle.recovery.specs.RecoveryReply.{ReplyLists, rowsMeant}
@@ -19,8 +18,8 @@ use Rattle.runs.proofs.Tokens.{returnedIn}
 module _ (place : ℕ → ℕ) (z : Size) (J : List Returned → List ℕ → List ℕ → Memory → Type 0) (P : Verdict → Memory → Type 0) where
   -- an entry is refused, and ends it, or passes
   abbrev pub Onward : Verdict → List Returned → List ℕ → List ℕ → Memory → Type 0
-  Onward (verdict.Refused r) es ts bytes m = P (verdict.Refused r) m
-  Onward verdict.Pass es ts bytes m = J es ts bytes m
+  Onward (Verdict.Refused r) es ts bytes m = P (Verdict.Refused r) m
+  Onward Verdict.Pass es ts bytes m = J es ts bytes m
 
   abbrev Onto : After Verdict Memory → List Returned → List ℕ → List ℕ → Type 0
   Onto o es ts bytes = Onward (o .result) es ts bytes (o .lent)
@@ -33,7 +32,7 @@ module _ (place : ℕ → ℕ) (z : Size) (J : List Returned → List ℕ → Li
   abbrev one : Returned → List ℕ → Memory → After Verdict Memory
   one e bytes m = completeOne z (place (e .token)) (e .brought .completion) (take (e .brought .given) bytes) m
 
-  module _ (done : (bytes : List ℕ) (m : Memory) → J [] [] bytes m → P verdict.Pass m)
+  module _ (done : (bytes : List ℕ) (m : Memory) → J [] [] bytes m → P Verdict.Pass m)
       (completes : (e : Returned) (es : List Returned) (ts bytes : List ℕ) (m : Memory) → J (e ∷ es) ts bytes m → Onto (one e bytes m) es ts (drop (e .brought .given) bytes))
       (aborts : (t : ℕ) (ts bytes : List ℕ) (m : Memory) → J [] (t ∷ ts) bytes m
       → Onward (abortOne (place t) (m .store) .result) [] ts bytes (memory (abortOne (place t) (m .store) .lent) (m .area))) where
@@ -47,8 +46,8 @@ module _ (place : ℕ → ℕ) (z : Size) (J : List Returned → List ℕ → Li
         go : (v : Verdict) (o : After Verdict Memory) → o .result ≡ v → Onward v es ts left (o .lent)
             → ((n : Memory) → J es ts left n → Onto (completeAll z (map (rowMeant place) es) left n) [] ts (bytesLeft es left))
             → Onto (onwardBy v o (λ (n : Memory). completeAll z (map (rowMeant place) es) left n)) [] ts (bytesLeft es left)
-        go (verdict.Refused r) o ev h rest = subst (λ (v : Verdict). Onward v [] ts (bytesLeft es left) (o .lent)) (sym ev) h
-        go verdict.Pass o ev h rest = rest (o .lent) h
+        go (Verdict.Refused r) o ev h rest = subst (λ (v : Verdict). Onward v [] ts (bytesLeft es left) (o .lent)) (sym ev) h
+        go Verdict.Pass o ev h rest = rest (o .lent) h
 
     abbrev Ends : After Verdict Store → List ℕ → Type 0
     Ends o area = P (o .result) (memory (o .lent) area)
@@ -60,8 +59,8 @@ module _ (place : ℕ → ℕ) (z : Size) (J : List Returned → List ℕ → Li
         go : (v : Verdict) (o : After Verdict Store) → o .result ≡ v → Onward v [] ts bytes (memory (o .lent) (m .area))
             → ((s : Store) → J [] ts bytes (memory s (m .area)) → Ends (abortAll (map place ts) s) (m .area))
             → Ends (onwardBy v o (λ (s : Store). abortAll (map place ts) s)) (m .area)
-        go (verdict.Refused r) o ev h rest = subst (λ (v : Verdict). P v (memory (o .lent) (m .area))) (sym ev) h
-        go verdict.Pass o ev h rest = rest (o .lent) h
+        go (Verdict.Refused r) o ev h rest = subst (λ (v : Verdict). P v (memory (o .lent) (m .area))) (sym ev) h
+        go Verdict.Pass o ev h rest = rest (o .lent) h
 
     module _ (l : ReplyLists) (m : Memory) (k : J (returnedIn l) (l .aborted) (l .bytes) m) where
       abbrev Ended : After Verdict Memory → Type 0
@@ -69,8 +68,8 @@ module _ (place : ℕ → ℕ) (z : Size) (J : List Returned → List ℕ → Li
 
       by-completed : (v : Verdict) (o : After Verdict Memory) → o .result ≡ v → (bytes : List ℕ) → Onward v [] (l .aborted) bytes (o .lent)
           → Ended (onwardBy v o (abortsIn (map place (l .aborted))))
-      by-completed (verdict.Refused r) o ev bytes h = subst (λ (v : Verdict). P v (o .lent)) (sym ev) h
-      by-completed verdict.Pass o ev bytes h = aborted (l .aborted) bytes (o .lent) h
+      by-completed (Verdict.Refused r) o ev bytes h = subst (λ (v : Verdict). P v (o .lent)) (sym ev) h
+      by-completed Verdict.Pass o ev bytes h = aborted (l .aborted) bytes (o .lent) h
 
       pub entries-all : Ended (applyAll z (rowsMeant place l) m)
       unfolding applyAll

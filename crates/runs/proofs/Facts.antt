@@ -7,15 +7,12 @@ use lib.ListN.{length}
 use Rattle.chain.specs.Lists.{count}
 use Rattle.chain.proofs.Lists.{sum-le}
 use Rattle.models.specs.Requests.{isPending}
-use Rattle.models.specs.declared.RequestId.{RequestId}
-use Rattle.models.specs.declared.RequestState.{RequestState}
+use Rattle.models.specs.declared.{RequestId.RequestId, RequestState.RequestState}
 use Rattle.rows.specs.Table.{isHeld, rowIn}
 use Rattle.rows.specs.Store.{Store}
 use Rattle.ledger.specs.Search.{isAt}
 use Rattle.session.specs.Session.{isClosed}
-use Rattle.session.specs.declared.InFlight.{InFlight}
-use Rattle.session.specs.declared.InFlight.the-variants as flight
-use Rattle.session.specs.declared.Session.{Session}
+use Rattle.session.specs.declared.{InFlight.InFlight, Session.Session}
 use Rattle.runs.specs.Sound.{InFlightAt, FlightSound, isUsed, Sound}
 use Rattle.runs.proofs.Ids.{at-used, at-own}
 use Rattle.runs.proofs.Rows.{one, held-less}
@@ -32,11 +29,11 @@ module _ {s : Session} {store : Store} (k : Sound s store) where
     in-flight : (f : InFlight) → s .«in_flight» ≡ f → FlightSound f (store .rows)
     in-flight f e = subst (λ (g : InFlight). FlightSound g (store .rows)) e (k .flight)
 
-    pub submission-pending : s .«in_flight» ≡ flight.Submission id → isPending (rowIn (store .rows) i .state) ≡ true
-    submission-pending e = ap isPending (at-flight _ (in-flight (flight.Submission id) e))
+    pub submission-pending : s .«in_flight» ≡ InFlight.Submission id → isPending (rowIn (store .rows) i .state) ≡ true
+    submission-pending e = ap isPending (at-flight _ (in-flight (InFlight.Submission id) e))
 
-    pub poll-pending : s .«in_flight» ≡ flight.Poll id → isPending (rowIn (store .rows) i .state) ≡ true
-    poll-pending e = at-flight _ (in-flight (flight.Poll id) e)
+    pub poll-pending : s .«in_flight» ≡ InFlight.Poll id → isPending (rowIn (store .rows) i .state) ≡ true
+    poll-pending e = at-flight _ (in-flight (InFlight.Poll id) e)
 
   pub closed-unheld : isClosed (s .state) ≡ true → count isHeld (store .rows) ≡ 0
   closed-unheld e = omega (arith, k .empty (closed-bare (s .state) e), sum-le (one isHeld) (one isUsed) (store .rows) held-less)

@@ -9,36 +9,23 @@ use lib.Dec.{eqb}
 use lib.ListN.{length}
 use Rattle.chain.specs.After.{After}
 use Rattle.chain.proofs.Chain.{if-by}
-use Rattle.words.specs.declared.OptionU32.{OptionU32}
-use Rattle.words.specs.declared.OptionU32.the-variants as u32
-use Rattle.words.specs.declared.OptionU64.{OptionU64}
-use Rattle.words.specs.declared.OptionU64.the-variants as u64
-use Rattle.models.specs.declared.BackendCompletion.{BackendCompletion}
-use Rattle.models.specs.declared.OperationError.{OperationError}
-use Rattle.models.specs.declared.OptionError.{OptionError}
-use Rattle.models.specs.declared.OptionError.the-variants as error
+use Rattle.words.specs.declared.{OptionU32.OptionU32, OptionU64.OptionU64}
+use Rattle.models.specs.declared.{BackendCompletion.BackendCompletion, OperationError.OperationError, OptionError.OptionError}
 use Rattle.rows.specs.Store.{Store}
 use Rattle.rows.specs.Table.{rowIn}
-use Rattle.rows.specs.declared.Row.{Row}
+use Rattle.rows.specs.declared.{Row.Row}
 use Rattle.rules.specs.Rules.{changeRow}
-use Rattle.rules.specs.declared.Step.{Step}
-use Rattle.rules.specs.declared.Step.the-variants as step
+use Rattle.rules.specs.declared.{Step.Step}
 use Rattle.checks.specs.Completion.{hasError, codeTested, testCode, testLength, testCompletion}
-use Rattle.checks.specs.declared.completion.CompletionTest.{CompletionTest}
-use Rattle.checks.specs.declared.completion.CompletionTest.the-variants as test
+use Rattle.checks.specs.declared.{completion.CompletionTest.CompletionTest}
 use Rattle.session.specs.Session.{isInitialized, withFlight}
 use Rattle.session.specs.Lent.{Memory}
 use Rattle.session.specs.Sizes.{placeOf}
-use Rattle.session.specs.declared.InFlight.{InFlight}
-use Rattle.session.specs.declared.InFlight.the-variants as flight
-use Rattle.session.specs.declared.Session.{Session}
-use Rattle.session.specs.declared.sizes.Place.{Place}
+use Rattle.session.specs.declared.{InFlight.InFlight, Session.Session, sizes.Place.Place}
 use Rattle.reports.specs.Answers.{effect}
-use Rattle.reports.specs.declared.Reported.{Reported}
+use Rattle.reports.specs.declared.{Reported.Reported}
 use Rattle.polls.specs.PollReply.{pollReplyAt, pollReplyOf, failedAs, invalidAs, judgedTest, judgedBy, judged, settled}
-use Rattle.polls.specs.declared.PollReply.{PollReply}
-use Rattle.polls.specs.declared.PollReply.the-variants as reply
-use Rattle.polls.specs.declared.poll_reply.Judgement.{Judgement}
+use Rattle.polls.specs.declared.{PollReply.PollReply, poll_reply.Judgement.Judgement}
 use Rattle.runs.specs.Sound.{FlightReady, Sound}
 use Rattle.runs.proofs.Moves.{Moves, Idle, stays, marked-moves, effect-moves, moves-on, marked-idle, effect-idle, marked-apart}
 use Rattle.runs.proofs.Rows.{Leads, kept, moved-idle, changed-certain, changed-uncertain}
@@ -48,9 +35,9 @@ use Rattle.runs.proofs.Ways.{finish-all}
 
 -- a valid completion is at most as long as requested, and its code is 1 or 13
 abbrev pub TestSound : ℕ → CompletionTest → Type 0
-TestSound requested (test.Valid actual code) = (actual ≤ requested) × ((eqb code 1 || eqb code 13) ≡ true)
-TestSound requested test.MissingLength = Unit {0}
-TestSound requested test.Invalid = Unit {0}
+TestSound requested (CompletionTest.Valid actual code) = (actual ≤ requested) × ((eqb code 1 || eqb code 13) ≡ true)
+TestSound requested CompletionTest.MissingLength = Unit {0}
+TestSound requested CompletionTest.Invalid = Unit {0}
 
 or-last : (a b : Bool) → (a || b) ≡ false → b ≡ false
 or-last true b e = absurd (true≢false e)
@@ -59,13 +46,13 @@ or-last false b e = e
 module _ (c : BackendCompletion) (given requested : ℕ) where
   by-code : (actual : ℕ) → actual ≤ requested → (o : OptionU32) → TestSound requested (codeTested o actual)
   unfolding codeTested
-  by-code actual h u32.None = tt
-  by-code actual h (u32.Some code) = if-by (TestSound requested) _ _ _ (λ e. tt) (λ e. (h, not-false _ e))
+  by-code actual h OptionU32.None = tt
+  by-code actual h (OptionU32.Some code) = if-by (TestSound requested) _ _ _ (λ e. tt) (λ e. (h, not-false _ e))
 
   by-length : (o : OptionU64) → TestSound requested (testLength o c given requested)
   unfolding testLength testCode
-  by-length u64.None = tt
-  by-length (u64.Some actual) =
+  by-length OptionU64.None = tt
+  by-length (OptionU64.Some actual) =
       if-by (TestSound requested) _ _ _ (λ e. tt)
       (λ e. if-by (TestSound requested) _ _ _ (λ x. tt) (λ x. by-code actual (ltb-false _ _ (or-last (not (c .quiescent) || hasError (c .error)) _ e)) (c .«completion_code»)))
 
@@ -101,14 +88,14 @@ module _ (s : Session) (i : Idle s) (r : Row) (c : BackendCompletion) where
 
   tested-sound : (t : CompletionTest) → TestSound (r .metadata .«requested_length») t → JudgedSound s r (judgedTest t s c)
   unfolding judgedTest
-  tested-sound (test.Valid actual code) h = record { moves = stays s; idle = i; step = inl (complete-step r actual code (h .0) (h .1)) }
-  tested-sound test.MissingLength h = invalid-sound
-  tested-sound test.Invalid h = invalid-sound
+  tested-sound (CompletionTest.Valid actual code) h = record { moves = stays s; idle = i; step = inl (complete-step r actual code (h .0) (h .1)) }
+  tested-sound CompletionTest.MissingLength h = invalid-sound
+  tested-sound CompletionTest.Invalid h = invalid-sound
 
   by-error : (o : OptionError) (given : ℕ) → JudgedSound s r (judgedBy o s r c given)
   unfolding judgedBy
-  by-error (error.Some e) given = failed-sound e
-  by-error error.None given = tested-sound _ (test-sound c given (r .metadata .«requested_length»))
+  by-error (OptionError.Some e) given = failed-sound e
+  by-error OptionError.None given = tested-sound _ (test-sound c given (r .metadata .«requested_length»))
 
   judged-sound : (given : ℕ) → JudgedSound s r (judged s r c given)
   unfolding judged
@@ -121,7 +108,7 @@ FinishedSound s store o = Leads s store (o .result .session) (o .lent .store)
 module _ {s : Session} (m : Memory) (k : Sound s (m .store)) (ready : isInitialized (s .state) ≡ true) (p : Place) (h : p .row < length (m .store .rows))
     (u : rowIn (m .store .rows) (p .row) .used ≡ true) (bytes : List ℕ) where
   abbrev idle : Session
-  idle = withFlight s flight.Nothing
+  idle = withFlight s InFlight.Nothing
 
   abbrev row : Row
   row = rowIn (m .store .rows) (p .row)
@@ -129,15 +116,15 @@ module _ {s : Session} (m : Memory) (k : Sound s (m .store)) (ready : isInitiali
   settled-sound : (n : Step) (j : Judgement) → Moves s (j .session) → Idle (j .session)
       → StepCertain row n ⊎ (StepSound row n × (isInitialized (j .session .state) ≡ false)) → FinishedSound s (m .store) (settled n j p bytes idle m)
   unfolding settled
-  settled-sound (step.Refused x) j v d c = moved-idle k idle (stays s) refl
-  settled-sound (step.To q x) j v d (inl c) = changed-certain k (p .row) h u q (c .0) (j .session) v d (c .1)
-  settled-sound (step.To q x) j v d (inr c) = changed-uncertain k (p .row) h u q (c .0) (j .session) v d ready (c .1)
+  settled-sound (Step.Refused x) j v d c = moved-idle k idle (stays s) refl
+  settled-sound (Step.To q x) j v d (inl c) = changed-certain k (p .row) h u q (c .0) (j .session) v d (c .1)
+  settled-sound (Step.To q x) j v d (inr c) = changed-uncertain k (p .row) h u q (c .0) (j .session) v d ready (c .1)
 
   by-reply : (x : PollReply) → FinishedSound s (m .store) (pollReplyAt x row p bytes idle m)
   unfolding pollReplyAt
-  by-reply reply.Nothing = moved-idle k idle (stays s) refl
-  by-reply (reply.Error e) = moved-idle k (effect e idle) (moves-on s idle (effect e idle) (stays s) (effect-moves e idle)) (effect-idle e idle refl)
-  by-reply (reply.Completion c) =
+  by-reply PollReply.Nothing = moved-idle k idle (stays s) refl
+  by-reply (PollReply.Error e) = moved-idle k (effect e idle) (moves-on s idle (effect e idle) (stays s) (effect-moves e idle)) (effect-idle e idle refl)
+  by-reply (PollReply.Completion c) =
       let j = judged idle row c (length bytes) in
       let d = judged-sound idle refl row c (length bytes) in
       settled-sound (changeRow row (j .change)) j (moves-on s idle (j .session) (stays s) (d .moves)) (d .idle) (d .step)

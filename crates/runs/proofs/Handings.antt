@@ -7,14 +7,13 @@ use Rattle.models.specs.Refusals.{refusalOf}
 use Rattle.bus.specs.Tables.{Bus}
 use Rattle.calls.specs.Calls.{Call}
 use Rattle.calls.specs.Step.{World, stepOf}
-use Rattle.calls.specs.declared.Answer.{Answer}
-use Rattle.calls.specs.declared.Answer.the-variants as answer
+use Rattle.calls.specs.declared.{Answer.Answer}
 use Rattle.runs.specs.Run.{Handed, own, other, Event, next, leftBy, answerTo, isOpening, Handing, Follows, numberOf, noted, Fresh, beside, rowsOnly}
 
 -- the session and the rows with some bus and area; or others, and then it is refused by 3 and leaves ours
 pub by-handed : (h : Handed) (c : Call) (w : World) (P : Answer → World → Type 0) → Handing h c
     → (isOpening c ≡ false → (bus : Bus) (area : List ℕ) → P (stepOf c (beside bus area w) .result .answer) (next (stepOf c (beside bus area w))))
-    → P (answer.Refused (refusalOf 3)) w → P (answerTo w (record { call = c; handed = h })) (leftBy h c w)
+    → P (Answer.Refused (refusalOf 3)) w → P (answerTo w (record { call = c; handed = h })) (leftBy h c w)
 by-handed own c w P k ours others = ours k (w .lent .bus) (w .lent .memory .area)
 by-handed (rowsOnly bus area) c w P k ours others = ours k bus area
 by-handed (other v) c w P k ours others = subst (λ (a : Answer). P a w) (sym k) others

@@ -13,7 +13,7 @@ use Rattle.chain.proofs.Lists.{count-pos, find-hit, find-some}
 use Rattle.models.specs.Requests.{deviceMayAccess}
 use Rattle.rows.specs.Codec.{readRow}
 use Rattle.rows.specs.Table.{emptyRow, isHeld}
-use Rattle.rows.specs.declared.Row.{Row}
+use Rattle.rows.specs.declared.{Row.Row}
 
 pub or-false : (a b : Bool) → (a || b) ≡ false → (a ≡ false) × (b ≡ false)
 or-false true b e = absurd (true≢false e)

@@ -5,11 +5,10 @@ use borrow.Author.Tests.{eqb-true, eq-eqb}
 use lib.Dec.{eqb}
 use Rattle.chain.proofs.Chain.{both}
 use Rattle.models.specs.Requests.{deviceMayAccess, isPending, sameRequest}
-use Rattle.models.specs.declared.RequestId.{RequestId}
-use Rattle.models.specs.declared.RequestState.{RequestState}
+use Rattle.models.specs.declared.{RequestId.RequestId, RequestState.RequestState}
 use Rattle.models.specs.declared.RequestState.the-variants.{Pending, Completed, Failed, Aborted}
 use Rattle.rows.specs.Table.{isHeld}
-use Rattle.rows.specs.declared.Row.{Row}
+use Rattle.rows.specs.declared.{Row.Row}
 use Rattle.ledger.specs.Search.{isAt}
 
 pub same-request : (x y : RequestId) → sameRequest x y ≡ true → x ≡ y

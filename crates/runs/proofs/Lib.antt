@@ -11,7 +11,6 @@ pub mod Change
 pub mod Reply
 pub mod Poll
 pub mod Finish
-pub mod Numbers
 pub mod Stages
 pub mod Submit
 pub mod Lifecycle

@@ -11,45 +11,25 @@ use lib.Seq.{getD-set-same, getD-set-other}
 use Rattle.chain.specs.Lists.{count, anyIn, isAmong}
 use Rattle.chain.specs.After.{After}
 use Rattle.chain.proofs.Chain.{caseB, if-by, and3}
-use Rattle.words.specs.declared.OptionU32.{OptionU32}
-use Rattle.words.specs.declared.OptionU64.{OptionU64}
+use Rattle.words.specs.declared.{OptionU32.OptionU32, OptionU64.OptionU64}
 use Rattle.models.specs.Requests.{sameDevice}
-use Rattle.models.specs.declared.BackendCompletion.{BackendCompletion}
+use Rattle.models.specs.declared.{BackendCompletion.BackendCompletion, DeviceId.DeviceId, RequestId.RequestId, Verdict.Verdict}
 use Rattle.models.specs.declared.ControllerState.the-variants.{Initialized}
-use Rattle.models.specs.declared.DeviceId.{DeviceId}
-use Rattle.models.specs.declared.RequestId.{RequestId}
-use Rattle.models.specs.declared.Verdict.{Verdict}
-use Rattle.models.specs.declared.Verdict.the-variants as verdict
 use Rattle.rows.specs.Store.{Store, putIn}
 use Rattle.rows.specs.Table.{emptyRow, isUncertain, rowIn}
-use Rattle.rows.specs.declared.Row.{Row}
+use Rattle.rows.specs.declared.{Row.Row}
 use Rattle.rules.specs.Rules.{changeRow}
-use Rattle.rules.specs.declared.Change.the-variants as change
-use Rattle.rules.specs.declared.Step.{Step}
-use Rattle.rules.specs.declared.Step.the-variants as step
-use Rattle.checks.specs.declared.completion.CompletionTest.{CompletionTest}
-use Rattle.checks.specs.declared.completion.CompletionTest.the-variants as test
+use Rattle.rules.specs.declared.{Change.Change, Step.Step}
+use Rattle.checks.specs.declared.{completion.CompletionTest.CompletionTest}
 use Rattle.session.specs.Session.{withController, withFlight, withStall, marked}
 use Rattle.session.specs.Lent.{Memory, memory}
-use Rattle.session.specs.declared.InFlight.{InFlight}
-use Rattle.session.specs.declared.InFlight.the-variants as flight
-use Rattle.session.specs.declared.OptionStall.{OptionStall}
-use Rattle.session.specs.declared.OptionStall.the-variants as stall
-use Rattle.session.specs.declared.RecoveryKind.{RecoveryKind}
-use Rattle.session.specs.declared.RecoveryKind.the-variants as kind
-use Rattle.session.specs.declared.Session.{Session}
+use Rattle.session.specs.declared.{InFlight.InFlight, OptionStall.OptionStall, Recovery.Recovery, RecoveryKind.RecoveryKind, Session.Session, Size.Size}
 use Rattle.scope.specs.Scope.{inScope}
 use Rattle.scope.specs.Returned.{Returned}
-use Rattle.session.specs.declared.Size.{Size}
-use Rattle.session.specs.declared.Recovery.{Recovery}
 use Rattle.recovery.specs.Entries.{rowCompletedBy, testedBy, completeOne, abortedBy, abortOne, applyAll}
 use Rattle.recovery.specs.Recover.{recoverOf, begunAs, recoveryOf}
 use Rattle.recovery.specs.RecoveryReply.{ReplyLists, rowsMeant, ended, isWhole, isRevision, restoredBy, resetBy, sessionAfter, refusedAfter, concludedBy, settledOf, recoveryReplyOf}
-use Rattle.recovery.specs.declared.AbortReport.{AbortReport}
-use Rattle.recovery.specs.declared.Ids.{Ids}
-use Rattle.recovery.specs.declared.Outcome.{Outcome}
-use Rattle.recovery.specs.declared.RecoveryReply.{RecoveryReply}
-use Rattle.recovery.specs.declared.Recovered.{Recovered}
+use Rattle.recovery.specs.declared.{AbortReport.AbortReport, Ids.Ids, Outcome.Outcome, Recovered.Recovered, RecoveryReply.RecoveryReply}
 use Rattle.runs.specs.Sound.{FlightReady, Sound}
 use Rattle.runs.proofs.Tokens.{tokensIn, Each, scope-each, replyTokens}
 use Rattle.runs.proofs.Moves.{Idle, stays, marked-moves, marked-idle}
@@ -73,7 +53,7 @@ module _ {s : Session} {store : Store} (k : Sound s store) where
   begin-sound id q =
       begin-all id q s store (λ o. Leads s store (o .session) store) (λ n e. kept k) (λ i h e m. kept k)
       (λ i h e a m.
-      moved k (withFlight s (flight.Recovery (recoveryOf id q (rowIn (store .rows) i)))) (stays s)
+      moved k (withFlight s (InFlight.Recovery (recoveryOf id q (rowIn (store .rows) i)))) (stays s)
       (record {
         index = i;
         below = h;
@@ -126,16 +106,16 @@ module _ (place : ℕ → ℕ) where
         stepped : (m : Step) → StepCertain (rowIn (store .rows) i) m → StepUsed (rowIn (store .rows) i) m
             → Walked store (rowCompletedBy m z i bytes (memory store area) .lent .store) us
         unfolding rowCompletedBy
-        stepped (step.Refused x) c e = stays-so
-        stepped (step.To q x) c e = put-so q (c .0) (c .1) e
+        stepped (Step.Refused x) c e = stays-so
+        stepped (Step.To q x) c e = put-so q (c .0) (c .1) e
 
         tested : (p : CompletionTest) → TestSound (rowIn (store .rows) i .metadata .«requested_length») p → (code : OptionU32)
             → Walked store (testedBy p code z i bytes (memory store area) .lent .store) us
         unfolding testedBy
-        tested test.MissingLength t code = stays-so
-        tested test.Invalid t code = stays-so
-        tested (test.Valid actual n) t code =
-            stepped (changeRow (rowIn (store .rows) i) (change.Complete actual n)) (complete-step (rowIn (store .rows) i) actual n (t .0) (t .1)) (complete-used (rowIn (store .rows) i) actual n)
+        tested CompletionTest.MissingLength t code = stays-so
+        tested CompletionTest.Invalid t code = stays-so
+        tested (CompletionTest.Valid actual n) t code =
+            stepped (changeRow (rowIn (store .rows) i) (Change.Complete actual n)) (complete-step (rowIn (store .rows) i) actual n (t .0) (t .1)) (complete-used (rowIn (store .rows) i) actual n)
 
         completed-one : (c : BackendCompletion) → Walked store (completeOne z i c bytes (memory store area) .lent .store) us
         unfolding completeOne
@@ -143,12 +123,12 @@ module _ (place : ℕ → ℕ) where
 
       aborted-by : (m : Step) → StepCertain (rowIn (store .rows) i) m → StepUsed (rowIn (store .rows) i) m → Walked store (abortedBy m i store .lent) us
       unfolding abortedBy
-      aborted-by (step.Refused x) c e = stays-so
-      aborted-by (step.To q x) c e = put-so q (c .0) (c .1) e
+      aborted-by (Step.Refused x) c e = stays-so
+      aborted-by (Step.To q x) c e = put-so q (c .0) (c .1) e
 
       aborted-one : Walked store (abortOne i store .lent) us
       unfolding abortOne
-      aborted-one = aborted-by (changeRow (rowIn (store .rows) i) change.ConfirmAbort) (abort-step (rowIn (store .rows) i)) (abort-used (rowIn (store .rows) i))
+      aborted-one = aborted-by (changeRow (rowIn (store .rows) i) Change.ConfirmAbort) (abort-step (rowIn (store .rows) i)) (abort-used (rowIn (store .rows) i))
 
     applied-all : (z : Size) (l : ReplyLists) (m : Memory) → Sound s (m .store) → AllUsed (m .store .rows) (replyTokens l)
         → Leads s (m .store) s (applyAll z (rowsMeant place l) m .lent .store)
@@ -170,8 +150,8 @@ module _ (place : ℕ → ℕ) where
 
         on : (x : Verdict) (es : List Returned) (ts bytes : List ℕ) (n n′ : Memory) {us : List ℕ} → Walked (m .store) (n .store) us
             → Walked (n .store) (n′ .store) (tokensIn es ++ ts) → Onward place z J P x es ts bytes n′
-        on (verdict.Refused r) es ts bytes n n′ h o = leads-then (h .leads) (o .leads)
-        on verdict.Pass es ts bytes n n′ h o = record { leads = leads-then (h .leads) (o .leads); used = o .used }
+        on (Verdict.Refused r) es ts bytes n n′ h o = leads-then (h .leads) (o .leads)
+        on Verdict.Pass es ts bytes n n′ h o = record { leads = leads-then (h .leads) (o .leads); used = o .used }
 
 -- ---- the session after the entries
 module _ {s : Session} {store : Store} (k : Sound s store) (idle : Idle s) where
@@ -182,7 +162,7 @@ module _ {s : Session} {store : Store} (k : Sound s store) (idle : Idle s) where
   marked-after = moved-idle k (marked s) (marked-moves s) (marked-idle s idle)
 
   -- Initialized again: no row is Failed and not quiescent
-  restored-after : count isUncertain (store .rows) ≡ 0 → (revision : OptionU64) → To (withController (withStall s stall.None) Initialized revision)
+  restored-after : count isUncertain (store .rows) ≡ 0 → (revision : OptionU64) → To (withController (withStall s OptionStall.None) Initialized revision)
   restored-after z revision = record {
     sound = record {
       sizes = k .sizes;
@@ -199,10 +179,10 @@ module _ {s : Session} {store : Store} (k : Sound s store) (idle : Idle s) where
   }
     where
       ready-idle : (f : InFlight) → Idle (withFlight s f) → FlightReady f Initialized
-      ready-idle flight.Nothing e = tt
-      ready-idle (flight.Submission id) e = refl
-      ready-idle (flight.Poll id) e = refl
-      ready-idle (flight.Recovery x) e = refl
+      ready-idle InFlight.Nothing e = tt
+      ready-idle (InFlight.Submission id) e = refl
+      ready-idle (InFlight.Poll id) e = refl
+      ready-idle (InFlight.Recovery x) e = refl
 
   none-uncertain : not (anyIn isUncertain (store .rows)) ≡ true → count isUncertain (store .rows) ≡ 0
   none-uncertain e =
@@ -211,21 +191,21 @@ module _ {s : Session} {store : Store} (k : Sound s store) (idle : Idle s) where
 
   restored-by : (q : OptionStall) (x : Recovery) → To (restoredBy q x (not (anyIn isUncertain (store .rows))) s)
   unfolding restoredBy
-  restored-by stall.None x = moved-idle k (withStall s stall.None) (stays s) idle
-  restored-by (stall.Some note) x =
+  restored-by OptionStall.None x = moved-idle k (withStall s OptionStall.None) (stays s) idle
+  restored-by (OptionStall.Some note) x =
       if-by To _ _ _
       (λ e. restored-after (none-uncertain (and3 (sameDevice (note .device) (x .device) && eqb (note .endpoint) (x .endpoint)) (not (anyIn isUncertain (store .rows))) (isRevision (s .«recovery_revision») (note .revision)) e .1)) (s .«recovery_revision»))
-      (λ e. moved-idle k (withStall s stall.None) (stays s) idle)
+      (λ e. moved-idle k (withStall s OptionStall.None) (stays s) idle)
 
   reset-after : (q : RecoveryKind) (x : Recovery) → To (resetBy q x (store .rows) s)
   unfolding resetBy
-  reset-after kind.Abort x = kept k
-  reset-after (kind.Reset preserve) x = restored-by (s .«recoverable_stall») x
+  reset-after RecoveryKind.Abort x = kept k
+  reset-after (RecoveryKind.Reset preserve) x = restored-by (s .«recoverable_stall») x
 
   concluded-after : (y : Verdict) (x : Recovery) (o : Outcome) (report : AbortReport) (ids : Ids) → To (concludedBy y (ended s x o) report ids (store .rows) .session)
   unfolding concludedBy refusedAfter sessionAfter
-  concluded-after (verdict.Refused r) x o report ids = if-by To _ _ _ (λ e. marked-after) (λ e. kept k)
-  concluded-after verdict.Pass x o report ids = if-by To _ _ _ (λ e. marked-after) (λ e. reset-after (x .kind) x)
+  concluded-after (Verdict.Refused r) x o report ids = if-by To _ _ _ (λ e. marked-after) (λ e. kept k)
+  concluded-after Verdict.Pass x o report ids = if-by To _ _ _ (λ e. marked-after) (λ e. reset-after (x .kind) x)
 
 -- ---- the reply
 meant-used : (d : DeviceId) (endpoint : ℕ) (rows : List Row) (t : ℕ) → isAmong t (ownTokens d endpoint rows) ≡ true → Used (placeMeant d endpoint rows) rows t
@@ -239,7 +219,7 @@ module _ {s : Session} (m : Memory) (k : Sound s (m .store)) (l : ReplyLists) wh
   RecoveredSound o = Leads s (m .store) (o .result .session) (o .lent .store)
 
   abbrev quiet : Session
-  quiet = withFlight s flight.Nothing
+  quiet = withFlight s InFlight.Nothing
 
   stilled : Leads s (m .store) quiet (m .store)
   stilled = moved-idle k quiet (stays s) refl

@@ -15,13 +15,11 @@ use Rattle.bus.specs.Tables.{cleared}
 use Rattle.session.specs.Lifecycle.{newSession, openOf}
 use Rattle.session.specs.Sizes.{sized, rowsFit}
 use Rattle.session.specs.Lent.{Lent, lent, memory, storeFits}
-use Rattle.session.specs.declared.lifecycle.Opening.{Opening}
-use Rattle.session.specs.declared.Size.{Size}
-use Rattle.session.specs.declared.lifecycle.Opened.{Opened}
+use Rattle.session.specs.declared.{Size.Size, lifecycle.Opened.Opened, lifecycle.Opening.Opening}
 use Rattle.session.proofs.sizes.Laws.{rows-words}
 use Rattle.calls.specs.Calls.{Call, Open, Place, Move, Acquire, Initialize, Close, Begin, Submit, SubmitPlan, Poll, Recover, Reply, ToSubmit, ToPoll, ToRecovery, Change, Read}
 use Rattle.calls.specs.Step.{World, world, opens, movedOf, begunOf, repliedOf, changeBy, stepOf, worldStore}
-use Rattle.calls.specs.declared.Answer.the-variants as answer
+use Rattle.calls.specs.declared.{Answer.Answer}
 use Rattle.runs.specs.Run.{Handed, Event, next, leftBy, endOf, isOpening, Handing, Follows, beside}
 use Rattle.runs.specs.Sound.{Sound, Fitted}
 use Rattle.runs.proofs.Handings.{by-handed}
@@ -38,10 +36,10 @@ use Rattle.runs.proofs.Lifecycle.{acquire-sound, initialize-sound, clos
 -- an opening that passes, for whatever is claimed of it
 by-opening : (o : Opening) (w : World) (P : World → Type 0)
     → (storeFits (o .size) (worldStore w) ≡ true → P (world (newSession o) (lent cleared (memory (emptied (worldStore w)) (w .lent .memory .area)))))
-    → stepOf (Open o) w .result .answer ≡ answer.Pass → P (next (stepOf (Open o) w))
+    → stepOf (Open o) w .result .answer ≡ Answer.Pass → P (next (stepOf (Open o) w))
 unfolding stepOf openOf
 by-opening o w P go =
-    if-by (λ (x : After Opened Lent). opens x w .result .answer ≡ answer.Pass → P (next (opens x w))) _ _ _
+    if-by (λ (x : After Opened Lent). opens x w .result .answer ≡ Answer.Pass → P (next (opens x w))) _ _ _
     (λ t e. let z : _≡_ {A = ℕ} 0 1 = cc in absurd (omega arith))
     (λ t e. go (both _ _ (both _ _ (not-false _ t) .0) .0))
 
@@ -55,7 +53,7 @@ SoundIn w = Sound (w .session) (worldStore w)
 abbrev pub FittedIn : World → Type 0
 FittedIn w = Fitted (w .session) (worldStore w)
 
-pub sound-open : (o : Opening) (w : World) → stepOf (Open o) w .result .answer ≡ answer.Pass → SoundIn (next (stepOf (Open o) w))
+pub sound-open : (o : Opening) (w : World) → stepOf (Open o) w .result .answer ≡ Answer.Pass → SoundIn (next (stepOf (Open o) w))
 sound-open o w = by-opening o w SoundIn (λ z. all-free (worldStore w) (newSession o) (fits-sized _ _ z) refl)
 
 -- a store has as many rows as its words say; one of lent words always does
@@ -67,7 +65,7 @@ unfolding storeOf
 lent-rows l = length-readRows l
 
 -- where the opening's store is such
-pub fitted-open : (o : Opening) (w : World) → Whole w → stepOf (Open o) w .result .answer ≡ answer.Pass → FittedIn (next (stepOf (Open o) w))
+pub fitted-open : (o : Opening) (w : World) → Whole w → stepOf (Open o) w .result .answer ≡ Answer.Pass → FittedIn (next (stepOf (Open o) w))
 unfolding rowCount
 fitted-open o w n =
     by-opening o w FittedIn (λ z. all-fitted (worldStore w) (newSession o) z (omega (arith, n, rows-words (o .size) (length (worldStore w .words)) z)))
@@ -106,7 +104,7 @@ leads-on (e ∷ es) w k f =
     record { sound = b .sound; fitted = λ z. b .fitted (a .fitted z) }
 
 -- and one after an opening that passed
-module _ (o : Opening) (w : World) (es : List Event) (e : stepOf (Open o) w .result .answer ≡ answer.Pass) (f : Follows es) where
+module _ (o : Opening) (w : World) (es : List Event) (e : stepOf (Open o) w .result .answer ≡ Answer.Pass) (f : Follows es) where
   pub sound-run : SoundIn (endOf (next (stepOf (Open o) w)) es)
   sound-run = leads-on es (next (stepOf (Open o) w)) (sound-open o w e) f .sound
 

@@ -1,83 +1,70 @@
--- Every way out of a submission, for whatever is claimed of it; what is refused before the device is numbered up to 25. Assumes nothing.
+-- Every way out of a submission, for whatever is claimed of it. Assumes nothing.
 use Prim.Native.Nat.{ℕ, _+_, _<_, _≤_}
 use mathlib.Core.Bool.{Bool, true, false, not}
 use mathlib.Core.List.{List}
-use mathlib.Core.Path.{_≡_, refl, ap}
+use mathlib.Core.Path.{_≡_, refl}
 use native.Mathlib.Omega.{arith}
-use borrow.Author.Tests.{leb-false}
+use borrow.Author.Tests.{leb-true, leb-false}
+use lib.Dec.{leb}
 use lib.ListN.{length}
 use Rattle.chain.specs.After.{After, after}
 use Rattle.chain.specs.Chain.{_if_else_}
-use Rattle.chain.specs.Lists.{count, foundIn}
-use Rattle.chain.specs.declared.Found.{Found}
-use Rattle.chain.specs.declared.Found.the-variants as found
-use Rattle.chain.proofs.Chain.{if-by, if-all}
+use Rattle.chain.specs.Lists.{count, foundIn, isAmong}
+use Rattle.chain.specs.declared.{Found.Found}
+use Rattle.chain.proofs.Chain.{if-by}
 use Rattle.models.specs.Refusals.{refusalOf}
 use Rattle.models.specs.Requests.{sameDevice}
-use Rattle.models.specs.declared.ControlPlan.{ControlPlan}
-use Rattle.models.specs.declared.DeviceId.{DeviceId}
-use Rattle.models.specs.declared.OptionDevice.{OptionDevice}
-use Rattle.models.specs.declared.OptionDevice.the-variants as device
-use Rattle.models.specs.declared.OptionPorts.{OptionPorts}
-use Rattle.models.specs.declared.PortReading.{PortReading}
-use Rattle.models.specs.declared.Refusal.{Refusal}
-use Rattle.models.specs.declared.RequestMetadata.{RequestMetadata}
-use Rattle.models.specs.declared.Verdict.{Verdict}
-use Rattle.models.specs.declared.Verdict.the-variants as verdict
+use Rattle.models.specs.Said.{Tabled, refused}
+use Rattle.models.proofs.Said.{every, tabled-number}
+use Rattle.models.specs.declared.{ControlPlan.ControlPlan, DeviceId.DeviceId, OptionDevice.OptionDevice, OptionPorts.OptionPorts, PortReading.PortReading, Refusal.Refusal, RequestMetadata.RequestMetadata, Verdict.Verdict}
 use Rattle.rows.specs.Table.{isHeld, rowIn}
-use Rattle.rows.specs.declared.Row.{Row}
+use Rattle.rows.specs.declared.{Row.Row}
 use Rattle.rules.specs.Rules.{spendSequence}
 use Rattle.ledger.specs.Search.{isFree}
-use Rattle.rules.specs.declared.Spent.{Spent}
-use Rattle.rules.specs.declared.Spent.the-variants as spent
+use Rattle.rules.specs.declared.{Spent.Spent}
 use Rattle.ledger.proofs.Found.{free-row}
 use Rattle.bus.specs.Tables.{Bus, deviceAt, markAt}
-use Rattle.checks.specs.Packets.{packetsChecked}
-use Rattle.checks.specs.Plan.{planFacts, planChecked, planOf}
-use Rattle.checks.specs.Plan as plan
-use Rattle.checks.specs.declared.plan.Planned.the-variants as planned
-use Rattle.checks.specs.Prepare.{specFacts, specChecked, metadataOf}
-use Rattle.checks.specs.Prepare as prepare
-use Rattle.checks.specs.declared.prepare.Prepared.the-variants as prepared
+use Rattle.checks.specs.Plan.{planOf}
+use Rattle.checks.specs.Prepare.{metadataOf}
 use Rattle.targets.specs.Target.{refusedDevice, knownBy, knownDevice, checkDeviceBy, checkDevice, checkTargetBy, checkTarget}
-use Rattle.targets.specs.declared.Readings.{Readings}
-use Rattle.targets.specs.declared.target.DeviceChecked.the-variants as checked
-use Rattle.checks.proofs.Passed.{ready-fits, planned-fits}
+use Rattle.targets.specs.declared.{Readings.Readings, target.DeviceChecked.DeviceChecked}
 use Rattle.session.specs.Session.{isInitialized}
-use Rattle.session.specs.Start.{guarded}
 use Rattle.session.specs.Lent.{Memory, Lent, lent}
 use Rattle.session.specs.Sizes.{placeOf}
-use Rattle.session.specs.declared.Session.{Session}
+use Rattle.session.specs.declared.{Session.Session}
 use Rattle.submissions.specs.Begin.{roomIn, Draft, draft, startRefused, begun, beginOf, withBus, targetBy, targetOf}
-use Rattle.submissions.specs.Submit.{Request, submitRefused, submittedTo, preparedOf, roomOf, packetsOf, submitOf}
-use Rattle.submissions.specs.Plan.{planRefused, plannedTo, plannedOf, planRoomOf, submitPlanOf}
-use Rattle.submissions.specs.declared.PlanSubmitted.{PlanSubmitted}
-use Rattle.submissions.specs.declared.Submitted.{Submitted}
-use Rattle.submissions.specs.declared.begin.Started.{Started}
-use Rattle.runs.proofs.Numbers.{early-said, packets-early, spec-early, plan-early}
+use Rattle.submissions.specs.Submit.{Request, submitRefused, submittedTo, submitTarget, submitBy, submitOf}
+use Rattle.submissions.specs.Plan.{planRefused, plannedTo, planTarget, submitPlanBy, submitPlanOf}
+use Rattle.submissions.specs.Said.{admitNumbers, admitPlanNumbers, earlyNumbers}
+use Rattle.submissions.specs.declared.{PlanSubmitted.PlanSubmitted, Submitted.Submitted, begin.Started.Started}
+use Rattle.submissions.proofs.Admission.{admit-all, admit-plan-all}
+
+-- a refusal before the device
+early : (ns : List ℕ) → every (λ n. isAmong n earlyNumbers) ns ≡ true → (r : Refusal) → Tabled ns (refused r) → isAmong (r .number) earlyNumbers ≡ true
+early ns a r h = tabled-number (λ n. isAmong n earlyNumbers) ns a r h
 
 -- 28: a request is taken only while the controller is Initialized
-known-no : (o : OptionDevice) (id : DeviceId) → (r : Refusal) × (knownBy o false id ≡ checked.Refused r)
+known-no : (o : OptionDevice) (id : DeviceId) → (r : Refusal) × (knownBy o false id ≡ DeviceChecked.Refused r)
 unfolding knownBy _if_else_
-known-no device.None id = (_, refl)
-known-no (device.Some d) id = go (sameDevice (d .id) id)
+known-no OptionDevice.None id = (_, refl)
+known-no (OptionDevice.Some d) id = go (sameDevice (d .id) id)
   where
-    go : (b : Bool) → (r : Refusal) × ((refusedDevice 27 if not b else refusedDevice 28 if true else checked.Ready d) ≡ checked.Refused r)
+    go : (b : Bool) → (r : Refusal) × ((refusedDevice 27 if not b else refusedDevice 28 if true else DeviceChecked.Ready d) ≡ DeviceChecked.Refused r)
     go true = (_, refl)
     go false = (_, refl)
 
-device-no : (id : DeviceId) (b : Bus) → (r : Refusal) × (knownDevice false id b ≡ checked.Refused r)
+device-no : (id : DeviceId) (b : Bus) → (r : Refusal) × (knownDevice false id b ≡ DeviceChecked.Refused r)
 unfolding knownDevice _if_else_
 device-no id b = go (markAt b (id .slot))
   where
-    go : (t : Bool) → (r : Refusal) × ((refusedDevice 26 if t else knownBy (deviceAt b (id .slot)) false id) ≡ checked.Refused r)
+    go : (t : Bool) → (r : Refusal) × ((refusedDevice 26 if t else knownBy (deviceAt b (id .slot)) false id) ≡ DeviceChecked.Refused r)
     go true = (_, refl)
     go false = known-no (deviceAt b (id .slot)) id
 
-refused-no : (r : Refusal) → verdict.Refused r ≡ verdict.Pass → ⊥
+refused-no : (r : Refusal) → Verdict.Refused r ≡ Verdict.Pass → ⊥
 refused-no r e = let z : _≡_ {A = ℕ} 0 1 = cc in absurd (omega arith)
 
-target-ready : (ready : Bool) (ports : OptionPorts) (m : RequestMetadata) (x : Readings) (b : Bus) → checkTarget ready ports m x b .result ≡ verdict.Pass → ready ≡ true
+target-ready : (ready : Bool) (ports : OptionPorts) (m : RequestMetadata) (x : Readings) (b : Bus) → checkTarget ready ports m x b .result ≡ Verdict.Pass → ready ≡ true
 unfolding checkTarget checkTargetBy checkDevice checkDeviceBy
 target-ready true ports m x b = λ e. refl
 target-ready false ports m x b =
@@ -92,8 +79,8 @@ spend-all d s m P over go =
     if-by
     (λ (x : Spent).
     P (elim x [
-      | spent.Refused r ↦ after (startRefused s r) m
-      | spent.Next next ↦ begun next d s m
+      | Spent.Refused r ↦ after (startRefused s r) m
+      | Spent.Next next ↦ begun next d s m
     ]))
     _ _ _ (λ y. over) (λ y. go (s .«next_sequence» + 1) (omega arith))
 
@@ -109,8 +96,8 @@ module _ (d : Draft) (s : Session) (m : Memory) (P : After Started Lent → Type
       seen = checkTarget (isInitialized (s .state)) (s .ports) (d .metadata) x b
 
       by-verdict : (v : Verdict) → seen .result ≡ v → P (targetBy v d s (lent (seen .lent) m))
-      by-verdict (verdict.Refused r) e = no r _
-      by-verdict verdict.Pass e =
+      by-verdict (Verdict.Refused r) e = no r _
+      by-verdict Verdict.Pass e =
           let ready = target-ready (isInitialized (s .state)) (s .ports) (d .metadata) x b e in
           spend-all d s m (λ o. P (withBus (seen .lent) o)) (no (refusalOf 39) _) (λ next later. go ready next later _)
 
@@ -120,62 +107,29 @@ pub record Room (rows : List Row) (i : ℕ) : Type 0 where
   pub free : rowIn rows i .used ≡ false
   pub few : count isHeld rows < 128
 
-room-told : (rows : List Row) (i : ℕ) → roomIn rows ≡ found.At i → Room rows i
+pub room-told : (rows : List Row) (i : ℕ) → roomIn rows ≡ Found.At i → Room rows i
 unfolding roomIn
 room-told rows i =
-    if-by (λ (f : Found). f ≡ found.At i → Room rows i) _ _ _ (λ y e. let z : _≡_ {A = ℕ} 0 1 = cc in absurd (omega arith))
+    if-by (λ (f : Found). f ≡ Found.At i → Room rows i) _ _ _ (λ y e. let z : _≡_ {A = ℕ} 0 1 = cc in absurd (omega arith))
     (λ y e. let p = free-row rows (foundIn isFree rows) i refl e in record { below = p .0; free = p .1; few = leb-false 128 (count isHeld rows) y })
 
--- by an answer
-by-found : {A : Type 0} (f : Found) → (f ≡ found.Nothing → A) → ((i : ℕ) → f ≡ found.At i → A) → A
-by-found found.Nothing none go = none refl
-by-found (found.At i) none go = go i refl
-
-by-answer : {A : Type 0} (v : Verdict) → ((r : Refusal) → v ≡ verdict.Refused r → A) → (v ≡ verdict.Pass → A) → A
-by-answer (verdict.Refused r) stop go = stop r refl
-by-answer verdict.Pass stop go = go refl
-
-module _ (q : Request) (s : Session) (l : Lent) (P : After Submitted Lent → Type 0) (no : (x : Refusal) → x .number ≤ 25 → P (after (submitRefused s x) l))
+-- a request
+module _ (q : Request) (s : Session) (l : Lent) (P : After Submitted Lent → Type 0) (no : (x : Refusal) → isAmong (x .number) earlyNumbers ≡ true → P (after (submitRefused s x) l))
     (go : (i : ℕ) → Room (l .memory .store .rows) i → (q .spec .length ≤ s .size .«row_bytes») × (length (q .bytes) ≤ s .size .«row_bytes»)
     → P (submittedTo (targetOf (draft (placeOf (s .size) i) (metadataOf (q .spec)) (q .bytes)) (q .readings) s l) (metadataOf (q .spec)) (q .given))) where
-  by-prepared : (i : ℕ) → Room (l .memory .store .rows) i → P (preparedOf (placeOf (s .size) i) q s l)
-  unfolding prepare.prepared prepare.preparedIf preparedOf
-  by-prepared i room =
-      by-answer (specChecked (specFacts (q .spec) (length (q .bytes)) (s .size .«row_bytes»)))
-      (λ r e. rw (e, preparedOf) (no r (early-said _ (spec-early _) r e)))
-      (λ e.
-      let z : prepare.prepared (q .spec) (length (q .bytes)) (s .size .«row_bytes») ≡ prepared.Ready (metadataOf (q .spec)) = ap (λ (v : Verdict). prepare.preparedIf v (q .spec)) e in
-      rw (e, preparedOf) (go i room (ready-fits (q .spec) (length (q .bytes)) (s .size .«row_bytes») (metadataOf (q .spec)) z)))
-
-  by-room : P (roomOf q s l)
-  unfolding roomOf
-  by-room =
-      by-found (roomIn (l .memory .store .rows)) (λ e. rw (e, roomOf) (no (refusalOf 5) (omega arith)))
-      (λ i e. rw (e, roomOf) (by-prepared i (room-told _ i e)))
-
   pub submit-all : (packets : List ℕ) → P (submitOf packets q s l)
-  unfolding submitOf guarded packetsOf
+  unfolding submitOf submitBy submitTarget
   submit-all packets =
-      if-all P _ _ _ (no (refusalOf 1) (omega arith)) (if-all P _ _ _ (no (refusalOf 3) (omega arith))
-      (by-answer (packetsChecked (q .given) packets (q .spec .«transfer_type») (q .spec .length))
-      (λ r e. rw (e, packetsOf) (no r (early-said _ (packets-early _ _ _ _) r e))) (λ e. rw (e, packetsOf) by-room)))
+      admit-all (q .spec) (length (q .bytes)) s l (λ a. P (submitBy a q s l)) (λ r h. no r (early admitNumbers refl r h))
+      (λ fits i room k. go i (room-told _ i room) k) packets (q .given)
 
 -- a plan
 module _ (q : ControlPlan) (bytes : List ℕ) (first : PortReading) (s : Session) (l : Lent) (P : After PlanSubmitted Lent → Type 0)
-    (no : (x : Refusal) → x .number ≤ 25 → P (after (planRefused s x) l))
+    (no : (x : Refusal) → isAmong (x .number) earlyNumbers ≡ true → P (after (planRefused s x) l))
     (go : (i : ℕ) → Room (l .memory .store .rows) i → (planOf q .metadata .«requested_length» ≤ s .size .«row_bytes») × (length bytes ≤ s .size .«row_bytes»)
     → P (plannedTo (targetOf (draft (placeOf (s .size) i) (planOf q .metadata) bytes) (record { first = first; second = first }) s l) (planOf q))) where
-  by-planned : (i : ℕ) → Room (l .memory .store .rows) i → P (plannedOf (placeOf (s .size) i) q bytes first s l)
-  unfolding plan.planned plan.plannedIf plannedOf
-  by-planned i room =
-      by-answer (planChecked (planFacts q (length bytes) (s .size .«row_bytes»))) (λ r e. rw (e, plannedOf) (no r (early-said _ (plan-early _) r e)))
-      (λ e.
-      let z : plan.planned q (length bytes) (s .size .«row_bytes») ≡ planned.Ready (planOf q) = ap (λ (v : Verdict). plan.plannedIf v q) e in
-      rw (e, plannedOf) (go i room (planned-fits q (length bytes) (s .size .«row_bytes») (planOf q) z)))
-
   pub plan-all : P (submitPlanOf q bytes first s l)
-  unfolding submitPlanOf guarded planRoomOf
+  unfolding submitPlanOf submitPlanBy planTarget
   plan-all =
-      if-all P _ _ _ (no (refusalOf 1) (omega arith)) (if-all P _ _ _ (no (refusalOf 3) (omega arith))
-      (by-found (roomIn (l .memory .store .rows)) (λ e. rw (e, planRoomOf) (no (refusalOf 5) (omega arith)))
-      (λ i e. rw (e, planRoomOf) (by-planned i (room-told _ i e)))))
+      admit-plan-all q (length bytes) s l (λ a. P (submitPlanBy a bytes first s l)) (λ r h. no r (early admitPlanNumbers refl r h))
+      (λ fits i room k. go i (room-told _ i room) k)

@@ -8,15 +8,11 @@ use lib.ListN.{length, set, length-set}
 use lib.Seq.{getD-set-same}
 use Rattle.chain.specs.Lists.{count}
 use Rattle.chain.proofs.Lists.{sum-set}
-use Rattle.models.specs.declared.ControlPlan.{ControlPlan}
-use Rattle.models.specs.declared.ControllerState.{ControllerState}
+use Rattle.models.specs.declared.{ControlPlan.ControlPlan, ControllerState.ControllerState, PortReading.PortReading, RequestId.RequestId, RequestMetadata.RequestMetadata}
 use Rattle.models.specs.declared.ControllerState.the-variants.{Closed, AcquiredUnknown, Initialized, Closing, RecoveryRequired}
-use Rattle.models.specs.declared.PortReading.{PortReading}
-use Rattle.models.specs.declared.RequestId.{RequestId}
-use Rattle.models.specs.declared.RequestMetadata.{RequestMetadata}
 use Rattle.rows.specs.Store.{putIn, Store}
 use Rattle.rows.specs.Table.{emptyRow, isHeld, isUncertain, rowIn}
-use Rattle.rows.specs.declared.Row.{Row}
+use Rattle.rows.specs.declared.{Row.Row}
 use Rattle.rules.specs.Rules.{pendingRow}
 use Rattle.checks.specs.Plan.{planOf}
 use Rattle.checks.specs.Prepare.{metadataOf}
@@ -24,7 +20,7 @@ use Rattle.session.specs.Session.{isInitialized}
 use Rattle.session.specs.Session as session
 use Rattle.session.specs.Lent.{Lent}
 use Rattle.session.specs.Sizes.{placeOf}
-use Rattle.session.specs.declared.Session.{Session}
+use Rattle.session.specs.declared.{Session.Session}
 use Rattle.submissions.specs.Begin.{newId, draft}
 use Rattle.submissions.specs.Submit.{submittedBy, submittedTo, submitOf, Request}
 use Rattle.submissions.specs.Plan.{planStarted, plannedTo, submitPlanOf}

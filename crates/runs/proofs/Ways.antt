@@ -8,64 +8,50 @@ use lib.Dec.{eqb}
 use lib.ListN.{length}
 use Rattle.chain.specs.After.{After, after}
 use Rattle.chain.specs.Lists.{foundIn}
-use Rattle.chain.specs.declared.Found.{Found}
-use Rattle.chain.specs.declared.Found.the-variants as found
+use Rattle.chain.specs.declared.{Found.Found}
 use Rattle.chain.proofs.Chain.{if-by}
 use Rattle.models.specs.Refusals.{refusalOf, fromBackend}
 use Rattle.models.specs.Requests.{deviceMayAccess, isPending}
-use Rattle.models.specs.declared.OperationError.{OperationError}
-use Rattle.models.specs.declared.Refusal.{Refusal}
-use Rattle.models.specs.declared.RequestId.{RequestId}
+use Rattle.models.specs.declared.{OperationError.OperationError, Refusal.Refusal, RequestId.RequestId}
 use Rattle.rows.specs.Store.{Store}
 use Rattle.rows.specs.Table.{rowIn}
-use Rattle.rows.specs.declared.Row.{Row}
+use Rattle.rows.specs.declared.{Row.Row}
 use Rattle.ledger.specs.Apply.{applyBy, applyAt, applyOf}
 use Rattle.rules.specs.Rules.{reportOf, changeRow}
 use Rattle.ledger.specs.Search.{isAt}
-use Rattle.ledger.specs.declared.Applied.{Applied}
-use Rattle.ledger.specs.declared.Applied.the-variants as applied
-use Rattle.rules.specs.declared.Change.{Change}
+use Rattle.ledger.specs.declared.{Applied.Applied}
+use Rattle.rules.specs.declared.{Change.Change}
 use Rattle.ledger.proofs.Found.{found-row}
 use Rattle.session.specs.Session.{isBusy, isInitialized, mayRecover, withFlight, marked}
 use Rattle.session.specs.Lent.{Memory}
 use Rattle.session.specs.Sizes.{placeOf}
 use Rattle.session.specs.Start.{guarded}
-use Rattle.session.specs.declared.InFlight.{InFlight}
-use Rattle.session.specs.declared.InFlight.the-variants as flight
-use Rattle.session.specs.declared.Recovery.{Recovery}
-use Rattle.session.specs.declared.RecoveryKind.{RecoveryKind}
-use Rattle.session.specs.declared.Session.{Session}
+use Rattle.session.specs.declared.{InFlight.InFlight, Recovery.Recovery, RecoveryKind.RecoveryKind, Session.Session}
 use Rattle.reports.specs.Answers.{reportRefused}
 use Rattle.reports.specs.Change.{reportedBy, changeOf}
-use Rattle.reports.specs.declared.Reported.{Reported}
+use Rattle.reports.specs.declared.{Reported.Reported}
 use Rattle.polls.specs.Poll.{pollRefused, pollRow, pollBy, pollOf}
 use Rattle.polls.specs.PollReply.{pollReplyAt, pollReplyBy, pollReplyFound, pollReplyIn, pollReplyOf}
-use Rattle.polls.specs.declared.Polled.{Polled}
-use Rattle.polls.specs.declared.PollAnswer.the-variants as poll
-use Rattle.polls.specs.declared.PollReply.{PollReply}
+use Rattle.polls.specs.declared.{PollAnswer.PollAnswer, PollReply.PollReply, Polled.Polled}
 use Rattle.submissions.specs.SubmitReply.{submitReplyBy, submitReplyIn, submitReplyOf}
-use Rattle.submissions.specs.declared.SubmitReply.{SubmitReply}
+use Rattle.submissions.specs.declared.{SubmitReply.SubmitReply}
 use Rattle.scope.specs.Scope.{inScope}
 use Rattle.recovery.specs.Recover.{beginRefused, recoveryOf, begunAs, beginRow, recoverBy, recoverOf}
 use Rattle.recovery.specs.RecoveryReply.{ReplyLists, rowsMeant, recoveryRefused, ended, isWhole, settledOf, doneOf, replyBy, replySized, replyIn, recoveryReplyOf}
-use Rattle.recovery.specs.declared.Begun.{Begun}
-use Rattle.recovery.specs.declared.Outcome.{Outcome}
-use Rattle.recovery.specs.declared.Recovered.{Recovered}
-use Rattle.recovery.specs.declared.RecoveryReply.{RecoveryReply}
-use Rattle.recovery.specs.declared.RecoveryReply.the-variants as reply
+use Rattle.recovery.specs.declared.{Begun.Begun, Outcome.Outcome, Recovered.Recovered, RecoveryReply.RecoveryReply}
 use Rattle.runs.proofs.Affected.{ownTokens, placeMeant}
 
 -- the row of an id, or none
-module _ (id : RequestId) (rows : List Row) (P : Found → Type 0) (no : P found.Nothing)
-    (go : (i : ℕ) → i < length rows → isAt id (rowIn rows i) ≡ true → P (found.At i)) where
+module _ (id : RequestId) (rows : List Row) (P : Found → Type 0) (no : P Found.Nothing)
+    (go : (i : ℕ) → i < length rows → isAt id (rowIn rows i) ≡ true → P (Found.At i)) where
   by-found : (f : Found) → f ≡ foundIn (isAt id) rows → P f
-  by-found found.Nothing e = no
-  by-found (found.At i) e = let p = found-row id rows (found.At i) i e refl in go i (p .0) (p .1)
+  by-found Found.Nothing e = no
+  by-found (Found.At i) e = let p = found-row id rows (Found.At i) i e refl in go i (p .0) (p .1)
 
   pub found-all : P (foundIn (isAt id) rows)
   found-all = by-found (foundIn (isAt id) rows) refl
 
-pub apply-all : (id : RequestId) (c : Change) (store : Store) (P : After Applied Store → Type 0) → P (after (applied.Refused (refusalOf 40)) store)
+pub apply-all : (id : RequestId) (c : Change) (store : Store) (P : After Applied Store → Type 0) → P (after (Applied.Refused (refusalOf 40)) store)
     → ((i : ℕ) → i < length (store .rows) → isAt id (rowIn (store .rows) i) ≡ true → P (applyBy (changeRow (rowIn (store .rows) i) c) i store))
     → P (applyOf id c store)
 unfolding applyOf applyAt
@@ -83,9 +69,9 @@ module _ (id : RequestId) (c : Change) (s : Session) (store : Store) (P : After 
       (λ e. apply-all id c store (λ (a : After Applied Store). P (after (reportedBy (a .result) s) (a .lent))) (no (refusalOf 40)) (λ i h u. go idle i h u)))
 
 module _ (id : RequestId) (s : Session) (store : Store) (P : Polled → Type 0) (no : (x : Refusal) → P (pollRefused s x))
-    (tell : (i : ℕ) → P (record { answer = poll.Report (reportOf (rowIn (store .rows) i)); session = s }))
+    (tell : (i : ℕ) → P (record { answer = PollAnswer.Report (reportOf (rowIn (store .rows) i)); session = s }))
     (go : (i : ℕ) → i < length (store .rows) → isAt id (rowIn (store .rows) i) ≡ true → isPending (rowIn (store .rows) i .state) ≡ true → isInitialized (s .state) ≡ true
-    → P (record { answer = poll.Asked (rowIn (store .rows) i .token); session = withFlight s (flight.Poll id) })) where
+    → P (record { answer = PollAnswer.Asked (rowIn (store .rows) i .token); session = withFlight s (InFlight.Poll id) })) where
   pub poll-all : P (pollOf id s store)
   unfolding pollOf guarded pollBy pollRow
   poll-all =
@@ -113,51 +99,51 @@ module _ (id : RequestId) (q : RecoveryKind) (s : Session) (store : Store) (P : 
 -- the reply to a submission
 module _ (x : SubmitReply) (s : Session) (store : Store) (P : After Reported Store → Type 0)
     (two : P (after (reportRefused s (refusalOf 2)) store)) (three : P (after (reportRefused s (refusalOf 3)) store))
-    (go : (id : RequestId) → s .«in_flight» ≡ flight.Submission id → P (submitReplyBy x id s store)) where
+    (go : (id : RequestId) → s .«in_flight» ≡ InFlight.Submission id → P (submitReplyBy x id s store)) where
   pub reply-all : P (submitReplyOf x s store)
   unfolding submitReplyOf submitReplyIn
   reply-all = by-flight (s .«in_flight») refl
     where
       by-flight : (f : InFlight) → s .«in_flight» ≡ f → P (submitReplyIn f x s store)
-      by-flight flight.Nothing e = two
-      by-flight (flight.Poll id) e = two
-      by-flight (flight.Recovery y) e = two
-      by-flight (flight.Submission id) e = if-by P _ _ _ (λ y. three) (λ y. go id e)
+      by-flight InFlight.Nothing e = two
+      by-flight (InFlight.Poll id) e = two
+      by-flight (InFlight.Recovery y) e = two
+      by-flight (InFlight.Submission id) e = if-by P _ _ _ (λ y. three) (λ y. go id e)
 
 -- the reply to a poll
 module _ (x : PollReply) (bytes : List ℕ) (s : Session) (m : Memory) (P : After Reported Memory → Type 0)
     (two : P (after (reportRefused s (refusalOf 2)) m)) (three : P (after (reportRefused s (refusalOf 3)) m))
-    (go : (id : RequestId) → s .«in_flight» ≡ flight.Poll id → (i : ℕ) → i < length (m .store .rows) → isAt id (rowIn (m .store .rows) i) ≡ true
-    → P (pollReplyAt x (rowIn (m .store .rows) i) (placeOf (s .size) i) bytes (withFlight s flight.Nothing) m)) where
+    (go : (id : RequestId) → s .«in_flight» ≡ InFlight.Poll id → (i : ℕ) → i < length (m .store .rows) → isAt id (rowIn (m .store .rows) i) ≡ true
+    → P (pollReplyAt x (rowIn (m .store .rows) i) (placeOf (s .size) i) bytes (withFlight s InFlight.Nothing) m)) where
   pub finish-all : P (pollReplyOf x bytes s m)
   unfolding pollReplyOf pollReplyIn pollReplyFound pollReplyBy
   finish-all = by-flight (s .«in_flight») refl
     where
       by-flight : (f : InFlight) → s .«in_flight» ≡ f → P (pollReplyIn f x bytes s m)
-      by-flight flight.Nothing e = two
-      by-flight (flight.Submission id) e = two
-      by-flight (flight.Recovery y) e = two
-      by-flight (flight.Poll id) e =
+      by-flight InFlight.Nothing e = two
+      by-flight (InFlight.Submission id) e = two
+      by-flight (InFlight.Recovery y) e = two
+      by-flight (InFlight.Poll id) e =
           if-by P _ _ _ (λ y. three) (λ y. found-all id (m .store .rows) (λ (f : Found). P (pollReplyBy f x bytes s m)) two (λ i h u. go id e i h u))
 
 -- the reply to a recovery
 module _ (l : ReplyLists) (s : Session) (m : Memory) (P : After Recovered Memory → Type 0)
     (two : P (after (recoveryRefused s (refusalOf 2)) m)) (three : P (after (recoveryRefused s (refusalOf 3)) m))
     (lists : P (after (recoveryRefused s (refusalOf 49)) m))
-    (failed : (e : OperationError) → P (after (recoveryRefused (marked (withFlight s flight.Nothing)) (fromBackend 45 e)) m))
-    (unscoped : P (after (recoveryRefused (marked (withFlight s flight.Nothing)) (refusalOf 46)) m))
-    (go : (x : Recovery) → s .«in_flight» ≡ flight.Recovery x → (o : Outcome) → inScope (isWhole o) (ownTokens (x .device) (x .endpoint) (m .store .rows)) (l .tokens ++ l .aborted) ≡ true
-    → P (settledOf (ended (withFlight s flight.Nothing) x o) (rowsMeant (placeMeant (x .device) (x .endpoint) (m .store .rows)) l) m)) where
+    (failed : (e : OperationError) → P (after (recoveryRefused (marked (withFlight s InFlight.Nothing)) (fromBackend 45 e)) m))
+    (unscoped : P (after (recoveryRefused (marked (withFlight s InFlight.Nothing)) (refusalOf 46)) m))
+    (go : (x : Recovery) → s .«in_flight» ≡ InFlight.Recovery x → (o : Outcome) → inScope (isWhole o) (ownTokens (x .device) (x .endpoint) (m .store .rows)) (l .tokens ++ l .aborted) ≡ true
+    → P (settledOf (ended (withFlight s InFlight.Nothing) x o) (rowsMeant (placeMeant (x .device) (x .endpoint) (m .store .rows)) l) m)) where
   pub recovery-all : (r : RecoveryReply) → P (recoveryReplyOf r l s m)
   unfolding recoveryReplyOf replyIn replySized replyBy doneOf
   recovery-all r = by-flight (s .«in_flight») refl
     where
-      by-reply : (x : Recovery) → s .«in_flight» ≡ flight.Recovery x → (r : RecoveryReply) → P (replyBy r x l (withFlight s flight.Nothing) m)
-      by-reply x own (reply.Error e) = failed e
-      by-reply x own (reply.Done o) = if-by P _ _ _ (λ y. unscoped) (λ y. go x own o (not-false _ y))
+      by-reply : (x : Recovery) → s .«in_flight» ≡ InFlight.Recovery x → (r : RecoveryReply) → P (replyBy r x l (withFlight s InFlight.Nothing) m)
+      by-reply x own (RecoveryReply.Error e) = failed e
+      by-reply x own (RecoveryReply.Done o) = if-by P _ _ _ (λ y. unscoped) (λ y. go x own o (not-false _ y))
 
       by-flight : (f : InFlight) → s .«in_flight» ≡ f → P (replyIn f r l s m)
-      by-flight flight.Nothing e = two
-      by-flight (flight.Submission id) e = two
-      by-flight (flight.Poll id) e = two
-      by-flight (flight.Recovery x) e = if-by P _ _ _ (λ y. three) (λ y. if-by P _ _ _ (λ z. lists) (λ z. by-reply x e r))
+      by-flight InFlight.Nothing e = two
+      by-flight (InFlight.Submission id) e = two
+      by-flight (InFlight.Poll id) e = two
+      by-flight (InFlight.Recovery x) e = if-by P _ _ _ (λ y. three) (λ y. if-by P _ _ _ (λ z. lists) (λ z. by-reply x e r))

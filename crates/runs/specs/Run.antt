@@ -5,16 +5,13 @@ use mathlib.Core.Path.{_≡_}
 use mathlib.Core.List.{List, [], _∷_}
 use Rattle.chain.specs.After.{After}
 use Rattle.chain.specs.Lists.{isAmong}
-use Rattle.words.specs.declared.OptionU64.{OptionU64}
-use Rattle.words.specs.declared.OptionU64.the-variants as u64
+use Rattle.words.specs.declared.{OptionU64.OptionU64}
 use Rattle.models.specs.Refusals.{refusalOf}
 use Rattle.bus.specs.Tables.{Bus}
 use Rattle.session.specs.Lent.{Lent, memory, lent}
 use Rattle.calls.specs.Calls.{Call, Open, Place, Move, Acquire, Initialize, Close, Begin, Reply, Change, Read}
 use Rattle.calls.specs.Step.{World, world, worldStore, stepOf}
-use Rattle.calls.specs.declared.Answer.{Answer}
-use Rattle.calls.specs.declared.Answer.the-variants as answer
-use Rattle.calls.specs.declared.Outcome.{Outcome}
+use Rattle.calls.specs.declared.{Answer.Answer, Outcome.Outcome}
 
 -- what a call is handed: the session and the slices that the calls before it left; the session and the rows, with any bus and area;
 -- or any others
@@ -94,7 +91,7 @@ isOpening (Read r) = false
 abbrev pub HandingBy : Stepping → Handed → Call → Type 0
 HandingBy step own c = isOpening c ≡ false
 HandingBy step (rowsOnly bus area) c = isOpening c ≡ false
-HandingBy step (other v) c = step c v .result .answer ≡ answer.Refused (refusalOf 3)
+HandingBy step (other v) c = step c v .result .answer ≡ Answer.Refused (refusalOf 3)
 
 abbrev pub FollowsBy : Stepping → List Event → Type 0
 FollowsBy step [] = Unit {0}
@@ -108,23 +105,23 @@ Follows es = FollowsBy stepOf es
 
 -- the session number that a call hands over
 abbrev pub numberOf : Call → OptionU64
-numberOf (Open o) = u64.Some (o .session)
-numberOf (Place p) = u64.None
-numberOf (Move (Acquire reply)) = u64.None
-numberOf (Move (Initialize reply)) = u64.None
+numberOf (Open o) = OptionU64.Some (o .session)
+numberOf (Place p) = OptionU64.None
+numberOf (Move (Acquire reply)) = OptionU64.None
+numberOf (Move (Initialize reply)) = OptionU64.None
 numberOf (Move (Close fresh reply)) = fresh
-numberOf (Begin b) = u64.None
-numberOf (Reply r) = u64.None
-numberOf (Change id c) = u64.None
-numberOf (Read r) = u64.None
+numberOf (Begin b) = OptionU64.None
+numberOf (Reply r) = OptionU64.None
+numberOf (Change id c) = OptionU64.None
+numberOf (Read r) = OptionU64.None
 
 abbrev pub isNew : OptionU64 → List ℕ → Bool
-isNew u64.None seen = true
-isNew (u64.Some n) seen = not (isAmong n seen)
+isNew OptionU64.None seen = true
+isNew (OptionU64.Some n) seen = not (isAmong n seen)
 
 abbrev pub noted : OptionU64 → List ℕ → List ℕ
-noted u64.None seen = seen
-noted (u64.Some n) seen = n ∷ seen
+noted OptionU64.None seen = seen
+noted (OptionU64.Some n) seen = n ∷ seen
 
 -- no session number is handed twice, to the opening or to a close, whatever the call is handed beside it
 abbrev pub Fresh : List ℕ → List Event → Type 0

@@ -7,12 +7,9 @@ use lib.ListN.{length, getD}
 use Rattle.chain.specs.Lists.{sumBy}
 use Rattle.words.specs.Records.{tab, part}
 use Rattle.words.specs.Words.{readFlag, readOptionU32, readOptionU64}
-use Rattle.models.specs.declared.BackendCompletion.{BackendCompletion}
-use Rattle.models.specs.declared.OperationError.{OperationError}
-use Rattle.models.specs.declared.OptionError.{OptionError}
-use Rattle.models.specs.declared.OptionError.the-variants as error
+use Rattle.models.specs.declared.{BackendCompletion.BackendCompletion, OperationError.OperationError, OptionError.OptionError}
 use Rattle.rows.specs.Codec.{readErrorWords}
-use Rattle.scope.specs.declared.returned.Brought.{Brought}
+use Rattle.scope.specs.declared.{returned.Brought.Brought}
 
 -- a completion's words: error (a flag, then category, message, system number, code), length (a flag and the number), code, whether it
 -- brings data, whether it is quiescent, and how many bytes of the data area are its own
@@ -25,7 +22,7 @@ readError w at = readErrorWords (getD w at 0) (getD w (at + 1) 0) (getD w (at + 
 
 -- an optional one, five: a flag, and the error
 abbrev pub readOptionError : List ℕ → ℕ → OptionError
-readOptionError w at = cond (eqb (getD w at 0) 0) error.None (error.Some (readError w (at + 1)))
+readOptionError w at = cond (eqb (getD w at 0) 0) OptionError.None (OptionError.Some (readError w (at + 1)))
 
 -- what the first ten words say
 abbrev pub readCompletion : List ℕ → BackendCompletion

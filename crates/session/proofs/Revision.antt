@@ -4,29 +4,28 @@ use mathlib.Core.Bool.{Bool, true, false}
 use mathlib.Core.Path.{_≡_, refl, sym, _∙_}
 use borrow.Author.Tests.{ne-eqb}
 use Rattle.chain.proofs.Chain.{takes, passes, through}
-use Rattle.words.specs.declared.OptionU64.{OptionU64}
-use Rattle.words.specs.declared.OptionU64.the-variants as u64
+use Rattle.words.specs.declared.{OptionU64.OptionU64}
 use Rattle.models.specs.declared.ControllerState.the-variants.{RecoveryRequired}
 use Rattle.session.specs.Session.{isClosed, raised, withController, marked}
-use Rattle.session.specs.declared.Session.{Session}
+use Rattle.session.specs.declared.{Session.Session}
 
 -- none stays none, and past the greatest number there is none
-pub raised-none : raised u64.None ≡ u64.None
+pub raised-none : raised OptionU64.None ≡ OptionU64.None
 unfolding raised
 raised-none = refl
 
-pub raised-full : raised (u64.Some (2 ^ 64 - 1)) ≡ u64.None
+pub raised-full : raised (OptionU64.Some (2 ^ 64 - 1)) ≡ OptionU64.None
 unfolding raised
 raised-full = sym (takes OptionU64 _ _ _ _ refl refl)
 
 module _ (o : OptionU64) where
-  pub raise-none : o ≡ u64.None → u64.None ≡ raised o
+  pub raise-none : o ≡ OptionU64.None → OptionU64.None ≡ raised o
   raise-none e = rw e (sym raised-none)
 
-  pub raise-full : (n : ℕ) → o ≡ u64.Some n → n ≡ 18446744073709551615 → u64.None ≡ raised o
+  pub raise-full : (n : ℕ) → o ≡ OptionU64.Some n → n ≡ 18446744073709551615 → OptionU64.None ≡ raised o
   raise-full n e f = rw (e, f) (sym raised-full)
 
-  pub raise-on : (n : ℕ) → o ≡ u64.Some n → (n ≡ 18446744073709551615 → ⊥) → u64.Some (n + 1) ≡ raised o
+  pub raise-on : (n : ℕ) → o ≡ OptionU64.Some n → (n ≡ 18446744073709551615 → ⊥) → OptionU64.Some (n + 1) ≡ raised o
   unfolding raised
   raise-on n e f = rw e (passes OptionU64 _ _ _ _ (ne-eqb _ _ f) refl)
 

@@ -6,32 +6,22 @@ use mathlib.Core.Path.{_≡_, refl}
 use Rattle.chain.specs.After.{After, after}
 use Rattle.chain.specs.Lists.{isAmong}
 use Rattle.chain.proofs.Chain.{if-all}
-use Rattle.words.specs.declared.OptionU64.{OptionU64}
-use Rattle.words.specs.declared.OptionU64.the-variants as u64
+use Rattle.words.specs.declared.{OptionU64.OptionU64}
 use Rattle.models.specs.Refusals.{refusalOf}
 use Rattle.models.specs.Said.{Tabled, verdictSaid}
-use Rattle.models.specs.declared.DeviceSnapshot.{DeviceSnapshot}
-use Rattle.models.specs.declared.OptionError.{OptionError}
-use Rattle.models.specs.declared.OptionError.the-variants as error
-use Rattle.models.specs.declared.Refusal.{Refusal}
-use Rattle.models.specs.declared.Verdict.{Verdict}
+use Rattle.models.specs.declared.{DeviceSnapshot.DeviceSnapshot, OptionError.OptionError, Refusal.Refusal, Verdict.Verdict}
 use Rattle.models.proofs.Said.{tabled-says, tabled-own, tabled-backend, tabled-in, said-of}
 use Rattle.rows.specs.Store.{Store}
 use Rattle.bus.specs.Said.{placedPortNumbers, placedListNumbers}
 use Rattle.bus.specs.Tables.{Bus}
-use Rattle.bus.specs.declared.PortRow.{PortRow}
+use Rattle.bus.specs.declared.{PortRow.PortRow}
 use Rattle.bus.proofs.Said.{set-port-tabled, set-endpoints-tabled}
 use Rattle.session.specs.Lent.{Lent}
 use Rattle.session.specs.Lifecycle.{openOf, acquiredBy, acquireOf, initializedBy, initializeOf, closedBy, freshBy, closeOf}
 use Rattle.session.specs.Place.{placed, setDeviceOf, setPortOf, setEndpointsOf, setReconcileOf}
 use Rattle.session.specs.Said.{openedSaid, openNumbers, placeNumbers, setPortNumbers, setEndpointsNumbers, acquireNumbers, initializeNumbers, closeNumbers}
 use Rattle.session.specs.Start.{guarded}
-use Rattle.session.specs.declared.Called.{Called}
-use Rattle.session.specs.declared.Session.{Session}
-use Rattle.session.specs.declared.lifecycle.AcquireReply.{AcquireReply}
-use Rattle.session.specs.declared.lifecycle.AcquireReply.the-variants as acquire
-use Rattle.session.specs.declared.lifecycle.Opened.{Opened}
-use Rattle.session.specs.declared.lifecycle.Opening.{Opening}
+use Rattle.session.specs.declared.{Called.Called, Session.Session, lifecycle.AcquireReply.AcquireReply, lifecycle.Opened.Opened, lifecycle.Opening.Opening}
 
 -- what holds of both refusals of the start, and of what the call does
 pub guarded-all : {A : Type 0} (P : A → Type 0) (s : Session) (fits : Bool) (stop : Refusal → A) (done : A) → P (stop (refusalOf 1)) → P (stop (refusalOf 3)) → P done
@@ -57,13 +47,13 @@ Moves ns x = Tabled ns (verdictSaid (x .answer))
 
 acquired-by : (reply : AcquireReply) (s : Session) → Moves acquireNumbers (acquiredBy reply s)
 unfolding acquiredBy
-acquired-by acquire.Acquired s = tabled-says _ _
-acquired-by (acquire.Failed e retained) s = if-all (Moves acquireNumbers) _ _ _ (tabled-backend _ 45 e refl refl) (tabled-backend _ 45 e refl refl)
+acquired-by AcquireReply.Acquired s = tabled-says _ _
+acquired-by (AcquireReply.Failed e retained) s = if-all (Moves acquireNumbers) _ _ _ (tabled-backend _ 45 e refl refl) (tabled-backend _ 45 e refl refl)
 
 initialized-by : (reply : OptionError) (s : Session) → Moves initializeNumbers (initializedBy reply s)
 unfolding initializedBy
-initialized-by error.None s = tabled-says _ _
-initialized-by (error.Some e) s = tabled-backend _ 45 e refl refl
+initialized-by OptionError.None s = tabled-says _ _
+initialized-by (OptionError.Some e) s = tabled-backend _ 45 e refl refl
 
 module _ (reply : AcquireReply) (s : Session) where
   pub acquire-tabled : Tabled acquireNumbers (verdictSaid (acquireOf reply s .answer))
@@ -88,13 +78,13 @@ Closes o = Moves closeNumbers (o .result)
 
 closed-by : (reply : OptionError) (fresh : ℕ) (s : Session) (store : Store) → Closes (closedBy reply fresh s store)
 unfolding closedBy
-closed-by (error.Some e) fresh s store = tabled-backend _ 45 e refl refl
-closed-by error.None fresh s store = tabled-says _ _
+closed-by (OptionError.Some e) fresh s store = tabled-backend _ 45 e refl refl
+closed-by OptionError.None fresh s store = tabled-says _ _
 
 fresh-by : (fresh : OptionU64) (reply : OptionError) (s : Session) (store : Store) → Closes (freshBy fresh reply s store)
 unfolding freshBy
-fresh-by u64.None reply s store = tabled-own _ 52 refl
-fresh-by (u64.Some fresh) reply s store = closed-by reply fresh s store
+fresh-by OptionU64.None reply s store = tabled-own _ 52 refl
+fresh-by (OptionU64.Some fresh) reply s store = closed-by reply fresh s store
 
 module _ (fresh : OptionU64) (reply : OptionError) (s : Session) (store : Store) where
   pub close-tabled : Tabled closeNumbers (verdictSaid (closeOf fresh reply s store .result .answer))

@@ -7,10 +7,10 @@ use denote.Ref.{RefT, now}
 use denote.Triple.Both.{Both}
 use Rattle.rows.specs.Table.{readRows}
 use Rattle.rows.specs.Store.{Store, storeOf}
-use Rattle.rows.specs.declared.Row.{Row}
+use Rattle.rows.specs.declared.{Row.Row}
 use Rattle.bus.specs.Tables.{Bus, busOf}
 use Rattle.session.specs.Sizes.{rowsFit, busFits, memorySizes, lentSizes}
-use Rattle.session.specs.declared.Size.{Size}
+use Rattle.session.specs.declared.{Size.Size}
 
 -- the rows and their bytes
 pub record Memory : Type 0 where

@@ -3,41 +3,26 @@ use Prim.Native.Nat.{ℕ}
 use mathlib.Core.Bool.{not, cond}
 use Rattle.chain.specs.Chain.{_if_else_}
 use Rattle.chain.specs.After.{After, after}
-use Rattle.words.specs.declared.OptionU64.{OptionU64}
-use Rattle.words.specs.declared.OptionU64.the-variants as u64
+use Rattle.words.specs.declared.{OptionU64.OptionU64}
 use Rattle.models.specs.Refusals.{refusalOf, fromBackend}
 use Rattle.models.specs.declared.ControllerState.the-variants.{Closed, AcquiredUnknown, Initialized, RecoveryRequired}
-use Rattle.models.specs.declared.OperationError.{OperationError}
-use Rattle.models.specs.declared.OptionError.{OptionError}
-use Rattle.models.specs.declared.OptionError.the-variants as error
-use Rattle.models.specs.declared.OptionPorts.{OptionPorts}
-use Rattle.models.specs.declared.OptionPorts.the-variants as ports
-use Rattle.models.specs.declared.Refusal.{Refusal}
-use Rattle.models.specs.declared.Verdict.the-variants as verdict
+use Rattle.models.specs.declared.{OperationError.OperationError, OptionError.OptionError, OptionPorts.OptionPorts, Refusal.Refusal, Verdict.Verdict}
 use Rattle.rows.specs.Store.{Store, emptied}
 use Rattle.bus.specs.Tables.{cleared}
 use Rattle.session.specs.Session.{isClosed, isAcquired, isBusy, raised, withController, marked}
 use Rattle.session.specs.Lent.{Lent, memory, lent, storeFits, lentFits}
 use Rattle.session.specs.Start.{guarded}
-use Rattle.session.specs.declared.Called.{Called}
-use Rattle.session.specs.declared.Session.{Session}
-use Rattle.session.specs.declared.OptionStall.the-variants as stall
-use Rattle.session.specs.declared.InFlight.the-variants as flight
-use Rattle.session.specs.declared.lifecycle.Opening.{Opening}
-use Rattle.session.specs.declared.lifecycle.Opened.{Opened}
-use Rattle.session.specs.declared.lifecycle.Opened.the-variants as opened
-use Rattle.session.specs.declared.lifecycle.AcquireReply.{AcquireReply}
-use Rattle.session.specs.declared.lifecycle.AcquireReply.the-variants as acquire
+use Rattle.session.specs.declared.{Called.Called, InFlight.InFlight, OptionStall.OptionStall, Session.Session, lifecycle.AcquireReply.AcquireReply, lifecycle.Opened.Opened, lifecycle.Opening.Opening}
 
 abbrev pub callRefused : Session → Refusal → Called
-callRefused s r = record { answer = verdict.Refused r; session = s }
+callRefused s r = record { answer = Verdict.Refused r; session = s }
 
 abbrev pub passed : Session → Called
-passed s = record { answer = verdict.Pass; session = s }
+passed s = record { answer = Verdict.Pass; session = s }
 
 -- port ids carry the opening's session number
 abbrev pub portsOf : Opening → OptionPorts
-portsOf o = cond (o .«has_ports») (ports.Some (record { session = o .session; count = o .«port_count» })) ports.None
+portsOf o = cond (o .«has_ports») (OptionPorts.Some (record { session = o .session; count = o .«port_count» })) OptionPorts.None
 
 abbrev pub newSession : Opening → Session
 newSession o = record {
@@ -47,21 +32,21 @@ newSession o = record {
   ports = portsOf o;
   state = Closed;
   «recovery_revision» = o .«recovery_revision»;
-  «recoverable_stall» = stall.None;
-  «in_flight» = flight.Nothing;
+  «recoverable_stall» = OptionStall.None;
+  «in_flight» = InFlight.Nothing;
   size = o .size;
 }
 
 -- 3: a size is wrong; else every row free and the bus as at opening, whatever they held
 unfoldable pub openOf : Opening → Lent → After Opened Lent
 openOf o l =
-    after (opened.Refused (refusalOf 3)) l if not (lentFits (o .size) l) else
-    after (opened.Open (newSession o)) (lent cleared (memory (emptied (l .memory .store)) (l .memory .area)))
+    after (Opened.Refused (refusalOf 3)) l if not (lentFits (o .size) l) else
+    after (Opened.Open (newSession o)) (lent cleared (memory (emptied (l .memory .store)) (l .memory .area)))
 
 -- a failed acquire stays Closed unless the reply says retained: then RecoveryRequired, revision raised
 unfoldable pub acquiredBy : AcquireReply → Session → Called
-acquiredBy acquire.Acquired s = passed (withController s AcquiredUnknown (s .«recovery_revision»))
-acquiredBy (acquire.Failed e retained) s =
+acquiredBy AcquireReply.Acquired s = passed (withController s AcquiredUnknown (s .«recovery_revision»))
+acquiredBy (AcquireReply.Failed e retained) s =
     callRefused (withController s RecoveryRequired (raised (s .«recovery_revision»))) (fromBackend 45 e) if retained else
     callRefused s (fromBackend 45 e)
 
@@ -73,8 +58,8 @@ acquireOf reply s =
 
 -- a failed initialise marks
 unfoldable pub initializedBy : OptionError → Session → Called
-initializedBy error.None s = passed (withController s Initialized (s .«recovery_revision»))
-initializedBy (error.Some e) s = callRefused (marked s) (fromBackend 45 e)
+initializedBy OptionError.None s = passed (withController s Initialized (s .«recovery_revision»))
+initializedBy (OptionError.Some e) s = callRefused (marked s) (fromBackend 45 e)
 
 unfoldable pub initializeOf : OptionError → Session → Called
 initializeOf reply s =
@@ -92,19 +77,19 @@ closedSession s fresh = record {
   state = Closed;
   «recovery_revision» = s .«recovery_revision»;
   «recoverable_stall» = s .«recoverable_stall»;
-  «in_flight» = flight.Nothing;
+  «in_flight» = InFlight.Nothing;
   size = s .size;
 }
 
 -- a backend error leaves a recovery mark
 unfoldable pub closedBy : OptionError → ℕ → Session → Store → After Called Store
-closedBy (error.Some e) fresh s store = after (callRefused (marked s) (fromBackend 45 e)) store
-closedBy error.None fresh s store = after (passed (closedSession s fresh)) (emptied store)
+closedBy (OptionError.Some e) fresh s store = after (callRefused (marked s) (fromBackend 45 e)) store
+closedBy OptionError.None fresh s store = after (passed (closedSession s fresh)) (emptied store)
 
 -- no fresh number is 52
 unfoldable pub freshBy : OptionU64 → OptionError → Session → Store → After Called Store
-freshBy u64.None reply s store = after (callRefused s (refusalOf 52)) store
-freshBy (u64.Some fresh) reply s store = closedBy reply fresh s store
+freshBy OptionU64.None reply s store = after (callRefused s (refusalOf 52)) store
+freshBy (OptionU64.Some fresh) reply s store = closedBy reply fresh s store
 
 -- 1, 3; Closed succeeds unchanged
 unfoldable pub closeOf : OptionU64 → OptionError → Session → Store → After Called Store

@@ -4,20 +4,17 @@ use Prim.Native.Nat.{ℕ, _+_}
 use mathlib.Core.List.{List, [], _∷_}
 use Rattle.words.specs.Words.{flagWord}
 use Rattle.models.specs.Said.{Said, says, refused}
-use Rattle.session.specs.declared.RecoveryKind.{RecoveryKind}
-use Rattle.session.specs.declared.RecoveryKind.the-variants as kind
-use Rattle.session.specs.declared.lifecycle.Opened.{Opened}
-use Rattle.session.specs.declared.lifecycle.Opened.the-variants as opened
+use Rattle.session.specs.declared.{RecoveryKind.RecoveryKind, lifecycle.Opened.Opened}
 
 -- an opening that passes has no value: the session comes out as it does of every call
 abbrev pub openedSaid : Opened → Said
-openedSaid (opened.Refused r) = refused r
-openedSaid (opened.Open s) = says []
+openedSaid (Opened.Refused r) = refused r
+openedSaid (Opened.Open s) = says []
 
 -- 0 abort, 1 reset, 2 a reset that preserves the data toggle
 abbrev pub recoveryWord : RecoveryKind → ℕ
-recoveryWord kind.Abort = 0
-recoveryWord (kind.Reset preserve) = 1 + flagWord preserve
+recoveryWord RecoveryKind.Abort = 0
+recoveryWord (RecoveryKind.Reset preserve) = 1 + flagWord preserve
 
 abbrev pub openNumbers : List ℕ
 openNumbers = 3 ∷ []

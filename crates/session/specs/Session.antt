@@ -3,15 +3,10 @@ use Prim.Native.Nat.{ℕ, _+_, _-_, _^_}
 use mathlib.Core.Bool.{Bool, true, false}
 use lib.Dec.{eqb}
 use Rattle.chain.specs.Chain.{_if_else_}
-use Rattle.words.specs.declared.OptionU64.{OptionU64}
-use Rattle.words.specs.declared.OptionU64.the-variants as u64
-use Rattle.models.specs.declared.ControllerState.{ControllerState}
+use Rattle.words.specs.declared.{OptionU64.OptionU64}
+use Rattle.models.specs.declared.{ControllerState.ControllerState, RequestId.RequestId}
 use Rattle.models.specs.declared.ControllerState.the-variants.{Closed, AcquiredUnknown, Initialized, Closing, RecoveryRequired}
-use Rattle.models.specs.declared.RequestId.{RequestId}
-use Rattle.session.specs.declared.Session.{Session}
-use Rattle.session.specs.declared.InFlight.{InFlight}
-use Rattle.session.specs.declared.InFlight.the-variants as flight
-use Rattle.session.specs.declared.OptionStall.{OptionStall}
+use Rattle.session.specs.declared.{InFlight.InFlight, OptionStall.OptionStall, Session.Session}
 
 abbrev pub isClosed : ControllerState → Bool
 isClosed Closed = true
@@ -43,15 +38,15 @@ mayRecover RecoveryRequired = true
 
 -- document 01's "errand open"
 abbrev pub isBusy : InFlight → Bool
-isBusy flight.Nothing = false
-isBusy (flight.Submission id) = true
-isBusy (flight.Poll id) = true
-isBusy (flight.Recovery x) = true
+isBusy InFlight.Nothing = false
+isBusy (InFlight.Submission id) = true
+isBusy (InFlight.Poll id) = true
+isBusy (InFlight.Recovery x) = true
 
 -- past the 64-bit maximum the revision is none for ever
 unfoldable pub raised : OptionU64 → OptionU64
-raised u64.None = u64.None
-raised (u64.Some n) = u64.None if eqb n (2 ^ 64 - 1) else u64.Some (n + 1)
+raised OptionU64.None = OptionU64.None
+raised (OptionU64.Some n) = OptionU64.None if eqb n (2 ^ 64 - 1) else OptionU64.Some (n + 1)
 
 abbrev pub withController : Session → ControllerState → OptionU64 → Session
 withController s state revision = record {
@@ -102,7 +97,7 @@ spent s next id = record {
   state = s .state;
   «recovery_revision» = s .«recovery_revision»;
   «recoverable_stall» = s .«recoverable_stall»;
-  «in_flight» = flight.Submission id;
+  «in_flight» = InFlight.Submission id;
   size = s .size;
 }
 

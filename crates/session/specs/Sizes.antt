@@ -4,8 +4,7 @@ use mathlib.Core.Bool.{Bool, _&&_}
 use lib.Dec.{eqb, leb}
 use Rattle.rows.specs.Table.{rowWords}
 use Rattle.bus.specs.Layout.{busWords}
-use Rattle.session.specs.declared.Size.{Size}
-use Rattle.session.specs.declared.sizes.Place.{Place}
+use Rattle.session.specs.declared.{Size.Size, sizes.Place.Place}
 
 -- 1 to 1,024 rows of 1 to 65,536 bytes
 abbrev pub sized : Size → Bool

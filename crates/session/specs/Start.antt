@@ -2,11 +2,9 @@
 use mathlib.Core.Bool.{Bool, not}
 use Rattle.chain.specs.Chain.{_if_else_}
 use Rattle.models.specs.Refusals.{refusalOf}
-use Rattle.models.specs.declared.Refusal.{Refusal}
-use Rattle.models.specs.declared.Verdict.{Verdict}
-use Rattle.models.specs.declared.Verdict.the-variants as verdict
+use Rattle.models.specs.declared.{Refusal.Refusal, Verdict.Verdict}
 use Rattle.session.specs.Session.{isBusy}
-use Rattle.session.specs.declared.Session.{Session}
+use Rattle.session.specs.declared.{Session.Session}
 
 -- 1, 3, then what the call does
 unfoldable pub guarded : {A : Type 0} → Session → Bool → (Refusal → A) → A → A
@@ -16,4 +14,4 @@ guarded s fits refused done =
     done
 
 unfoldable pub readyOf : Session → Bool → Verdict
-readyOf s fits = guarded s fits verdict.Refused verdict.Pass
+readyOf s fits = guarded s fits Verdict.Refused Verdict.Pass

@@ -6,36 +6,23 @@ use lib.ListN.{getD, length}
 use lib.Dec.{eqb}
 use Rattle.chain.specs.Chain.{_if_else_}
 use Rattle.words.specs.Words.{flagWord, readFlag, readOptionU64, optionU64Words}
-use Rattle.words.specs.declared.OptionU64.{OptionU64}
-use Rattle.words.specs.declared.OptionWords.{OptionWords}
+use Rattle.words.specs.declared.{OptionU64.OptionU64, OptionWords.OptionWords}
 use Rattle.models.specs.Codes.{readController, controllerWord}
-use Rattle.models.specs.declared.DeviceId.{DeviceId}
-use Rattle.models.specs.declared.OptionPorts.{OptionPorts}
-use Rattle.models.specs.declared.OptionPorts.the-variants as ports
-use Rattle.models.specs.declared.RequestId.{RequestId}
+use Rattle.models.specs.declared.{DeviceId.DeviceId, OptionPorts.OptionPorts, RequestId.RequestId}
 use Rattle.session.specs.Said.{recoveryWord}
-use Rattle.session.specs.declared.InFlight.{InFlight}
-use Rattle.session.specs.declared.InFlight.the-variants as flight
-use Rattle.session.specs.declared.OptionStall.{OptionStall}
-use Rattle.session.specs.declared.OptionStall.the-variants as stall
-use Rattle.session.specs.declared.Recovery.{Recovery}
-use Rattle.session.specs.declared.RecoveryKind.{RecoveryKind}
-use Rattle.session.specs.declared.RecoveryKind.the-variants as kind
-use Rattle.session.specs.declared.Session.{Session}
-use Rattle.session_words.specs.declared.state.FlightWords.{FlightWords}
-use Rattle.session_words.specs.declared.state.PortsWords.{PortsWords}
-use Rattle.session_words.specs.declared.state.StallWords.{StallWords}
+use Rattle.session.specs.declared.{InFlight.InFlight, OptionStall.OptionStall, Recovery.Recovery, RecoveryKind.RecoveryKind, Session.Session}
+use Rattle.session_words.specs.declared.{state.FlightWords.FlightWords, state.PortsWords.PortsWords, state.StallWords.StallWords}
 
 -- how many words a session has
 abbrev pub sessionSize : ℕ
 sessionSize = 26
 
 abbrev pub readPorts : ℕ → ℕ → ℕ → OptionPorts
-readPorts present session count = cond (eqb present 0) ports.None (ports.Some (record { session = session; count = count % 2 ^ 8 }))
+readPorts present session count = cond (eqb present 0) OptionPorts.None (OptionPorts.Some (record { session = session; count = count % 2 ^ 8 }))
 
 abbrev pub portsWords : OptionPorts → PortsWords
-portsWords ports.None = record { present = 0; session = 0; count = 0 }
-portsWords (ports.Some p) = record { present = 1; session = p .session; count = p .count }
+portsWords OptionPorts.None = record { present = 0; session = 0; count = 0 }
+portsWords (OptionPorts.Some p) = record { present = 1; session = p .session; count = p .count }
 
 abbrev pub readDeviceWords : ℕ → ℕ → ℕ → DeviceId
 readDeviceWords session generation slot = record { session = session; generation = generation; slot = slot % 2 ^ 8 }
@@ -52,11 +39,11 @@ readRequestId w at = readRequestWords (getD w at 0) (getD w (at + 1) 0) (getD w 
 
 abbrev pub readStall : ℕ → ℕ → DeviceId → ℕ → OptionStall
 readStall present revision device endpoint =
-    cond (eqb present 0) stall.None (stall.Some (record { revision = revision; device = device; endpoint = endpoint % 2 ^ 8 }))
+    cond (eqb present 0) OptionStall.None (OptionStall.Some (record { revision = revision; device = device; endpoint = endpoint % 2 ^ 8 }))
 
 abbrev pub stallWords : OptionStall → StallWords
-stallWords stall.None = record { present = 0; revision = 0; session = 0; generation = 0; slot = 0; endpoint = 0 }
-stallWords (stall.Some x) = record {
+stallWords OptionStall.None = record { present = 0; revision = 0; session = 0; generation = 0; slot = 0; endpoint = 0 }
+stallWords (OptionStall.Some x) = record {
   present = 1;
   revision = x .revision;
   session = x .device .session;
@@ -67,15 +54,15 @@ stallWords (stall.Some x) = record {
 
 -- 0 abort, 1 reset, any other a reset that preserves the data toggle
 abbrev pub readKind : ℕ → RecoveryKind
-readKind w = cond (eqb w 0) kind.Abort (kind.Reset (readFlag (w - 1)))
+readKind w = cond (eqb w 0) RecoveryKind.Abort (RecoveryKind.Reset (readFlag (w - 1)))
 
 -- tags: 0 nothing, 1 a submission, 2 a poll, any other a recovery
 abbrev pub readFlight : ℕ → RequestId → DeviceId → ℕ → ℕ → InFlight
 readFlight tag id device endpoint k =
-    cond (eqb tag 0) flight.Nothing
-    (cond (eqb tag 1) (flight.Submission id)
-    (cond (eqb tag 2) (flight.Poll id)
-    (flight.Recovery (record { target = id; device = device; endpoint = endpoint % 2 ^ 8; kind = readKind k }))))
+    cond (eqb tag 0) InFlight.Nothing
+    (cond (eqb tag 1) (InFlight.Submission id)
+    (cond (eqb tag 2) (InFlight.Poll id)
+    (InFlight.Recovery (record { target = id; device = device; endpoint = endpoint % 2 ^ 8; kind = readKind k }))))
 
 abbrev pub idFlight : ℕ → RequestId → FlightWords
 idFlight tag id = record {
@@ -104,10 +91,10 @@ recoveryFlight x = record {
 }
 
 abbrev pub flightWords : InFlight → FlightWords
-flightWords flight.Nothing = idFlight 0 (readRequestWords 0 0 0)
-flightWords (flight.Submission id) = idFlight 1 id
-flightWords (flight.Poll id) = idFlight 2 id
-flightWords (flight.Recovery x) = recoveryFlight x
+flightWords InFlight.Nothing = idFlight 0 (readRequestWords 0 0 0)
+flightWords (InFlight.Submission id) = idFlight 1 id
+flightWords (InFlight.Poll id) = idFlight 2 id
+flightWords (InFlight.Recovery x) = recoveryFlight x
 
 -- the ports, the revision, the stall and what is in flight of a session's words
 abbrev pub portsIn : List ℕ → OptionPorts

@@ -12,7 +12,7 @@ use lib.ListN.{length, drop, getD}
 use lib.Seq.{drop-cons, drop-length}
 use borrow.Author.Tests.{eq-eqb, ne-eqb, eqb-true}
 use Rattle.chain.proofs.Chain.{caseB}
-use Rattle.models.specs.declared.SetupPacket.{SetupPacket}
+use Rattle.models.specs.declared.{SetupPacket.SetupPacket}
 use Rattle.standards.specs.Fields.{field}
 use Rattle.standards.specs.Setup.{setupBytes, readPacket, sameBytes}
 

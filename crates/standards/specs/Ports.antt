@@ -2,7 +2,7 @@
 use Prim.Native.Nat.{ℕ, _*_, _^_}
 use mathlib.Core.Bool.{Bool, _||_}
 use Rattle.standards.specs.Fields.{field, bit}
-use Rattle.standards.specs.declared.PortStatus.{PortStatus}
+use Rattle.standards.specs.declared.{PortStatus.PortStatus}
 
 -- bit 0, Current Connect Status (CCS)
 abbrev pub portConnected : ℕ → Bool

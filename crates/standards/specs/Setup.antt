@@ -4,17 +4,14 @@ use mathlib.Core.Bool.{Bool, true, false, cond, _&&_}
 use mathlib.Core.List.{List, [], _∷_}
 use lib.Dec.{eqb}
 use lib.ListN.{getD}
-use Rattle.models.specs.declared.OptionSetup.{OptionSetup}
-use Rattle.models.specs.declared.OptionSetup.the-variants as setup
-use Rattle.models.specs.declared.SetupPacket.{SetupPacket}
-use Rattle.models.specs.declared.Direction.{Direction}
+use Rattle.models.specs.declared.{Direction.Direction, OptionSetup.OptionSetup, SetupPacket.SetupPacket}
 use Rattle.models.specs.declared.Direction.the-variants.{In, Out}
 use Rattle.standards.specs.Fields.{field, bit}
 
 -- the packet, or one of zeros
 abbrev pub packetOf : OptionSetup → SetupPacket
-packetOf setup.None = record { «request_type» = 0; request = 0; value = 0; index = 0; length = 0 }
-packetOf (setup.Some p) = p
+packetOf OptionSetup.None = record { «request_type» = 0; request = 0; value = 0; index = 0; length = 0 }
+packetOf (OptionSetup.Some p) = p
 
 -- table 9-2: bmRequestType, bRequest, then wValue, wIndex and wLength; 8.1: of two bytes the low one comes first
 unfoldable pub setupBytes : SetupPacket → List ℕ

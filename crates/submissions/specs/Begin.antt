@@ -1,47 +1,42 @@
 -- The end of every submission (document 01, "Added by design", and the places capacity, device, not control and ledger of its table).
 -- Assumes nothing.
-use Prim.Native.Nat.{ℕ}
+use Prim.Native.Nat.{ℕ, _+_, _<_, _≤_}
 use mathlib.Core.List.{List}
+use mathlib.Core.Path.{_≡_}
 use lib.Dec.{leb}
-use lib.ListN.{replicate}
+use lib.ListN.{length, replicate}
 use Rattle.chain.specs.After.{After, after}
 use Rattle.chain.specs.Chain.{_if_else_}
 use Rattle.chain.specs.Lists.{count, foundIn}
-use Rattle.chain.specs.declared.Found.{Found}
-use Rattle.chain.specs.declared.Found.the-variants as found
+use Rattle.chain.specs.declared.{Found.Found}
 use Rattle.words.specs.Records.{splice}
 use Rattle.models.specs.Kinds.{isIn}
-use Rattle.models.specs.declared.Refusal.{Refusal}
-use Rattle.models.specs.declared.RequestId.{RequestId}
-use Rattle.models.specs.declared.RequestMetadata.{RequestMetadata}
-use Rattle.models.specs.declared.Verdict.{Verdict}
-use Rattle.models.specs.declared.Verdict.the-variants as verdict
-use Rattle.rows.specs.Table.{isHeld}
+use Rattle.models.specs.declared.{Refusal.Refusal, RequestId.RequestId, RequestMetadata.RequestMetadata, Verdict.Verdict}
+use Rattle.rows.specs.Table.{isHeld, readRows}
 use Rattle.rows.specs.Store.{putIn}
-use Rattle.rows.specs.declared.Row.{Row}
+use Rattle.rows.specs.declared.{Row.Row}
 use Rattle.ledger.specs.Search.{isFree}
 use Rattle.rules.specs.Rules.{pendingRow, spendSequence}
-use Rattle.rules.specs.declared.Spent.the-variants as spent
+use Rattle.rules.specs.declared.{Spent.Spent}
+use Rattle.bus.specs.Layout.{busWords}
 use Rattle.bus.specs.Tables.{Bus}
 use Rattle.targets.specs.Target.{checkTarget}
-use Rattle.targets.specs.declared.Readings.{Readings}
+use Rattle.targets.specs.declared.{Readings.Readings}
 use Rattle.session.specs.Session.{isInitialized}
 use Rattle.session.specs.Session as session
 use Rattle.session.specs.Lent.{Memory, Lent, memory, lent}
-use Rattle.session.specs.declared.Session.{Session}
-use Rattle.session.specs.declared.sizes.Place.{Place}
-use Rattle.submissions.specs.declared.begin.Start.the-variants as start
-use Rattle.submissions.specs.declared.begin.Started.{Started}
+use Rattle.session.specs.declared.{Session.Session, sizes.Place.Place}
+use Rattle.submissions.specs.declared.{begin.Start.Start, begin.Started.Started}
 
 -- the first row without a request, unless 128 are held
 unfoldable pub roomIn : List Row → Found
-roomIn rows = found.Nothing if leb 128 (count isHeld rows) else foundIn isFree rows
+roomIn rows = Found.Nothing if leb 128 (count isHeld rows) else foundIn isFree rows
 
 abbrev pub newId : Session → RequestId
 newId s = record { session = s .number; generation = s .generation; sequence = s .«next_sequence» }
 
 abbrev pub startRefused : Session → Refusal → Started
-startRefused s r = record { answer = start.Refused r; session = s }
+startRefused s r = record { answer = Start.Refused r; session = s }
 
 -- the buffer: zeros of the length for IN, the data for OUT; it is written to the row's first bytes
 abbrev pub bufferOf : RequestMetadata → List ℕ → List ℕ
@@ -59,27 +54,34 @@ pub record Draft : Type 0 where
 abbrev pub draft : Place → RequestMetadata → List ℕ → Draft
 draft p m bytes = record { place = p; metadata = m; bytes = bytes }
 
+-- what the lent words and bytes have room for: the row is one of theirs, and its part of the area holds the request and its data
+pub record Placed (d : Draft) (bus rows area : List ℕ) : Type 0 where
+  pub tables : length bus ≡ busWords
+  pub row : d .place .row < length (readRows rows)
+  pub buffer : d .place .start + d .metadata .«requested_length» ≤ length area
+  pub payload : d .place .start + length (d .bytes) ≤ length area
+
 -- the number is spent, the row holds the request and its bytes the buffer
 abbrev pub begun : ℕ → Draft → Session → Memory → After Started Memory
 begun next d s m =
     after
-    (record { answer = start.At (newId s) (d .place .row); session = session.spent s next (newId s) })
+    (record { answer = Start.At (newId s) (d .place .row); session = session.spent s next (newId s) })
     (memory (putIn (m .store) (d .place .row) (pendingRow (newId s) (d .metadata))) (writeOf (d .place .start) (d .metadata) (d .bytes) (m .area)))
 
 -- 39
 unfoldable pub beginOf : Draft → Session → Memory → After Started Memory
 beginOf d s m =
     elim (spendSequence (s .«next_sequence»)) [
-      | spent.Refused r ↦ after (startRefused s r) m
-      | spent.Next next ↦ begun next d s m
+      | Spent.Refused r ↦ after (startRefused s r) m
+      | Spent.Next next ↦ begun next d s m
     ]
 
 abbrev pub withBus : Bus → After Started Memory → After Started Lent
 withBus b o = after (o .result) (lent b (o .lent))
 
 unfoldable pub targetBy : Verdict → Draft → Session → Lent → After Started Lent
-targetBy (verdict.Refused r) d s l = after (startRefused s r) l
-targetBy verdict.Pass d s l = withBus (l .bus) (beginOf d s (l .memory))
+targetBy (Verdict.Refused r) d s l = after (startRefused s r) l
+targetBy Verdict.Pass d s l = withBus (l .bus) (beginOf d s (l .memory))
 
 -- 26 to 37, 58, 38, then 39; readings taken before a refusal stay written
 unfoldable pub targetOf : Draft → Readings → Session → Lent → After Started Lent

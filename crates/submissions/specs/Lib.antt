@@ -1,4 +1,5 @@
 pub mod Begin
+pub mod Admit
 pub mod Submit
 pub mod Plan
 pub mod SubmitReply

@@ -3,46 +3,40 @@ use mathlib.Core.Bool.{not}
 use Rattle.chain.specs.After.{After, after}
 use Rattle.chain.specs.Chain.{_if_else_}
 use Rattle.models.specs.Refusals.{refusalOf, fromBackend}
-use Rattle.models.specs.declared.OperationError.{OperationError}
-use Rattle.models.specs.declared.RequestId.{RequestId}
+use Rattle.models.specs.declared.{OperationError.OperationError, RequestId.RequestId}
 use Rattle.rows.specs.Store.{Store}
 use Rattle.ledger.specs.Apply.{applyOf}
-use Rattle.ledger.specs.declared.Applied.{Applied}
-use Rattle.ledger.specs.declared.Applied.the-variants as applied
-use Rattle.rules.specs.declared.Change.the-variants as change
+use Rattle.ledger.specs.declared.{Applied.Applied}
+use Rattle.rules.specs.declared.{Change.Change}
 use Rattle.session.specs.Lent.{storeFits}
 use Rattle.session.specs.Session.{withFlight}
-use Rattle.session.specs.declared.InFlight.{InFlight}
-use Rattle.session.specs.declared.InFlight.the-variants as flight
-use Rattle.session.specs.declared.Session.{Session}
+use Rattle.session.specs.declared.{InFlight.InFlight, Session.Session}
 use Rattle.reports.specs.Answers.{effect, reportRefused}
-use Rattle.submissions.specs.declared.SubmitReply.{SubmitReply}
-use Rattle.submissions.specs.declared.SubmitReply.the-variants as reply
-use Rattle.reports.specs.declared.Reported.{Reported}
-use Rattle.reports.specs.declared.ReportAnswer.the-variants as report
+use Rattle.submissions.specs.declared.{SubmitReply.SubmitReply}
+use Rattle.reports.specs.declared.{ReportAnswer.ReportAnswer, Reported.Reported}
 
 -- 2: no row has the id, and the operation stays in flight; else it ends with the row's report
 unfoldable pub acceptedBy : Applied → Session → Reported
-acceptedBy (applied.Refused r) s = reportRefused s (refusalOf 2)
-acceptedBy (applied.Done row) s = record { answer = report.Report row; session = withFlight s flight.Nothing }
+acceptedBy (Applied.Refused r) s = reportRefused s (refusalOf 2)
+acceptedBy (Applied.Done row) s = record { answer = ReportAnswer.Report row; session = withFlight s InFlight.Nothing }
 
 -- 45 with the row empty again
 unfoldable pub discardedBy : Applied → OperationError → Session → Reported
-discardedBy (applied.Refused r) e s = reportRefused s (refusalOf 2)
-discardedBy (applied.Done row) e s = reportRefused (withFlight (effect e s) flight.Nothing) (fromBackend 45 e)
+discardedBy (Applied.Refused r) e s = reportRefused s (refusalOf 2)
+discardedBy (Applied.Done row) e s = reportRefused (withFlight (effect e s) InFlight.Nothing) (fromBackend 45 e)
 
 unfoldable pub submitReplyBy : SubmitReply → RequestId → Session → Store → After Reported Store
-submitReplyBy (reply.Token token) id s store =
-    let o = applyOf id (change.Accept token) store in after (acceptedBy (o .result) s) (o .lent)
-submitReplyBy (reply.Error e) id s store =
-    let o = applyOf id change.Discard store in after (discardedBy (o .result) e s) (o .lent)
+submitReplyBy (SubmitReply.Token token) id s store =
+    let o = applyOf id (Change.Accept token) store in after (acceptedBy (o .result) s) (o .lent)
+submitReplyBy (SubmitReply.Error e) id s store =
+    let o = applyOf id Change.Discard store in after (discardedBy (o .result) e s) (o .lent)
 
 -- 2 by its kind, then 3, then 2 where no row has the id
 unfoldable pub submitReplyIn : InFlight → SubmitReply → Session → Store → After Reported Store
-submitReplyIn flight.Nothing x s store = after (reportRefused s (refusalOf 2)) store
-submitReplyIn (flight.Poll id) x s store = after (reportRefused s (refusalOf 2)) store
-submitReplyIn (flight.Recovery y) x s store = after (reportRefused s (refusalOf 2)) store
-submitReplyIn (flight.Submission id) x s store =
+submitReplyIn InFlight.Nothing x s store = after (reportRefused s (refusalOf 2)) store
+submitReplyIn (InFlight.Poll id) x s store = after (reportRefused s (refusalOf 2)) store
+submitReplyIn (InFlight.Recovery y) x s store = after (reportRefused s (refusalOf 2)) store
+submitReplyIn (InFlight.Submission id) x s store =
     after (reportRefused s (refusalOf 3)) store if not (storeFits (s .size) store) else
     submitReplyBy x id s store
 

@@ -19,9 +19,8 @@ ghost use Prim.Native.Nat.{_+_, _<_, _≤_};
 ghost use lib.ListN.{length};
 ghost use Rattle.chain.specs.After.{after};
 ghost use Rattle.rows.specs.Table.{readRows};
-ghost use Rattle.bus.specs.Layout.{busWords};
 ghost use Rattle.session.specs.Lent.{rowsIn, memoryIn, memoryOut, lentIn, lentOut};
-ghost use Rattle.submissions.specs.Begin.{roomIn, newId, startRefused, writeOf, draft, beginOf, targetOf};
+ghost use Rattle.submissions.specs.Begin.{roomIn, newId, startRefused, writeOf, draft, Placed, beginOf, targetOf};
 
 // A submission that was handed over, with its id and row, or the refusal.
 pub enum Start {
@@ -120,9 +119,7 @@ pub(crate) fn begin_target(
     bytes: &[u8],
     readings: Readings,
 ) -> Started
-    requires { ⌜ (length (now bus) ≡ busWords) × (place .row < length (readRows (now rows)))
-        × (place .start + metadata .«requested_length» ≤ length (now area))
-        × (place .start + length (now bytes) ≤ length (now area)) ⌝ }
+    requires { ⌜ Placed (draft place metadata (now bytes)) (now bus) (now rows) (now area) ⌝ }
     ensures { λ r. ⌜ after r (lentOut bus rows area)
         ≡ targetOf (draft place metadata (now (bytes .entry))) readings session (lentIn bus rows area) ⌝ }
 {

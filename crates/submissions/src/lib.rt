@@ -7,6 +7,7 @@ use models::RequestId;
 use models::RequestMetadata;
 use session::Session;
 
+pub mod admit;
 mod begin;
 pub mod plan;
 pub mod submit;

@@ -3,12 +3,11 @@ use Prim.Native.Nat.{ℕ}
 use mathlib.Core.List.{List, [], _∷_, _++_}
 use Rattle.models.specs.Said.{Said, says, refused}
 use Rattle.models.specs.Values.{snapshotWords}
-use Rattle.targets.specs.declared.target.DeviceChecked.{DeviceChecked}
-use Rattle.targets.specs.declared.target.DeviceChecked.the-variants as checked
+use Rattle.targets.specs.declared.{target.DeviceChecked.DeviceChecked}
 
 abbrev pub deviceSaid : DeviceChecked → Said
-deviceSaid (checked.Refused r) = refused r
-deviceSaid (checked.Ready d) = says (snapshotWords d)
+deviceSaid (DeviceChecked.Refused r) = refused r
+deviceSaid (DeviceChecked.Ready d) = says (snapshotWords d)
 
 abbrev pub deviceNumbers : List ℕ
 deviceNumbers = 26 ∷ 27 ∷ 28 ∷ 29 ∷ 30 ∷ 31 ∷ 32 ∷ 33 ∷ 34 ∷ 35 ∷ []

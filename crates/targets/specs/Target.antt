@@ -7,36 +7,24 @@ use Rattle.chain.specs.After.{After, after}
 use Rattle.models.specs.Kinds.{isControl, isBulk, isIsochronous, isPrepared, isConfigured}
 use Rattle.models.specs.Refusals.{refusalOf, rejected}
 use Rattle.models.specs.Requests.{sameDevice}
-use Rattle.models.specs.declared.DeviceId.{DeviceId}
-use Rattle.models.specs.declared.DeviceSnapshot.{DeviceSnapshot}
-use Rattle.models.specs.declared.OptionDevice.{OptionDevice}
-use Rattle.models.specs.declared.OptionDevice.the-variants as device
-use Rattle.models.specs.declared.OptionPorts.{OptionPorts}
-use Rattle.models.specs.declared.PortReading.{PortReading}
-use Rattle.models.specs.declared.RequestMetadata.{RequestMetadata}
-use Rattle.models.specs.declared.TransferType.{TransferType}
-use Rattle.models.specs.declared.Verdict.{Verdict}
-use Rattle.models.specs.declared.Verdict.the-variants as verdict
+use Rattle.models.specs.declared.{DeviceId.DeviceId, DeviceSnapshot.DeviceSnapshot, OptionDevice.OptionDevice, OptionPorts.OptionPorts, PortReading.PortReading, RequestMetadata.RequestMetadata, TransferType.TransferType, Verdict.Verdict}
 use Rattle.standards.specs.Ports.{portSpeed}
 use Rattle.bus.specs.Tables.{Bus, deviceAt, markAt}
 use Rattle.bus.specs.Ports.{freshPort}
 use Rattle.bus.specs.Endpoints.{hasEndpoint}
-use Rattle.bus.specs.declared.ports.PortChecked.{PortChecked}
-use Rattle.bus.specs.declared.ports.PortChecked.the-variants as checked
-use Rattle.targets.specs.declared.Readings.{Readings}
-use Rattle.targets.specs.declared.target.DeviceChecked.{DeviceChecked}
-use Rattle.targets.specs.declared.target.DeviceChecked.the-variants as answer
+use Rattle.bus.specs.declared.{ports.PortChecked.PortChecked}
+use Rattle.targets.specs.declared.{Readings.Readings, target.DeviceChecked.DeviceChecked}
 
 abbrev pub refusedDevice : ℕ → DeviceChecked
-refusedDevice n = answer.Refused (refusalOf n)
+refusedDevice n = DeviceChecked.Refused (refusalOf n)
 
 -- 27 unknown or stale; 28 not Initialized
 unfoldable pub knownBy : OptionDevice → Bool → DeviceId → DeviceChecked
-knownBy device.None initialized id = refusedDevice 27
-knownBy (device.Some d) initialized id =
+knownBy OptionDevice.None initialized id = refusedDevice 27
+knownBy (OptionDevice.Some d) initialized id =
     refusedDevice 27 if not (sameDevice (d .id) id) else
     refusedDevice 28 if not initialized else
-    answer.Ready d
+    DeviceChecked.Ready d
 
 -- 26 raw mark
 unfoldable pub knownDevice : Bool → DeviceId → Bus → DeviceChecked
@@ -44,8 +32,8 @@ knownDevice initialized id b = refusedDevice 26 if markAt b (id .slot) else know
 
 -- 35 not DefaultAddress, Addressed or Configured
 unfoldable pub preparedDevice : PortChecked → DeviceSnapshot → DeviceChecked
-preparedDevice (checked.Refused r) d = answer.Refused r
-preparedDevice (checked.Read raw) d = refusedDevice 35 if not (isPrepared (d .state)) else answer.Ready d
+preparedDevice (PortChecked.Refused r) d = DeviceChecked.Refused r
+preparedDevice (PortChecked.Read raw) d = refusedDevice 35 if not (isPrepared (d .state)) else DeviceChecked.Ready d
 
 -- 29 to 34 and 31 again are the port's; whatever was read stays written
 unfoldable pub freshDevice : OptionPorts → DeviceSnapshot → PortReading → Bus → After DeviceChecked Bus
@@ -53,8 +41,8 @@ freshDevice ports d reading b =
     after (preparedDevice (freshPort ports (d .port) reading b .result) d) (freshPort ports (d .port) reading b .lent)
 
 unfoldable pub checkDeviceBy : DeviceChecked → OptionPorts → PortReading → Bus → After DeviceChecked Bus
-checkDeviceBy (answer.Refused r) ports reading b = after (answer.Refused r) b
-checkDeviceBy (answer.Ready d) ports reading b = freshDevice ports d reading b
+checkDeviceBy (DeviceChecked.Refused r) ports reading b = after (DeviceChecked.Refused r) b
+checkDeviceBy (DeviceChecked.Ready d) ports reading b = freshDevice ports d reading b
 
 unfoldable pub checkDevice : Bool → OptionPorts → DeviceId → PortReading → Bus → After DeviceChecked Bus
 checkDevice initialized ports id reading b = checkDeviceBy (knownDevice initialized id b) ports reading b
@@ -65,11 +53,11 @@ speedChecked raw slot endpoint type b =
     rejected 37 if eqb (portSpeed raw) 2 && isBulk type else
     rejected 58 if eqb (portSpeed raw) 2 && isIsochronous type else
     rejected 38 if not (hasEndpoint slot endpoint type b) else
-    verdict.Pass
+    Verdict.Pass
 
 unfoldable pub endpointBy : PortChecked → RequestMetadata → Bus → Verdict
-endpointBy (checked.Refused r) m b = verdict.Refused r
-endpointBy (checked.Read raw) m b = speedChecked raw (m .device .slot) (m .endpoint) (m .«transfer_type») b
+endpointBy (PortChecked.Refused r) m b = Verdict.Refused r
+endpointBy (PortChecked.Read raw) m b = speedChecked raw (m .device .slot) (m .endpoint) (m .«transfer_type») b
 
 -- 36 not Configured; the second reading: 33, 34, 31
 unfoldable pub checkEndpoint : OptionPorts → DeviceSnapshot → RequestMetadata → PortReading → Bus → After Verdict Bus
@@ -78,8 +66,8 @@ checkEndpoint ports d m reading b =
     after (endpointBy (freshPort ports (d .port) reading b .result) m (freshPort ports (d .port) reading b .lent)) (freshPort ports (d .port) reading b .lent)
 
 unfoldable pub checkTargetBy : DeviceChecked → OptionPorts → RequestMetadata → PortReading → Bus → After Verdict Bus
-checkTargetBy (answer.Refused r) ports m second b = after (verdict.Refused r) b
-checkTargetBy (answer.Ready d) ports m second b = after verdict.Pass b if isControl (m .«transfer_type») else checkEndpoint ports d m second b
+checkTargetBy (DeviceChecked.Refused r) ports m second b = after (Verdict.Refused r) b
+checkTargetBy (DeviceChecked.Ready d) ports m second b = after Verdict.Pass b if isControl (m .«transfer_type») else checkEndpoint ports d m second b
 
 -- one reading for control, two otherwise
 unfoldable pub checkTarget : Bool → OptionPorts → RequestMetadata → Readings → Bus → After Verdict Bus

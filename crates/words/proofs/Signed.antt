@@ -14,7 +14,7 @@ use mir.ValLaws.{toZ-ofZ, toZ-pos}
 use Rattle.chain.proofs.Chain.{caseB}
 use Rattle.words.specs.declared.OptionI32.the-variants.{None, Some}
 use Rattle.words.specs.Words.{lowSigned, readSigned, readOptionI32, signedWord, optionI32Word, isSigned}
-use Rattle.words.specs.declared.OptionI32.{OptionI32}
+use Rattle.words.specs.declared.{OptionI32.OptionI32}
 use Rattle.words.proofs.Options as options
 
 -- `-1 - v`, as the code computes it

@@ -11,25 +11,17 @@ use Rattle.words.specs.Records.{splice}
 use Rattle.words.specs.Words.{flagWord, optionU32Word, optionI32Word}
 use Rattle.models.specs.Codes.{categoryWord, transferWord, directionWord}
 use Rattle.models.specs.Values.{setupTail, setupWords, optionErrorWords, requestIdWords, deviceIdWords, metadataTail}
-use Rattle.models.specs.declared.Refusal.{Refusal}
-use Rattle.models.specs.declared.RequestMetadata.{RequestMetadata}
-use Rattle.models.specs.declared.RequestReport.{RequestReport}
-use Rattle.models.specs.declared.SetupPacket.{SetupPacket}
+use Rattle.models.specs.declared.{OperationError.OperationError, OptionError.OptionError, Refusal.Refusal, RequestMetadata.RequestMetadata, RequestReport.RequestReport, SetupPacket.SetupPacket, SetupWords.SetupWords}
 use Rattle.standards.specs.Setup.{packetOf, setupBytes}
 use Rattle.rows.specs.Codec.{stateWords}
-use Rattle.models.specs.declared.SetupWords.{SetupWords}
 use Rattle.rows.specs.Values.{stateTail}
-use Rattle.rows.specs.declared.codec.StateWords.{StateWords}
+use Rattle.rows.specs.declared.{codec.StateWords.StateWords}
 use Rattle.checks.specs.Said.{stageTail}
 use Rattle.session.specs.Said.{recoveryWord}
-use Rattle.submissions.specs.declared.PlanSubmission.{PlanSubmission}
-use Rattle.submissions.specs.declared.Submission.{Submission}
-use Rattle.models.specs.declared.OperationError.{OperationError}
-use Rattle.models.specs.declared.OptionError.{OptionError}
-use Rattle.models.specs.declared.OptionError.the-variants as error
-use Rattle.recovery.specs.declared.AbortReport.{AbortReport}
-use Rattle.session.specs.declared.Recovery.{Recovery}
-use Rattle.calls.specs.declared.Answer.{Answer}
+use Rattle.submissions.specs.declared.{PlanSubmission.PlanSubmission, Submission.Submission}
+use Rattle.recovery.specs.declared.{AbortReport.AbortReport}
+use Rattle.session.specs.declared.{Recovery.Recovery}
+use Rattle.calls.specs.declared.{Answer.Answer}
 use Rattle.answer_words.specs.Encode.{refusalWords, begunWords, planWords, reportWords, recoveringWords, recoveredWords, answerWords, written}
 
 pub refusal-exact : (r : Refusal) (c o k : ℕ) → c ≡ categoryWord (r .error .category) → o ≡ optionI32Word (r .error .«os_code»)
@@ -78,10 +70,10 @@ pub recovering-exact : (x : Recovery) (k : ℕ) → k ≡ recoveryWord (x .kind)
 unfolding recoveringWords
 recovering-exact x k e = rw e
 
-pub no-error-exact : (o : OptionError) → o ≡ error.None → 0 ∷ 0 ∷ 0 ∷ 0 ∷ 0 ∷ [] ≡ optionErrorWords o
+pub no-error-exact : (o : OptionError) → o ≡ OptionError.None → 0 ∷ 0 ∷ 0 ∷ 0 ∷ 0 ∷ [] ≡ optionErrorWords o
 no-error-exact o e = rw e
 
-pub some-error-exact : (o : OptionError) (x : OperationError) (c n k : ℕ) → o ≡ error.Some x → c ≡ categoryWord (x .category)
+pub some-error-exact : (o : OptionError) (x : OperationError) (c n k : ℕ) → o ≡ OptionError.Some x → c ≡ categoryWord (x .category)
     → n ≡ optionI32Word (x .«os_code») → k ≡ optionU32Word (x .«completion_code») → 1 ∷ c ∷ x .message ∷ n ∷ k ∷ [] ≡ optionErrorWords o
 some-error-exact o x c n k e ec en ek = rw (e, ec, en, ek)
 
@@ -90,8 +82,8 @@ abbrev fiveBy : List ℕ → List ℕ
 fiveBy l = getD l 0 0 ∷ getD l 1 0 ∷ getD l 2 0 ∷ getD l 3 0 ∷ getD l 4 0 ∷ []
 
 five-exact : (o : OptionError) → fiveBy (optionErrorWords o) ≡ optionErrorWords o
-five-exact error.None = refl
-five-exact (error.Some x) = refl
+five-exact OptionError.None = refl
+five-exact (OptionError.Some x) = refl
 
 pub recovered-exact : (x : AbortReport) (f : ℕ) (l : List ℕ) → f ≡ flagWord (x .«restart_ready») → l ≡ optionErrorWords (x .error)
     → 10 ∷ requestIdWords (x .target) ++ deviceIdWords (x .device) ++ x .endpoint ∷ x .completed ∷ x .aborted ∷ f ∷ fiveBy l ≡ recoveredWords x

@@ -11,20 +11,14 @@ use Rattle.chain.proofs.Chain.{takes, passes}
 use Rattle.words.proofs.Parts.{take-cut}
 use Rattle.words.specs.Records.{splice}
 use Rattle.models.specs.Values.{requestIdWords}
-use Rattle.models.specs.declared.Refusal.{Refusal}
-use Rattle.models.specs.declared.RequestId.{RequestId}
-use Rattle.session.specs.declared.Recovery.{Recovery}
-use Rattle.recovery.specs.declared.AbortReport.{AbortReport}
-use Rattle.recovery.specs.declared.BeginAnswer.the-variants as begin
-use Rattle.recovery.specs.declared.Begun.{Begun}
-use Rattle.recovery.specs.declared.RecoveryAnswer.{RecoveryAnswer}
-use Rattle.recovery.specs.declared.RecoveryAnswer.the-variants as recovery
-use Rattle.recovery.specs.declared.Replied.{Replied}
+use Rattle.models.specs.declared.{Refusal.Refusal, RequestId.RequestId}
+use Rattle.session.specs.declared.{Recovery.Recovery}
+use Rattle.recovery.specs.declared.{AbortReport.AbortReport, BeginAnswer.BeginAnswer, Begun.Begun, RecoveryAnswer.RecoveryAnswer, Replied.Replied}
 use Rattle.recovery.specs.Reports.{noId, idsOf, from, idsIn, manyIn, filled}
 use Rattle.recovery.proofs.recovery_reply.Laws.{part-first, part-rest, fill-few}
 use Rattle.chain.proofs.Listed.{listed-take}
 use Rattle.rows.specs.Table.{idIn}
-use Rattle.rows.specs.declared.Row.{Row}
+use Rattle.rows.specs.declared.{Row.Row}
 use Rattle.answer_words.specs.Lists.{tokenList, idWords, idList, begunLists, partLists, recoveredBy, recoveredLists, putLists}
 
 -- a, and then b behind it
@@ -154,20 +148,20 @@ module _ (rows : List Row) (places l after : List ℕ) (n m : ℕ) (few : n + m 
       e ∙ rw (part-first places n (n + m) (omega arith), part-rest places n (n + m) (omega arith) (omega arith), z, listed-take 128 noId a n la (omega arith), listed-take 128 noId b m lb (omega arith))
 
 -- ---- by the answer
-pub begun-refused : (o : Begun) (r : Refusal) (l : List ℕ) → o .answer ≡ begin.Refused r → l ≡ putLists (begunLists o) l
+pub begun-refused : (o : Begun) (r : Refusal) (l : List ℕ) → o .answer ≡ BeginAnswer.Refused r → l ≡ putLists (begunLists o) l
 unfolding begunLists
 begun-refused o r l e = rw e (put-none l)
 
-pub begun-put : (o : Begun) (x : Recovery) (l after : List ℕ) → o .answer ≡ begin.Recover x
+pub begun-put : (o : Begun) (x : Recovery) (l after : List ℕ) → o .answer ≡ BeginAnswer.Recover x
     → after ≡ putLists (tokenList (take (o .count) (o .tokens))) l → after ≡ putLists (begunLists o) l
 unfolding begunLists
 begun-put o x l after e h = rw e h
 
-pub replied-refused : (p : Replied) (rows : List Row) (r : Refusal) (l : List ℕ) → p .answer ≡ recovery.Refused r → l ≡ putLists (recoveredLists (filled p rows)) l
+pub replied-refused : (p : Replied) (rows : List Row) (r : Refusal) (l : List ℕ) → p .answer ≡ RecoveryAnswer.Refused r → l ≡ putLists (recoveredLists (filled p rows)) l
 unfolding recoveredLists
 replied-refused p rows r l e = put-none l ∙ ap (λ (x : RecoveryAnswer). putLists (recoveredBy x (idsIn x rows (p .places))) l) (sym e)
 
-module _ (p : Replied) (x : AbortReport) (e : p .answer ≡ recovery.Report x) where
+module _ (p : Replied) (x : AbortReport) (e : p .answer ≡ RecoveryAnswer.Report x) where
   pub replied-few : manyIn (p .answer) ≤ 128 → x .completed + x .aborted ≤ 128
   replied-few h = fill-few p x e h
 

@@ -15,23 +15,20 @@ use Rattle.chain.proofs.Lists.{find-on, find-here}
 use Rattle.words.specs.Records.{splice, part}
 use Rattle.words.proofs.Records.{part-getD, part-first, part-length, chunks-at}
 use Rattle.models.specs.Refusals.{refusalOf}
-use Rattle.models.specs.declared.Refusal.{Refusal}
-use Rattle.models.specs.declared.TransferType.{TransferType}
-use Rattle.models.specs.declared.Verdict.{Verdict}
-use Rattle.models.specs.declared.Verdict.the-variants as verdict
+use Rattle.models.specs.declared.{Refusal.Refusal, TransferType.TransferType, Verdict.Verdict}
 use Rattle.bus.specs.Layout.{listsAt, busWords, endpointWord, readEndpoints}
 use Rattle.bus.specs.Tables.{Bus, busOf, endpointsAt}
 use Rattle.bus.specs.Endpoints.{hasEndpoint, setEndpoints}
 use Rattle.bus.proofs.Tables.{put-endpoints}
 
 pub endpoints-over : (slot : ℕ) (e : List ℕ) (b : Bus) (r : Refusal) → 30 < length e → r ≡ refusalOf 53
-    → after (verdict.Refused r) b ≡ setEndpoints slot e b
+    → after (Verdict.Refused r) b ≡ setEndpoints slot e b
 unfolding setEndpoints
 endpoints-over slot e b r h f = takes (After Verdict Bus) _ _ _ _ (lt-ltb _ _ h) (rw f)
 
 pub endpoints-set : (slot : ℕ) (e l x : List ℕ) → length l ≡ busWords → slot < 256 → length e ≤ 30
     → x ≡ splice (listsAt + slot * 31 + 1) (take (length e) e) (set l (listsAt + slot * 31) (length e))
-    → after verdict.Pass (busOf x) ≡ setEndpoints slot e (busOf l)
+    → after Verdict.Pass (busOf x) ≡ setEndpoints slot e (busOf l)
 unfolding setEndpoints
 endpoints-set slot e l x sized h few f = passes (After Verdict Bus) _ _ _ _ (le-ltb _ _ few) (rw (put-endpoints l x slot e sized h few f))
 

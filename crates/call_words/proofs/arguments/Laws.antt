@@ -11,19 +11,12 @@ use Rattle.chain.specs.Lists.{find, anyIn}
 use Rattle.chain.proofs.Lists.{find-on, find-here}
 use Rattle.words.specs.Words.{readFlag}
 use Rattle.models.specs.Codes.{readTransfer, readDirection}
-use Rattle.models.specs.declared.BackendCompletion.{BackendCompletion}
-use Rattle.models.specs.declared.DeviceId.{DeviceId}
-use Rattle.models.specs.declared.Direction.{Direction}
-use Rattle.models.specs.declared.OperationError.{OperationError}
-use Rattle.models.specs.declared.OptionError.{OptionError}
-use Rattle.models.specs.declared.OptionSetup.{OptionSetup}
-use Rattle.models.specs.declared.OptionStage.the-variants as stage
-use Rattle.models.specs.declared.TransferType.{TransferType}
+use Rattle.models.specs.declared.{BackendCompletion.BackendCompletion, DeviceId.DeviceId, Direction.Direction, OperationError.OperationError, OptionError.OptionError, OptionSetup.OptionSetup, OptionStage.OptionStage, TransferType.TransferType}
 use Rattle.rows.specs.Codec.{readSetupWords}
-use Rattle.recovery.specs.declared.RecoveryReply.the-variants as recovery
+use Rattle.recovery.specs.declared.{RecoveryReply.RecoveryReply}
 use Rattle.session_words.specs.State.{readDeviceId}
 use Rattle.scope.specs.Returned.{readError, readOptionError, readCompletion}
-use Rattle.polls.specs.declared.PollReply.the-variants as poll
+use Rattle.polls.specs.declared.{PollReply.PollReply}
 use Rattle.call_words.specs.Arguments.{readSpec, readRecoveryReply}
 
 -- what a word r, read as v, says
@@ -35,11 +28,11 @@ flag-read f r v q e = cc
 
 -- a stage from its words
 pub stage-read : (w : List ℕ) (at a l : ℕ) (d : Direction) → a ≡ getD w (at + 1) 0 → d ≡ readDirection a → l ≡ getD w (at + 2) 0
-    → stage.Some (record { direction = d; length = l }) ≡ stage.Some (record { direction = readDirection (getD w (at + 1) 0); length = getD w (at + 2) 0 })
+    → OptionStage.Some (record { direction = d; length = l }) ≡ OptionStage.Some (record { direction = readDirection (getD w (at + 1) 0); length = getD w (at + 2) 0 })
 stage-read w at a l d ea ed el = cc
 
 -- a completion from a part of a reply's words
-pub completion-read : (x : BackendCompletion) (v u : List ℕ) → x ≡ readCompletion v → v ≡ u → poll.Completion x ≡ poll.Completion (readCompletion u)
+pub completion-read : (x : BackendCompletion) (v u : List ℕ) → x ≡ readCompletion v → v ≡ u → PollReply.Completion x ≡ PollReply.Completion (readCompletion u)
 completion-read x v u e f = rw (e, f)
 
 -- a request from its device, its codes and its words
@@ -53,11 +46,11 @@ spec-read w d e x y l a b c f g h t i s hd he hx ht hy hi hl ha hb hc hf hg hh h
 -- what a recovery's reply says
 module _ (w : List ℕ) (k : ℕ) (ek : k ≡ getD w 1 0) where
   pub abort-done : (n : ℕ) (ready : Bool) (e : OptionError) → k ≡ 0 → n ≡ getD w 2 0 → ready ≡ readFlag n → e ≡ readOptionError w 3
-      → recovery.Done (record { «restart_ready» = ready; error = e }) ≡ readRecoveryReply w
+      → RecoveryReply.Done (record { «restart_ready» = ready; error = e }) ≡ readRecoveryReply w
   unfolding readRecoveryReply
   abort-done n ready e z en er ee = rw (eq-eqb (getD w 1 0) 0 (sym ek ∙ z), er, en, ee)
 
-  pub abort-failed : (e : OperationError) → (k ≡ 0 → ⊥) → e ≡ readError w 4 → recovery.Error e ≡ readRecoveryReply w
+  pub abort-failed : (e : OperationError) → (k ≡ 0 → ⊥) → e ≡ readError w 4 → RecoveryReply.Error e ≡ readRecoveryReply w
   unfolding readRecoveryReply
   abort-failed e z ee = rw (ne-eqb (getD w 1 0) 0 (λ q. z (ek ∙ q)), ee)
 

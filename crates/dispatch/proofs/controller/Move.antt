@@ -6,21 +6,19 @@ use lib.ListN.{getD}
 use Rattle.chain.specs.After.{After, after}
 use Rattle.chain.proofs.Chain.{chain}
 use Rattle.words.specs.Words.{readOptionU64}
-use Rattle.words.specs.declared.OptionU64.{OptionU64}
-use Rattle.models.specs.declared.OptionError.{OptionError}
+use Rattle.words.specs.declared.{OptionU64.OptionU64}
+use Rattle.models.specs.declared.{OptionError.OptionError}
 use Rattle.rows.specs.Store.{Store}
 use Rattle.bus.specs.Tables.{Bus}
 use Rattle.session.specs.Lent.{memory, lent}
 use Rattle.session.specs.Lifecycle.{acquireOf, initializeOf, closeOf}
-use Rattle.session.specs.declared.Called.{Called}
-use Rattle.session.specs.declared.Session.{Session}
-use Rattle.session.specs.declared.lifecycle.AcquireReply.{AcquireReply}
+use Rattle.session.specs.declared.{Called.Called, Session.Session, lifecycle.AcquireReply.AcquireReply}
 use Rattle.calls.specs.Answers.{outcome, ofVerdict}
 use Rattle.scope.specs.Returned.{readOptionError}
 use Rattle.call_words.specs.Arguments.{readAcquireReply}
 use Rattle.calls.specs.Calls.{Moving, Acquire, Initialize, Close, Move}
 use Rattle.calls.specs.Step.{World, world, moves, movedOf, stepOf}
-use Rattle.calls.specs.declared.Outcome.{Outcome}
+use Rattle.calls.specs.declared.{Outcome.Outcome}
 use Rattle.call_words.specs.Decode.{readMoving}
 use Rattle.dispatch.proofs.Steps.{said}
 

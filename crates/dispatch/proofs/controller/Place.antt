@@ -7,21 +7,18 @@ use lib.ListN.{getD, drop}
 use Rattle.chain.specs.After.{After, after}
 use Rattle.chain.proofs.Chain.{chain}
 use Rattle.words.specs.Words.{readFlag}
-use Rattle.models.specs.declared.DeviceSnapshot.{DeviceSnapshot}
-use Rattle.models.specs.declared.Verdict.{Verdict}
+use Rattle.models.specs.declared.{DeviceSnapshot.DeviceSnapshot, Verdict.Verdict}
 use Rattle.bus.specs.Tables.{Bus}
-use Rattle.bus.specs.declared.PortRow.{PortRow}
+use Rattle.bus.specs.declared.{PortRow.PortRow}
 use Rattle.session.specs.Lent.{Memory, Lent, lent}
 use Rattle.session.specs.Lifecycle.{openOf}
 use Rattle.session.specs.Place.{setDeviceOf, setPortOf, setEndpointsOf, setReconcileOf}
-use Rattle.session.specs.declared.Session.{Session}
-use Rattle.session.specs.declared.lifecycle.Opened.{Opened}
-use Rattle.session.specs.declared.lifecycle.Opening.{Opening}
+use Rattle.session.specs.declared.{Session.Session, lifecycle.Opened.Opened, lifecycle.Opening.Opening}
 use Rattle.calls.specs.Answers.{outcome, ofOpened, ofVerdict}
 use Rattle.call_words.specs.Arguments.{readOpening, readSnapshot, readPortRow}
 use Rattle.calls.specs.Calls.{Placing, Device, Port, Endpoints, Reconcile, Open, Place}
 use Rattle.calls.specs.Step.{World, world, opens, places, placedOf, stepOf}
-use Rattle.calls.specs.declared.Outcome.{Outcome}
+use Rattle.calls.specs.declared.{Outcome.Outcome}
 use Rattle.call_words.specs.Decode.{readPlacing}
 use Rattle.dispatch.proofs.Steps.{said}
 

@@ -10,30 +10,26 @@ use borrow.Author.Tests.{ltb-true, ltb-false, ne-eqb, le-leb, lt-leb}
 use Rattle.chain.specs.After.{After, after}
 use Rattle.chain.proofs.Chain.{caseB, takes, passes, chain}
 use Rattle.words.specs.Words.{readFlag}
-use Rattle.models.specs.declared.ControlPlan.{ControlPlan}
-use Rattle.models.specs.declared.PortReading.{PortReading}
-use Rattle.models.specs.declared.RequestSpec.{RequestSpec}
+use Rattle.models.specs.declared.{ControlPlan.ControlPlan, PortReading.PortReading, RequestSpec.RequestSpec}
 use Rattle.rows.specs.Store.{Store}
 use Rattle.bus.specs.Tables.{Bus}
-use Rattle.targets.specs.declared.Readings.{Readings}
-use Rattle.targets.specs.declared.wants.Wanted.{Wanted}
+use Rattle.targets.specs.declared.{Readings.Readings, wants.Wanted.Wanted}
 use Rattle.session.specs.Lent.{Memory, Lent, memory, lent}
-use Rattle.session.specs.declared.Session.{Session}
+use Rattle.session.specs.declared.{Session.Session}
 use Rattle.reports.specs.Scan.{reportFrom}
-use Rattle.reports.specs.declared.PlacedReport.{PlacedReport}
+use Rattle.reports.specs.declared.{PlacedReport.PlacedReport}
 use Rattle.submissions.specs.Submit.{request}
 use Rattle.submissions.specs.Wants.{submitWants, planWants}
 use Rattle.calls.specs.Calls.{Call}
 use Rattle.calls.specs.Step.{World, world, stepOf}
-use Rattle.calls.specs.declared.Outcome.{Outcome}
+use Rattle.calls.specs.declared.{Outcome.Outcome}
 use Rattle.session_words.specs.State.{keptOf, readSession, isSession}
 use Rattle.call_words.specs.Arguments.{readSpec, readReadings, readRequest, readPlan}
 use Rattle.call_words.specs.Decode.{readReporting, readCall}
 use Rattle.call_words.specs.Parts.{readReading}
 use Rattle.answer_words.specs.Encode.{answerWords, written}
 use Rattle.questions.specs.Question.{Question, SessionStatus, ReportFrom, SubmitWants, PlanWants, ofPlaced, questionOf}
-use Rattle.questions.specs.declared.QuestionAnswer.{QuestionAnswer}
-use Rattle.questions.specs.declared.QuestionAnswer.the-variants as answer
+use Rattle.questions.specs.declared.{QuestionAnswer.QuestionAnswer}
 use Rattle.question_words.specs.Decode.{readQuestion}
 use Rattle.question_words.specs.Encode.{questionWords}
 use Rattle.question_words.specs.Form.{isQuestion, isRead}
@@ -56,9 +52,9 @@ module _ (n : ℕ) (s : Session) (b : Bus) (store : Store) (area w bytes : List 
   abbrev Answers : QuestionAnswer → Type 0
   Answers a = a ≡ questionOf (readQuestion n w bytes) handed
 
-  pub status-said : n ≡ 25 → Answers (answer.Status s)
+  pub status-said : n ≡ 25 → Answers (QuestionAnswer.Status s)
   unfolding questionOf readQuestion
-  status-said e = asked SessionStatus (readQuestion n w bytes) handed (answer.Status s) (search chain depth 20) refl
+  status-said e = asked SessionStatus (readQuestion n w bytes) handed (QuestionAnswer.Status s) (search chain depth 20) refl
 
   module _ (n25 : n ≡ 25 → ⊥) where
     pub report-said : (a : QuestionAnswer) (x : PlacedReport) (place : ℕ) → n ≡ 26 → place ≡ getD w 1 0 → x ≡ reportFrom place s store → a ≡ ofPlaced x → Answers a
@@ -66,17 +62,17 @@ module _ (n : ℕ) (s : Session) (b : Bus) (store : Store) (area w bytes : List 
     report-said a x place e ep h ea = asked (ReportFrom place) (readQuestion n w bytes) handed a (search (chain, ap ReportFrom ep) depth 20) (ea ∙ ap ofPlaced h)
 
     module _ (n26 : n ≡ 26 → ⊥) (x : Wanted) where
-      pub submit-said : n ≡ 27 → x ≡ submitWants (drop 27 w) (readRequest w bytes) s (lent b (memory store area)) → Answers (answer.Reading x)
+      pub submit-said : n ≡ 27 → x ≡ submitWants (drop 27 w) (readRequest w bytes) s (lent b (memory store area)) → Answers (QuestionAnswer.Reading x)
       unfolding questionOf readQuestion
       submit-said e h =
-          asked (SubmitWants (drop 27 w) (readRequest w bytes)) (readQuestion n w bytes) handed (answer.Reading x) (search chain depth 20) (ap answer.Reading h)
+          asked (SubmitWants (drop 27 w) (readRequest w bytes)) (readQuestion n w bytes) handed (QuestionAnswer.Reading x) (search chain depth 20) (ap QuestionAnswer.Reading h)
 
       pub plan-said : (q : ControlPlan) (first : PortReading) → (n ≡ 27 → ⊥) → q ≡ readPlan w → first ≡ readReading w 14
-          → x ≡ planWants q bytes first s (lent b (memory store area)) → Answers (answer.Reading x)
+          → x ≡ planWants q bytes first s (lent b (memory store area)) → Answers (QuestionAnswer.Reading x)
       unfolding questionOf readQuestion
       plan-said q first n27 eq ef h =
           let c : PlanWants q bytes first ≡ PlanWants (readPlan w) bytes (readReading w 14) = rw (eq, ef) in
-          asked (PlanWants q bytes first) (readQuestion n w bytes) handed (answer.Reading x) (search (chain, c) depth 20) (ap answer.Reading h)
+          asked (PlanWants q bytes first) (readQuestion n w bytes) handed (QuestionAnswer.Reading x) (search (chain, c) depth 20) (ap QuestionAnswer.Reading h)
 
 -- ---- the answer's words
 -- of a number up to 15 the words are neither a report nor a question

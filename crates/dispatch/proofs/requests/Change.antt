@@ -5,25 +5,24 @@ use mathlib.Core.List.{List}
 use mathlib.Core.Path.{_≡_, refl, sym, ap, _∙_}
 use Rattle.chain.specs.After.{After, after}
 use Rattle.chain.proofs.Chain.{chain, if-all}
-use Rattle.models.specs.declared.RequestId.{RequestId}
+use Rattle.models.specs.declared.{RequestId.RequestId}
 use Rattle.rows.specs.Store.{Store}
 use Rattle.bus.specs.Tables.{Bus}
 use Rattle.rules.specs.declared.Change as rules
 use Rattle.rules.specs.declared.Change.the-variants as change
 use Rattle.ledger.specs.Apply.{applyOf}
-use Rattle.ledger.specs.declared.Applied.{Applied}
-use Rattle.ledger.specs.declared.Applied.the-variants as applied
+use Rattle.ledger.specs.declared.{Applied.Applied}
 use Rattle.session.specs.Lent.{memory, lent}
 use Rattle.session.specs.Start.{guarded}
-use Rattle.session.specs.declared.Session.{Session}
+use Rattle.session.specs.declared.{Session.Session}
 use Rattle.reports.specs.Change.{reportedBy, changeOf}
-use Rattle.reports.specs.declared.Reported.{Reported}
+use Rattle.reports.specs.declared.{Reported.Reported}
 use Rattle.calls.specs.Answers.{outcome, ofReport}
 use Rattle.calls.specs.Calls.{Changing, Cancel, Timeout, Reclaim, Withdraw, Change}
 use Rattle.session_words.specs.State.{readRequestId, readSession, isSession, keptOf, keptAs}
 use Rattle.session_words.proofs.Own.{written-same}
 use Rattle.calls.specs.Step.{World, world, reports, changeBy, stepOf}
-use Rattle.calls.specs.declared.Outcome.{Outcome}
+use Rattle.calls.specs.declared.{Outcome.Outcome}
 use Rattle.call_words.specs.Decode.{readChanging}
 use Rattle.answer_words.specs.Lists.{listsOf}
 use Rattle.direct.specs.Direct.{reportedTold}
@@ -34,8 +33,8 @@ use Rattle.dispatch.proofs.Steps.{said, ran-kept}
 module _ (s : Session) where
   reported-left : (a : Applied) → reportedBy a s .session ≡ s
   unfolding reportedBy
-  reported-left (applied.Refused r) = refl
-  reported-left (applied.Done x) = refl
+  reported-left (Applied.Refused r) = refl
+  reported-left (Applied.Done x) = refl
 
   abbrev Left : After Reported Store → Type 0
   Left o = o .result .session ≡ s

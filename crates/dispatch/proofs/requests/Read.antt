@@ -6,24 +6,20 @@ use mathlib.Core.Path.{_≡_, refl, sym, ap, _∙_}
 use lib.ListN.{length}
 use Rattle.chain.specs.After.{after}
 use Rattle.chain.proofs.Chain.{chain}
-use Rattle.models.specs.declared.RequestId.{RequestId}
+use Rattle.models.specs.declared.{RequestId.RequestId}
 use Rattle.rows.specs.Store.{Store}
 use Rattle.bus.specs.Tables.{Bus}
 use Rattle.session.specs.Lent.{memory, lent}
-use Rattle.session.specs.declared.Session.{Session}
+use Rattle.session.specs.declared.{Session.Session}
 use Rattle.reports.specs.Status.{statusOf, nextOf, shownCount, completedPart, heldCountOf, tallyOf, heldBytesOf}
-use Rattle.reports.specs.declared.NextReport.{NextReport}
-use Rattle.reports.specs.declared.OptionId.{OptionId}
-use Rattle.reports.specs.declared.PartAnswer.{PartAnswer}
-use Rattle.reports.specs.declared.HeldAnswer.{HeldAnswer}
-use Rattle.reports.specs.declared.Tally.{Tally}
+use Rattle.reports.specs.declared.{HeldAnswer.HeldAnswer, NextReport.NextReport, OptionId.OptionId, PartAnswer.PartAnswer, Tally.Tally}
 use Rattle.calls.specs.Answers.{outcome, ofReport, ofNext, ofTally, ofPart}
 use Rattle.call_words.specs.Arguments.{readOptionId}
 use Rattle.calls.specs.Calls.{Reading, Status, Reports, CountReports, CompletedBytes, HeldCount, HeldBytes, Read}
 use Rattle.session_words.specs.State.{readRequestId, readSession, isSession, keptOf}
 use Rattle.session_words.proofs.Own.{written-same}
 use Rattle.calls.specs.Step.{World, world, reads, readOf, stepOf}
-use Rattle.calls.specs.declared.Answer.{Answer}
+use Rattle.calls.specs.declared.{Answer.Answer}
 use Rattle.call_words.specs.Decode.{readReporting}
 use Rattle.answer_words.specs.Encode.{answerWords, written}
 use Rattle.answer_words.specs.Lists.{listsOf}

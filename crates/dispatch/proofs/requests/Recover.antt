@@ -7,28 +7,23 @@ use lib.ListN.{getD}
 use Rattle.chain.specs.After.{After, after}
 use Rattle.chain.proofs.Chain.{chain}
 use Rattle.words.specs.Words.{readFlag}
-use Rattle.models.specs.declared.RequestId.{RequestId}
+use Rattle.models.specs.declared.{RequestId.RequestId}
 use Rattle.rows.specs.Store.{Store}
 use Rattle.bus.specs.Tables.{Bus}
 use Rattle.session.specs.Lent.{Memory, memory, lent}
-use Rattle.session.specs.declared.RecoveryKind.{RecoveryKind}
-use Rattle.session.specs.declared.RecoveryKind.the-variants as kind
-use Rattle.session.specs.declared.Session.{Session}
+use Rattle.session.specs.declared.{RecoveryKind.RecoveryKind, Session.Session}
 use Rattle.recovery.specs.Recover.{recoverOf}
 use Rattle.recovery.specs.RecoveryReply.{ReplyLists, replyLists, recoveryReplyOf}
-use Rattle.recovery.specs.declared.Begun.{Begun}
-use Rattle.recovery.specs.declared.Recovered.{Recovered}
-use Rattle.recovery.specs.declared.RecoveryReply.{RecoveryReply}
-use Rattle.recovery.specs.declared.Replied.{Replied}
+use Rattle.recovery.specs.declared.{Begun.Begun, Recovered.Recovered, RecoveryReply.RecoveryReply, Replied.Replied}
 use Rattle.recovery.specs.Reports.{filled}
-use Rattle.rows.specs.declared.Row.{Row}
+use Rattle.rows.specs.declared.{Row.Row}
 use Rattle.calls.specs.Answers.{outcome, ofBegin, ofRecovery}
 use Rattle.call_words.specs.Arguments.{readRecoveryReply, readCompleted, readCompletions, readAborted, readLists}
 use Rattle.calls.specs.Calls.{Recover, ToRecovery, Begin, Reply}
 use Rattle.answer_words.specs.Lists.{begunLists, recoveredLists, listsOf, putLists}
 use Rattle.session_words.specs.State.{readRequestId}
 use Rattle.calls.specs.Step.{World, world, begins, recovers, begunOf, repliedOf, stepOf}
-use Rattle.calls.specs.declared.Outcome.{Outcome}
+use Rattle.calls.specs.declared.{Outcome.Outcome}
 use Rattle.dispatch.specs.Apply.{ran, runOf}
 use Rattle.call_words.specs.Decode.{readRecovering}
 use Rattle.dispatch.proofs.Steps.{ran-said}
@@ -77,13 +72,13 @@ module _ (s : Session) (store : Store) (area w bytes l m : List ℕ) (r : Outcom
           ∙ ap (ran (begins x (handed b))) el
           ∙ ap (λ (z : Begun). ran (begins z (handed b)) (putLists (begunLists z) l)) h)
 
-      pub abort-run : n ≡ 22 → x ≡ recoverOf id kind.Abort s store → Runs n (memory store area)
+      pub abort-run : n ≡ 22 → x ≡ recoverOf id RecoveryKind.Abort s store → Runs n (memory store area)
       unfolding readRecovering
-      abort-run e h = begun kind.Abort (search (chain, ap (λ (z : RequestId). Begin (Recover z kind.Abort)) ei) depth 20) h
+      abort-run e h = begun RecoveryKind.Abort (search (chain, ap (λ (z : RequestId). Begin (Recover z RecoveryKind.Abort)) ei) depth 20) h
 
       pub reset-run : (f : ℕ) (preserve : Bool) → (n ≡ 22 → ⊥) → n ≡ 23 → f ≡ getD w 4 0 → preserve ≡ readFlag f
-          → x ≡ recoverOf id (kind.Reset preserve) s store → Runs n (memory store area)
+          → x ≡ recoverOf id (RecoveryKind.Reset preserve) s store → Runs n (memory store area)
       unfolding readRecovering
       reset-run f preserve n22 e ef ep h =
-          let c : Begin (Recover id (kind.Reset preserve)) ≡ Begin (Recover (readRequestId w 1) (kind.Reset (readFlag (getD w 4 0)))) = rw (ei, ep, ef) in
-          begun (kind.Reset preserve) (search (chain, c) depth 20) h
+          let c : Begin (Recover id (RecoveryKind.Reset preserve)) ≡ Begin (Recover (readRequestId w 1) (RecoveryKind.Reset (readFlag (getD w 4 0)))) = rw (ei, ep, ef) in
+          begun (RecoveryKind.Reset preserve) (search (chain, c) depth 20) h

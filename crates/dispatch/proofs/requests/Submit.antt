@@ -7,22 +7,19 @@ use lib.ListN.{getD, drop}
 use Rattle.chain.specs.After.{after}
 use Rattle.chain.proofs.Chain.{chain}
 use Rattle.words.specs.Words.{readFlag}
-use Rattle.models.specs.declared.ControlPlan.{ControlPlan}
-use Rattle.models.specs.declared.PortReading.{PortReading}
-use Rattle.models.specs.declared.RequestSpec.{RequestSpec}
-use Rattle.targets.specs.declared.Readings.{Readings}
+use Rattle.models.specs.declared.{ControlPlan.ControlPlan, PortReading.PortReading, RequestSpec.RequestSpec}
+use Rattle.targets.specs.declared.{Readings.Readings}
 use Rattle.session.specs.Lent.{Lent}
-use Rattle.session.specs.declared.Session.{Session}
+use Rattle.session.specs.declared.{Session.Session}
 use Rattle.submissions.specs.Submit.{request, submitOf}
 use Rattle.submissions.specs.Plan.{submitPlanOf}
-use Rattle.submissions.specs.declared.PlanSubmitted.{PlanSubmitted}
-use Rattle.submissions.specs.declared.Submitted.{Submitted}
+use Rattle.submissions.specs.declared.{PlanSubmitted.PlanSubmitted, Submitted.Submitted}
 use Rattle.calls.specs.Answers.{outcome, ofSubmit, ofPlan}
 use Rattle.call_words.specs.Arguments.{readSpec, readReadings, readRequest, readPlan}
 use Rattle.call_words.specs.Parts.{readReading}
 use Rattle.calls.specs.Calls.{Submit, SubmitPlan, Begin}
 use Rattle.calls.specs.Step.{world, submits, plans, begunOf, stepOf}
-use Rattle.calls.specs.declared.Outcome.{Outcome}
+use Rattle.calls.specs.declared.{Outcome.Outcome}
 use Rattle.call_words.specs.Decode.{readSubmission}
 use Rattle.dispatch.proofs.Steps.{said}
 

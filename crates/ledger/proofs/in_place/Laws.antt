@@ -10,29 +10,23 @@ use borrow.Author.Tests.{not-true}
 use Rattle.chain.specs.After.{after}
 use Rattle.chain.specs.Chain.{_if_else_}
 use Rattle.chain.specs.Lists.{foundIn}
-use Rattle.chain.specs.declared.Found.{Found}
+use Rattle.chain.specs.declared.{Found.Found}
 use Rattle.chain.specs.declared.Found.the-variants.{At}
 use Rattle.chain.proofs.Chain.{both, fits-told}
 use Rattle.models.specs.Refusals.{refusalOf}
 use Rattle.models.specs.Requests.{deviceMayAccess, isPending, sameRequest}
-use Rattle.models.specs.declared.Refusal.{Refusal}
-use Rattle.models.specs.declared.RequestId.{RequestId}
-use Rattle.models.specs.declared.RequestState.{RequestState}
+use Rattle.models.specs.declared.{Refusal.Refusal, RequestId.RequestId, RequestState.RequestState}
 use Rattle.models.specs.declared.RequestState.the-variants.{Pending, Completed, Failed, Aborted}
 use Rattle.rows.specs.Table.{readRows, emptyRow, rowAt, isHeld, isPendingRow, withToken}
 use Rattle.rows.specs.Store.{Store, storeOf, putIn}
 use Rattle.rows.specs.InPlace.{cancelIn, lateIn, cancelled, timedOut}
-use Rattle.rows.specs.declared.Row.{Row}
+use Rattle.rows.specs.declared.{Row.Row}
 use Rattle.rules.specs.Rules.{refusedBy, moved, freed, accepted, whilePending, logicalCancel, timeOut, reclaimed, changeRow}
-use Rattle.rules.specs.declared.Change.{Change}
-use Rattle.rules.specs.declared.Change.the-variants as change
-use Rattle.rules.specs.declared.Step.{Step}
+use Rattle.rules.specs.declared.{Change.Change, Step.Step}
 use Rattle.ledger.specs.Search.{isAt}
 use Rattle.ledger.specs.Apply.{applyBy, applyAt, applyOf}
 use Rattle.ledger.specs.InPlace.{reportedAt, freedAt, PlacedIn}
-use Rattle.ledger.specs.declared.Applied.the-variants as applied
-use Rattle.ledger.specs.declared.in_place.Placed.{Placed}
-use Rattle.ledger.specs.declared.in_place.Placed.the-variants as placed
+use Rattle.ledger.specs.declared.{Applied.Applied, in_place.Placed.Placed}
 use Rattle.ledger.proofs.Found.{found-row}
 
 -- what only a Pending row takes
@@ -77,12 +71,12 @@ module _ (id : RequestId) (l : List ℕ) (f : Found) (i : ℕ) (ef : f ≡ found
   step-is c x s = rw (sym ef ∙ e, s)
 
   refused-is : (c : Change) (n : ℕ) (r : Refusal) → changeRow (rowAt l i) c ≡ refusedBy n → r ≡ refusalOf n
-      → after (applied.Refused r) (storeOf l) ≡ applyOf id c (storeOf l)
+      → after (Applied.Refused r) (storeOf l) ≡ applyOf id c (storeOf l)
   unfolding applyBy
   refused-is c n r s er = rw er (sym (step-is c (refusedBy n) s))
 
   moved-is : (c : Change) (next : Row) (m : List ℕ) → changeRow (rowAt l i) c ≡ moved next → storeOf m ≡ putIn (storeOf l) i next
-      → (after (reportedAt (placed.At i) (readRows m)) (storeOf m) ≡ applyOf id c (storeOf l)) × PlacedIn (placed.At i) (readRows m)
+      → (after (reportedAt (Placed.At i) (readRows m)) (storeOf m) ≡ applyOf id c (storeOf l)) × PlacedIn (Placed.At i) (readRows m)
   unfolding applyBy moved
   moved-is c next m s w =
       (rw (read-back l m i next within w, w) (sym (step-is c (moved next) s)), still-in l m i next within w)
@@ -93,12 +87,12 @@ module _ (id : RequestId) (l : List ℕ) (f : Found) (i : ℕ) (ef : f ≡ found
 
   module _ (token : ℕ) (m : List ℕ) where
     pub accept-done : storeOf m ≡ putIn (storeOf l) i (withToken (rowAt l i) token)
-        → (after (reportedAt (placed.At i) (readRows m)) (storeOf m) ≡ applyOf id (change.Accept token) (storeOf l)) × PlacedIn (placed.At i) (readRows m)
+        → (after (reportedAt (Placed.At i) (readRows m)) (storeOf m) ≡ applyOf id (Change.Accept token) (storeOf l)) × PlacedIn (Placed.At i) (readRows m)
     unfolding changeRow accepted
-    accept-done w = moved-is (change.Accept token) (withToken (rowAt l i) token) m refl w
+    accept-done w = moved-is (Change.Accept token) (withToken (rowAt l i) token) m refl w
 
     pub accept-row : (row : Row) → row ≡ rowAt l i → storeOf m ≡ putIn (storeOf l) i (withToken row token)
-        → (after (reportedAt (placed.At i) (readRows m)) (storeOf m) ≡ applyOf id (change.Accept token) (storeOf l)) × PlacedIn (placed.At i) (readRows m)
+        → (after (reportedAt (Placed.At i) (readRows m)) (storeOf m) ≡ applyOf id (Change.Accept token) (storeOf l)) × PlacedIn (Placed.At i) (readRows m)
     accept-row row er w = accept-done (w ∙ ap (λ (y : Row). putIn (storeOf l) i (withToken y token)) er)
 
   -- cancel and timeout: 41 where the row is not Pending
@@ -107,27 +101,27 @@ module _ (id : RequestId) (l : List ℕ) (f : Found) (i : ℕ) (ef : f ≡ found
     unfolding isPendingRow
     state-pending = sym (eb ∙ rw used-row)
 
-    pub cancel-no : (r : Refusal) → not b ≡ true → r ≡ refusalOf 41 → after (applied.Refused r) (storeOf l) ≡ applyOf id change.LogicalCancel (storeOf l)
+    pub cancel-no : (r : Refusal) → not b ≡ true → r ≡ refusalOf 41 → after (Applied.Refused r) (storeOf l) ≡ applyOf id Change.LogicalCancel (storeOf l)
     unfolding changeRow logicalCancel
-    cancel-no r y er = refused-is change.LogicalCancel 41 r (settled (rowAt l i .state) _ (state-pending ∙ not-true b y)) er
+    cancel-no r y er = refused-is Change.LogicalCancel 41 r (settled (rowAt l i .state) _ (state-pending ∙ not-true b y)) er
 
-    pub timeout-no : (r : Refusal) → not b ≡ true → r ≡ refusalOf 41 → after (applied.Refused r) (storeOf l) ≡ applyOf id change.Timeout (storeOf l)
+    pub timeout-no : (r : Refusal) → not b ≡ true → r ≡ refusalOf 41 → after (Applied.Refused r) (storeOf l) ≡ applyOf id Change.Timeout (storeOf l)
     unfolding changeRow timeOut
-    timeout-no r y er = refused-is change.Timeout 41 r (settled (rowAt l i .state) _ (state-pending ∙ not-true b y)) er
+    timeout-no r y er = refused-is Change.Timeout 41 r (settled (rowAt l i .state) _ (state-pending ∙ not-true b y)) er
 
     pub pending-in : not b ≡ false → (i < length (readRows l)) × (isPendingRow (rowAt l i) ≡ true)
     pending-in y = (within, fits-told b (isPendingRow (rowAt l i)) eb y)
 
     module _ (m : List ℕ) (y : not b ≡ false) where
       pub cancel-done : storeOf m ≡ putIn (storeOf l) i (cancelled (rowAt l i))
-          → (after (reportedAt (placed.At i) (readRows m)) (storeOf m) ≡ applyOf id change.LogicalCancel (storeOf l)) × PlacedIn (placed.At i) (readRows m)
+          → (after (reportedAt (Placed.At i) (readRows m)) (storeOf m) ≡ applyOf id Change.LogicalCancel (storeOf l)) × PlacedIn (Placed.At i) (readRows m)
       unfolding changeRow logicalCancel cancelled
-      cancel-done w = moved-is change.LogicalCancel (cancelled (rowAt l i)) m (pending (rowAt l i .state) _ (state-pending ∙ fits-told b b refl y)) w
+      cancel-done w = moved-is Change.LogicalCancel (cancelled (rowAt l i)) m (pending (rowAt l i .state) _ (state-pending ∙ fits-told b b refl y)) w
 
       pub timeout-done : storeOf m ≡ putIn (storeOf l) i (timedOut (rowAt l i))
-          → (after (reportedAt (placed.At i) (readRows m)) (storeOf m) ≡ applyOf id change.Timeout (storeOf l)) × PlacedIn (placed.At i) (readRows m)
+          → (after (reportedAt (Placed.At i) (readRows m)) (storeOf m) ≡ applyOf id Change.Timeout (storeOf l)) × PlacedIn (Placed.At i) (readRows m)
       unfolding changeRow timeOut timedOut
-      timeout-done w = moved-is change.Timeout (timedOut (rowAt l i)) m (pending (rowAt l i .state) _ (state-pending ∙ fits-told b b refl y)) w
+      timeout-done w = moved-is Change.Timeout (timedOut (rowAt l i)) m (pending (rowAt l i .state) _ (state-pending ∙ fits-told b b refl y)) w
 
   -- reclaim: 42 where it is held
   module _ (b : Bool) (eb : b ≡ isHeld (rowAt l i)) where
@@ -135,15 +129,15 @@ module _ (id : RequestId) (l : List ℕ) (f : Found) (i : ℕ) (ef : f ≡ found
     unfolding isHeld
     state-held = sym (eb ∙ rw used-row)
 
-    pub reclaim-no : (r : Refusal) → b ≡ true → r ≡ refusalOf 42 → after (applied.Refused r) (storeOf l) ≡ applyOf id change.Reclaim (storeOf l)
+    pub reclaim-no : (r : Refusal) → b ≡ true → r ≡ refusalOf 42 → after (Applied.Refused r) (storeOf l) ≡ applyOf id Change.Reclaim (storeOf l)
     unfolding changeRow reclaimed _if_else_
-    reclaim-no r y er = refused-is change.Reclaim 42 r (rw (state-held ∙ y)) er
+    reclaim-no r y er = refused-is Change.Reclaim 42 r (rw (state-held ∙ y)) er
 
     pub reclaim-at : b ≡ false
-        → (freedAt (placed.At i) (storeOf l) ≡ applyOf id change.Reclaim (storeOf l)) × PlacedIn (placed.At i) (readRows l)
+        → (freedAt (Placed.At i) (storeOf l) ≡ applyOf id Change.Reclaim (storeOf l)) × PlacedIn (Placed.At i) (readRows l)
     unfolding changeRow reclaimed _if_else_ applyBy freed storeOf
-    reclaim-at y = (sym (step-is change.Reclaim (freed (rowAt l i)) (rw (state-held ∙ y))), within)
+    reclaim-at y = (sym (step-is Change.Reclaim (freed (rowAt l i)) (rw (state-held ∙ y))), within)
 
 -- what a caller knows of the place
-pub placed-in : (p : Placed) (i : ℕ) (rows : List Row) → p ≡ placed.At i → PlacedIn p rows → i < length rows
+pub placed-in : (p : Placed) (i : ℕ) (rows : List Row) → p ≡ Placed.At i → PlacedIn p rows → i < length rows
 placed-in p i rows e h = rw e at h

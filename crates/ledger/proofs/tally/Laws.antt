@@ -14,7 +14,7 @@ use Rattle.chain.specs.Lists.{sumBy, only, count}
 use Rattle.chain.proofs.Chain.{caseB}
 use Rattle.chain.proofs.Lists.{sum-suc}
 use Rattle.rows.specs.Table.{emptyRow, isHeld}
-use Rattle.rows.specs.declared.Row.{Row}
+use Rattle.rows.specs.declared.{Row.Row}
 use Rattle.ledger.specs.Tally.{saturate, heldLength, heldCount, heldBytes}
 
 module _ (w : ℕ) where

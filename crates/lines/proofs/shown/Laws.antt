@@ -1,31 +1,26 @@
 -- One law for each way out of what a line shows: its premises are the facts in hand there. Assumes nothing.
 use Prim.Native.Nat.{ℕ}
 use mathlib.Core.Path.{_≡_, ap, _∙_}
-use Rattle.models.specs.declared.RequestId.{RequestId}
-use Rattle.models.specs.declared.RequestReport.{RequestReport}
+use Rattle.models.specs.declared.{RequestId.RequestId, RequestReport.RequestReport}
 use Rattle.rows.specs.Store.{Store}
-use Rattle.session.specs.declared.Session.{Session}
-use Rattle.reports.specs.declared.HeldAnswer.{HeldAnswer}
-use Rattle.reports.specs.declared.OptionId.{OptionId}
-use Rattle.reports.specs.declared.OptionId.the-variants as option
-use Rattle.reports.specs.declared.ReportAnswer.{ReportAnswer}
-use Rattle.reports.specs.declared.ReportAnswer.the-variants as report
+use Rattle.session.specs.declared.{Session.Session}
+use Rattle.reports.specs.declared.{HeldAnswer.HeldAnswer, OptionId.OptionId, ReportAnswer.ReportAnswer}
 use Rattle.reports.specs.Status.{statusOf, heldCountOf}
 use Rattle.lines.specs.Lines.{stateLetter, noLetter, letterBy, letterOf, heldNumber, heldIn, damagedLine, eventLine}
-use Rattle.line_text.specs.declared.Line.{Line}
-use Rattle.marking.specs.declared.Marked.{Marked}
+use Rattle.line_text.specs.declared.{Line.Line}
+use Rattle.marking.specs.declared.{Marked.Marked}
 
 -- a report's letter is its state's
-pub letter-told : (a : ReportAnswer) (x : RequestReport) (r : ℕ) → a ≡ report.Report x → r ≡ stateLetter (x .state) → r ≡ letterBy a
+pub letter-told : (a : ReportAnswer) (x : RequestReport) (r : ℕ) → a ≡ ReportAnswer.Report x → r ≡ stateLetter (x .state) → r ≡ letterBy a
 letter-told a x r e h = rw e h
 
 module _ (id : OptionId) (s : Session) (store : Store) where
   -- where no id is shown
-  pub letter-none : id ≡ option.None → noLetter ≡ letterOf id s store
+  pub letter-none : id ≡ OptionId.None → noLetter ≡ letterOf id s store
   letter-none e = rw e
 
   -- an id's letter is that of its status
-  pub letter-some : (own : RequestId) (a : ReportAnswer) (r : ℕ) → id ≡ option.Some own → a ≡ statusOf own s store → r ≡ letterBy a → r ≡ letterOf id s store
+  pub letter-some : (own : RequestId) (a : ReportAnswer) (r : ℕ) → id ≡ OptionId.Some own → a ≡ statusOf own s store → r ≡ letterBy a → r ≡ letterOf id s store
   letter-some own a r e ea h = rw e (h ∙ ap letterBy ea)
 
 module _ (s : Session) (store : Store) (n : ℕ) where

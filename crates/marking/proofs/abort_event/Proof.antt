@@ -7,71 +7,14 @@ pub abort-event-spec : {M : Type 1} → statement M
 abort-event-spec =
     tie.close
     (tie.spec
-    (λ
-    c
-    κs.
-    search
-    needs)
-    (λ
-    c
-    κs.
-    search
-    needs)
-    (λ
-    c.
-    search
-    needs)
-    (λ
-    c.
-    search
-    needs)
-    (λ
-    c
-    κs.
-    search
-    needs)
-    (λ
-    c
-    κs.
-    search
-    needs)
-    (λ
-    c.
-    search
-    needs)
-    (λ
-    c.
-    search
-    abort-refused)
-    (λ
-    c.
-    search
-    needs)
-    (λ
-    c.
-    search
-    needs)
-    (λ
-    c.
-    search (
-      abort-begun,
-      (c
-          .before
-          .before
-          .before
-          .before
-          .before
-          .before
-          .before
-          .before
-          .before
-          .before
-          .before
-          .before
-          .before
-          .before
-          .before
-          .before
-          .before
-          .pre),
-    )))
+    (λ c κs. search needs)
+    (λ c κs. search needs)
+    (λ c. search needs)
+    (λ c. search needs)
+    (λ c κs. search needs)
+    (λ c κs. search needs)
+    (λ c. search needs)
+    (λ c. search abort-refused)
+    (λ c. search needs)
+    (λ c. search needs)
+    (λ c. search (abort-begun, (c .before .before .before .before .before .before .before .before .before .before .before .before .before .before .before .before .before .pre))))

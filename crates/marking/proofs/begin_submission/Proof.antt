@@ -7,42 +7,12 @@ pub begin-submission-spec : {M : Type 1} → statement M
 begin-submission-spec =
     tie.close
     (tie.spec
-    (λ
-    c
-    κs.
-    search
-    needs)
-    (λ
-    c
-    κs.
-    search
-    needs)
-    (λ
-    c.
-    search
-    needs)
-    (λ
-    c.
-    search
-    needs)
-    (λ
-    c
-    κs.
-    search
-    needs)
-    (λ
-    c.
-    search
-    needs)
-    (λ
-    c.
-    search
-    needs)
-    (λ
-    c.
-    search
-    needs)
-    (λ
-    c.
-    search
-    submission-told))
+    (λ c κs. search needs)
+    (λ c κs. search needs)
+    (λ c. search needs)
+    (λ c. search needs)
+    (λ c κs. search needs)
+    (λ c. search needs)
+    (λ c. search needs)
+    (λ c. search needs)
+    (λ c. search submission-told))

@@ -7,82 +7,17 @@ pub poll-event-spec : {M : Type 1} → statement M
 poll-event-spec =
     tie.close
     (tie.spec
-    (λ
-    c
-    κs.
-    search
-    needs)
-    (λ
-    c
-    κs.
-    search
-    needs)
-    (λ
-    c.
-    search
-    needs)
-    (λ
-    c.
-    search
-    needs)
-    (λ
-    c.
-    search
-    needs)
-    (λ
-    c
-    κs.
-    search
-    needs)
-    (λ
-    c
-    κs.
-    search
-    needs)
-    (λ
-    c.
-    search
-    needs)
-    (λ
-    c.
-    search
-    poll-refused)
-    (λ
-    c.
-    search
-    needs)
-    (λ
-    c.
-    search
-    poll-told)
-    (λ
-    c.
-    search
-    needs)
-    (λ
-    c.
-    search
-    needs)
-    (λ
-    c.
-    search (
-      poll-asked,
-      (c
-          .before
-          .before
-          .before
-          .before
-          .before
-          .before
-          .before
-          .before
-          .before
-          .before
-          .before
-          .before
-          .before
-          .before
-          .before
-          .before
-          .pre),
-    )))
+    (λ c κs. search needs)
+    (λ c κs. search needs)
+    (λ c. search needs)
+    (λ c. search needs)
+    (λ c. search needs)
+    (λ c κs. search needs)
+    (λ c κs. search needs)
+    (λ c. search needs)
+    (λ c. search poll-refused)
+    (λ c. search needs)
+    (λ c. search poll-told)
+    (λ c. search needs)
+    (λ c. search needs)
+    (λ c. search (poll-asked, (c .before .before .before .before .before .before .before .before .before .before .before .before .before .before .before .before .pre))))

@@ -6,11 +6,5 @@ pub recovered-spec : {M : Type 1} → statement M
 recovered-spec =
     tie.close
     (tie.spec
-    (λ
-    c
-    κs.
-    search
-    needs)
-    (λ
-    c.
-    cc))
+    (λ c κs. search needs)
+    (λ c. cc))

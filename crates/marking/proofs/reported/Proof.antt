@@ -6,11 +6,5 @@ pub reported-spec : {M : Type 1} → statement M
 reported-spec =
     tie.close
     (tie.spec
-    (λ
-    c
-    κs.
-    search
-    needs)
-    (λ
-    c.
-    cc))
+    (λ c κs. search needs)
+    (λ c. cc))

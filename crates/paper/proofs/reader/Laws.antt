@@ -40,7 +40,7 @@ use denote.Triple.Spec.{tripleOf}
 use denote.Triple.Statement.{Contract, Triple}
 use denote.Triple.Table.{entered}
 use denote.Triple.Walked.{Stays, AllGo, walkOf, walked, walk-meets}
-use Rattle.paper.specs.declared.reader.Reader.{Reader}
+use Rattle.paper.specs.declared.{reader.Reader.Reader}
 use Rattle.paper.proofs.reader.Reader as T
 use Rattle.paper.proofs.reader.Reader.Laws as T′
 

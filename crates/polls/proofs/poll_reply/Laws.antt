@@ -7,54 +7,29 @@ use borrow.Author.Tests.{not-true, not-false}
 use lib.ListN.{length}
 use Rattle.chain.specs.After.{After, after}
 use Rattle.chain.specs.Lists.{foundIn}
-use Rattle.chain.specs.declared.Found.{Found}
-use Rattle.chain.specs.declared.Found.the-variants as found
+use Rattle.chain.specs.declared.{Found.Found}
 use Rattle.chain.proofs.Chain.{takes, passes, not-through}
 use Rattle.words.specs.Records.{spliceCut}
-use Rattle.words.specs.declared.OptionU32.{OptionU32}
-use Rattle.words.specs.declared.OptionU32.the-variants as u32
-use Rattle.words.specs.declared.OptionU64.{OptionU64}
-use Rattle.words.specs.declared.OptionU64.the-variants as u64
+use Rattle.words.specs.declared.{OptionU32.OptionU32, OptionU64.OptionU64}
 use Rattle.models.specs.Refusals.{refusalOf, fromBackend, invalidCompletion}
-use Rattle.models.specs.declared.BackendCompletion.{BackendCompletion}
-use Rattle.models.specs.declared.OperationError.{OperationError}
-use Rattle.models.specs.declared.OptionError.{OptionError}
-use Rattle.models.specs.declared.OptionError.the-variants as error
-use Rattle.models.specs.declared.Refusal.{Refusal}
-use Rattle.models.specs.declared.RequestId.{RequestId}
-use Rattle.models.specs.declared.RequestMetadata.{RequestMetadata}
-use Rattle.models.specs.declared.RequestReport.{RequestReport}
+use Rattle.models.specs.declared.{BackendCompletion.BackendCompletion, OperationError.OperationError, OptionError.OptionError, Refusal.Refusal, RequestId.RequestId, RequestMetadata.RequestMetadata, RequestReport.RequestReport}
 use Rattle.standards.specs.Completion.{isStall}
 use Rattle.rows.specs.Table.{readRows, rowIn}
 use Rattle.rows.specs.Store.{Store, putIn}
-use Rattle.rows.specs.declared.Row.{Row}
+use Rattle.rows.specs.declared.{Row.Row}
 use Rattle.rules.specs.Rules.{changeRow, reportOf}
 use Rattle.ledger.specs.Search.{isAt}
-use Rattle.rules.specs.declared.Change.{Change}
-use Rattle.rules.specs.declared.Change.the-variants as change
-use Rattle.rules.specs.declared.Step.{Step}
-use Rattle.rules.specs.declared.Step.the-variants as step
+use Rattle.rules.specs.declared.{Change.Change, Step.Step}
 use Rattle.checks.specs.Completion.{testCompletion}
-use Rattle.checks.specs.declared.completion.CompletionTest.{CompletionTest}
-use Rattle.checks.specs.declared.completion.CompletionTest.the-variants as test
+use Rattle.checks.specs.declared.{completion.CompletionTest.CompletionTest}
 use Rattle.session.specs.Session.{marked, withFlight, withStall}
 use Rattle.session.specs.Sizes.{memorySizes, placeOf}
 use Rattle.session.specs.Lent.{Memory, memory, memoryFits}
-use Rattle.session.specs.declared.InFlight.{InFlight}
-use Rattle.session.specs.declared.InFlight.the-variants as flight
-use Rattle.session.specs.declared.OptionStall.{OptionStall}
-use Rattle.session.specs.declared.OptionStall.the-variants as stall
-use Rattle.session.specs.declared.Recovery.{Recovery}
-use Rattle.session.specs.declared.Session.{Session}
-use Rattle.session.specs.declared.Size.{Size}
-use Rattle.session.specs.declared.sizes.Place.{Place}
+use Rattle.session.specs.declared.{InFlight.InFlight, OptionStall.OptionStall, Recovery.Recovery, Session.Session, Size.Size, sizes.Place.Place}
 use Rattle.reports.specs.Answers.{effect, reportRefused}
 use Rattle.polls.specs.PollReply.{isRecovery, codeIsStall, isScopedStall, stallOf, failedAs, invalidAs, judgedTest, judgedBy, judged, storedIn, settled, pollReplyAt, pollReplyBy, pollReplyFound, pollReplyIn, pollReplyOf}
-use Rattle.polls.specs.declared.PollReply.{PollReply}
-use Rattle.polls.specs.declared.PollReply.the-variants as reply
-use Rattle.reports.specs.declared.Reported.{Reported}
-use Rattle.reports.specs.declared.ReportAnswer.the-variants as report
-use Rattle.polls.specs.declared.poll_reply.Judgement.{Judgement}
+use Rattle.polls.specs.declared.{PollReply.PollReply, poll_reply.Judgement.Judgement}
+use Rattle.reports.specs.declared.{ReportAnswer.ReportAnswer, Reported.Reported}
 use Rattle.reports.proofs.change.Laws.{reportedAs}
 use Rattle.reports.proofs.Bytes.{found-place}
 
@@ -62,7 +37,7 @@ abbrev pub judgement : Change → Session → Bool → Judgement
 judgement c s stored = record { change = c; session = s; stored = stored }
 
 -- a stall's code, and a stall
-pub code-some : (o : OptionU32) (code : ℕ) (b : Bool) → o ≡ u32.Some code → b ≡ isStall code → b ≡ codeIsStall o
+pub code-some : (o : OptionU32) (code : ℕ) (b : Bool) → o ≡ OptionU32.Some code → b ≡ isStall code → b ≡ codeIsStall o
 code-some o code b e f = f ∙ rw e
 
 pub scoped-is : (c : BackendCompletion) (e : OperationError) (a b r : Bool) → a ≡ codeIsStall (c .«completion_code») → b ≡ codeIsStall (e .«completion_code»)
@@ -71,58 +46,58 @@ scoped-is c e a b r ea eb er = rw (ea, eb, er)
 
 -- the stall to keep
 module _ (o : OptionU64) (m : RequestMetadata) (scoped : Bool) where
-  pub stall-none : o ≡ u64.None → stall.None ≡ stallOf o m scoped
+  pub stall-none : o ≡ OptionU64.None → OptionStall.None ≡ stallOf o m scoped
   unfolding stallOf
   stall-none e = rw e
 
-  module _ (n : ℕ) (e : o ≡ u64.Some n) where
-    pub stall-other : not scoped ≡ true → stall.None ≡ stallOf o m scoped
+  module _ (n : ℕ) (e : o ≡ OptionU64.Some n) where
+    pub stall-other : not scoped ≡ true → OptionStall.None ≡ stallOf o m scoped
     unfolding stallOf
     stall-other t = rw e (takes OptionStall _ _ _ _ t refl)
 
-    pub stall-some : not scoped ≡ false → stall.Some (record { revision = n; device = m .device; endpoint = m .endpoint }) ≡ stallOf o m scoped
+    pub stall-some : not scoped ≡ false → OptionStall.Some (record { revision = n; device = m .device; endpoint = m .endpoint }) ≡ stallOf o m scoped
     unfolding stallOf
     stall-some t = rw e (passes OptionStall _ _ _ _ t refl)
 
 -- a completion with an error
 module _ (s : Session) (row : Row) (c : BackendCompletion) (e : OperationError) where
-  pub failed-quiet : c .quiescent ≡ true → judgement (change.Fail e (c .«completion_code») (c .quiescent)) s false ≡ failedAs s row c e
+  pub failed-quiet : c .quiescent ≡ true → judgement (Change.Fail e (c .«completion_code») (c .quiescent)) s false ≡ failedAs s row c e
   unfolding failedAs
   failed-quiet t = takes Judgement _ _ _ _ t refl
 
   pub failed-marked : (scoped : Bool) (m next : Session) (o : OptionStall) → c .quiescent ≡ false → scoped ≡ isScopedStall c e → m ≡ marked s
       → o ≡ stallOf (m .«recovery_revision») (row .metadata) scoped → next ≡ withStall m o
-      → judgement (change.Fail e (c .«completion_code») (c .quiescent)) next false ≡ failedAs s row c e
+      → judgement (Change.Fail e (c .«completion_code») (c .quiescent)) next false ≡ failedAs s row c e
   unfolding failedAs
   failed-marked scoped m next o t es em eo en = passes Judgement _ _ _ _ t (rw (en, eo, em, es))
 
 -- a completion by its test
 module _ (s : Session) (c : BackendCompletion) where
   pub invalid-is : (r : Refusal) (m : Session) → r ≡ invalidCompletion (c .«completion_code») → m ≡ marked s
-      → judgement (change.Fail (r .error) (c .«completion_code») false) m false ≡ invalidAs s c
+      → judgement (Change.Fail (r .error) (c .«completion_code») false) m false ≡ invalidAs s c
   unfolding invalidAs
   invalid-is r m er em = rw (er, em)
 
   module _ (t : CompletionTest) where
-    pub test-valid : (actual code : ℕ) → t ≡ test.Valid actual code → judgement (change.Complete actual code) s true ≡ judgedTest t s c
+    pub test-valid : (actual code : ℕ) → t ≡ CompletionTest.Valid actual code → judgement (Change.Complete actual code) s true ≡ judgedTest t s c
     unfolding judgedTest
     test-valid actual code e = rw e
 
     module _ (j : Judgement) (ej : j ≡ invalidAs s c) where
-      pub test-missing : t ≡ test.MissingLength → j ≡ judgedTest t s c
+      pub test-missing : t ≡ CompletionTest.MissingLength → j ≡ judgedTest t s c
       unfolding judgedTest
       test-missing e = ej ∙ rw e
 
-      pub test-invalid : t ≡ test.Invalid → j ≡ judgedTest t s c
+      pub test-invalid : t ≡ CompletionTest.Invalid → j ≡ judgedTest t s c
       unfolding judgedTest
       test-invalid e = ej ∙ rw e
 
   module _ (row : Row) (given : ℕ) (j : Judgement) where
-    pub judged-error : (e : OperationError) → c .error ≡ error.Some e → j ≡ failedAs s row c e → j ≡ judged s row c given
+    pub judged-error : (e : OperationError) → c .error ≡ OptionError.Some e → j ≡ failedAs s row c e → j ≡ judged s row c given
     unfolding judged judgedBy
     judged-error e f ej = ej ∙ rw f
 
-    pub judged-test : (t : CompletionTest) → c .error ≡ error.None → t ≡ testCompletion c given (row .metadata .«requested_length») → j ≡ judgedTest t s c
+    pub judged-test : (t : CompletionTest) → c .error ≡ OptionError.None → t ≡ testCompletion c given (row .metadata .«requested_length») → j ≡ judgedTest t s c
         → j ≡ judged s row c given
     unfolding judged judgedBy
     judged-test t f et ej = ej ∙ ap (λ (x : CompletionTest). judgedTest x s c) et ∙ sym (ap (λ (o : OptionError). judgedBy o s row c given) f)
@@ -139,29 +114,29 @@ module _ (z : Size) (p : Place) (bytes : List ℕ) (stored : Bool) (area : List 
 
 -- the row takes the change
 module _ (j : Judgement) (p : Place) (bytes : List ℕ) (idle : Session) (m : Memory) (row : Row) (d : Step) (ed : d ≡ changeRow row (j .change)) where
-  pub settled-no : (r : Refusal) (x : Reported) → d ≡ step.Refused r → x ≡ reportRefused idle r
+  pub settled-no : (r : Refusal) (x : Reported) → d ≡ Step.Refused r → x ≡ reportRefused idle r
       → after x m ≡ settled (changeRow row (j .change)) j p bytes idle m
   unfolding settled
   settled-no r x e ex = rw (ex, ← ed, e)
 
-  pub settled-to : (next : Row) (x : RequestReport) (store : Store) (area : List ℕ) → d ≡ step.To next x → store ≡ putIn (m .store) (p .row) next
+  pub settled-to : (next : Row) (x : RequestReport) (store : Store) (area : List ℕ) → d ≡ Step.To next x → store ≡ putIn (m .store) (p .row) next
       → area ≡ storedIn (idle .size) p bytes (j .stored) (m .area)
-      → after (reportedAs (report.Report x) (j .session)) (memory store area) ≡ settled (changeRow row (j .change)) j p bytes idle m
+      → after (reportedAs (ReportAnswer.Report x) (j .session)) (memory store area) ≡ settled (changeRow row (j .change)) j p bytes idle m
   unfolding settled
   settled-to next x store area e es ea = rw (es, ea, ← ed, e)
 
 -- by the reply
 module _ (r : PollReply) (row : Row) (p : Place) (bytes : List ℕ) (idle : Session) (m : Memory) (own : Row) (eo : own ≡ row) where
-  pub at-nothing : (x : RequestReport) → r ≡ reply.Nothing → x ≡ reportOf own → after (reportedAs (report.Report x) idle) m ≡ pollReplyAt r row p bytes idle m
+  pub at-nothing : (x : RequestReport) → r ≡ PollReply.Nothing → x ≡ reportOf own → after (reportedAs (ReportAnswer.Report x) idle) m ≡ pollReplyAt r row p bytes idle m
   unfolding pollReplyAt
   at-nothing x e ex = rw (e, ex, eo)
 
-  pub at-error : (e : OperationError) (next : Session) (f : Refusal) (x : Reported) → r ≡ reply.Error e → next ≡ effect e idle → f ≡ fromBackend 45 e
+  pub at-error : (e : OperationError) (next : Session) (f : Refusal) (x : Reported) → r ≡ PollReply.Error e → next ≡ effect e idle → f ≡ fromBackend 45 e
       → x ≡ reportRefused next f → after x m ≡ pollReplyAt r row p bytes idle m
   unfolding pollReplyAt
   at-error e next f x t en ef ex = rw (ex, t, en, ef)
 
-  pub at-completion : (c : BackendCompletion) (j : Judgement) (y : After Reported Memory) → r ≡ reply.Completion c → j ≡ judged idle own c (length bytes)
+  pub at-completion : (c : BackendCompletion) (j : Judgement) (y : After Reported Memory) → r ≡ PollReply.Completion c → j ≡ judged idle own c (length bytes)
       → y ≡ settled (changeRow own (j .change)) j p bytes idle m → y ≡ pollReplyAt r row p bytes idle m
   unfolding pollReplyAt
   at-completion c j y t ej ey = ey ∙ rw (t, ej, eo)
@@ -173,36 +148,36 @@ module _ (id : RequestId) (r : PollReply) (bytes : List ℕ) (s : Session) (m : 
   found-unfit x t ex = takes (After Reported Memory) _ _ _ _ (not-through f _ true ef t) (rw ex)
 
   module _ (t : not f ≡ false) (g : Found) (eg : g ≡ foundIn (isAt id) (m .store .rows)) where
-    pub found-none : (x : Reported) → g ≡ found.Nothing → x ≡ reportRefused s (refusalOf 2) → after x m ≡ pollReplyFound id r bytes s m
+    pub found-none : (x : Reported) → g ≡ Found.Nothing → x ≡ reportRefused s (refusalOf 2) → after x m ≡ pollReplyFound id r bytes s m
     unfolding pollReplyFound pollReplyBy
     found-none x e ex = passes (After Reported Memory) _ _ _ _ (not-through f _ false ef t) (rw (sym eg ∙ e, ex))
 
-    pub found-at : (i : ℕ) (idle : Session) (y : After Reported Memory) → g ≡ found.At i → idle ≡ withFlight s flight.Nothing
+    pub found-at : (i : ℕ) (idle : Session) (y : After Reported Memory) → g ≡ Found.At i → idle ≡ withFlight s InFlight.Nothing
         → y ≡ pollReplyAt r (rowIn (m .store .rows) i) (placeOf (s .size) i) bytes idle m → y ≡ pollReplyFound id r bytes s m
     unfolding pollReplyFound pollReplyBy
     found-at i idle y e ei ey = passes (After Reported Memory) _ _ _ _ (not-through f _ false ef t) (ey ∙ rw (sym eg ∙ e, ei))
 
 -- the session with another operation in flight, or none, has the same sizes
 pub idle-place : (s idle : Session) (k : InFlight) (w : List ℕ) (size : ℕ) (f : Bool) → f ≡ memorySizes (s .size) (length w) size → not f ≡ false
-    → (p : Row → Bool) (g : Found) (i : ℕ) → g ≡ foundIn p (readRows w) → g ≡ found.At i → idle ≡ withFlight s k
+    → (p : Row → Bool) (g : Found) (i : ℕ) → g ≡ foundIn p (readRows w) → g ≡ Found.At i → idle ≡ withFlight s k
     → i * s .size .«row_bytes» + idle .size .«row_bytes» ≤ size
 idle-place s idle k w size f ef t p g i eg e ei = rw ei (found-place (s .size) w size f ef t p g i eg e)
 
 -- by what is in flight
 module _ (r : PollReply) (bytes : List ℕ) (s : Session) (m : Memory) where
   module _ (x : Reported) (ex : x ≡ reportRefused s (refusalOf 2)) where
-    pub reply-idle : s .«in_flight» ≡ flight.Nothing → after x m ≡ pollReplyOf r bytes s m
+    pub reply-idle : s .«in_flight» ≡ InFlight.Nothing → after x m ≡ pollReplyOf r bytes s m
     unfolding pollReplyOf pollReplyIn
     reply-idle e = rw (ex, e)
 
-    pub reply-submission : (id : RequestId) → s .«in_flight» ≡ flight.Submission id → after x m ≡ pollReplyOf r bytes s m
+    pub reply-submission : (id : RequestId) → s .«in_flight» ≡ InFlight.Submission id → after x m ≡ pollReplyOf r bytes s m
     unfolding pollReplyOf pollReplyIn
     reply-submission id e = rw (ex, e)
 
-    pub reply-recovery : (v : Recovery) → s .«in_flight» ≡ flight.Recovery v → after x m ≡ pollReplyOf r bytes s m
+    pub reply-recovery : (v : Recovery) → s .«in_flight» ≡ InFlight.Recovery v → after x m ≡ pollReplyOf r bytes s m
     unfolding pollReplyOf pollReplyIn
     reply-recovery v e = rw (ex, e)
 
-  pub reply-on : (id : RequestId) (y : After Reported Memory) → s .«in_flight» ≡ flight.Poll id → y ≡ pollReplyFound id r bytes s m → y ≡ pollReplyOf r bytes s m
+  pub reply-on : (id : RequestId) (y : After Reported Memory) → s .«in_flight» ≡ InFlight.Poll id → y ≡ pollReplyFound id r bytes s m → y ≡ pollReplyOf r bytes s m
   unfolding pollReplyOf pollReplyIn
   reply-on id y e ey = ey ∙ rw e

@@ -5,16 +5,13 @@ use mathlib.Core.Path.{_≡_, _∙_}
 use native.Mathlib.Omega.{arith}
 use lib.ListN.{length, take, drop, replicate}
 use Rattle.words.specs.Records.{splice}
-use Rattle.models.specs.declared.Refusal.{Refusal}
-use Rattle.models.specs.declared.RequestReport.{RequestReport}
-use Rattle.targets.specs.declared.wants.Wanted.{Wanted}
-use Rattle.targets.specs.declared.wants.Wanted.the-variants as wanted
-use Rattle.session.specs.declared.Session.{Session}
+use Rattle.models.specs.declared.{Refusal.Refusal, RequestReport.RequestReport}
+use Rattle.targets.specs.declared.{wants.Wanted.Wanted}
+use Rattle.session.specs.declared.{Session.Session}
 use Rattle.session_words.specs.State.{sessionWords}
-use Rattle.calls.specs.declared.Answer.the-variants as call
+use Rattle.calls.specs.declared.{Answer.Answer}
 use Rattle.answer_words.specs.Encode.{reportWords, answerWords, written}
-use Rattle.questions.specs.declared.QuestionAnswer.{QuestionAnswer}
-use Rattle.questions.specs.declared.QuestionAnswer.the-variants as answer
+use Rattle.questions.specs.declared.{QuestionAnswer.QuestionAnswer}
 use Rattle.question_words.specs.Encode.{sessionStatusWords, placedWords, wantedWords, questionWords}
 
 -- parts of words, put one behind the other
@@ -38,10 +35,10 @@ pub placed-room : (own rest : List ℕ) (x : RequestReport) → own ≡ reportWo
 unfolding reportWords
 placed-room own rest x eo er = rw (er, eo) (omega arith)
 
-pub first-exact : (x : Wanted) (n : ℕ) → x ≡ wanted.First n → 13 ∷ 1 ∷ n ∷ [] ≡ wantedWords x
+pub first-exact : (x : Wanted) (n : ℕ) → x ≡ Wanted.First n → 13 ∷ 1 ∷ n ∷ [] ≡ wantedWords x
 first-exact x n e = rw e
 
-pub second-exact : (x : Wanted) (n : ℕ) → x ≡ wanted.Second n → 13 ∷ 2 ∷ n ∷ [] ≡ wantedWords x
+pub second-exact : (x : Wanted) (n : ℕ) → x ≡ Wanted.Second n → 13 ∷ 2 ∷ n ∷ [] ≡ wantedWords x
 second-exact x n e = rw e
 
 -- an answer's words are put
@@ -49,8 +46,8 @@ module _ (a : QuestionAnswer) (out after : List ℕ) where
   pub question-put : (b : QuestionAnswer) (w : List ℕ) → a ≡ b → w ≡ questionWords b → after ≡ written w out → after ≡ written (questionWords a) out
   question-put b w ea ew e = e ∙ rw (ew, ea)
 
-  pub refused-put : (r : Refusal) → a ≡ answer.Refused r → after ≡ written (answerWords (call.Refused r)) out → after ≡ written (questionWords a) out
+  pub refused-put : (r : Refusal) → a ≡ QuestionAnswer.Refused r → after ≡ written (answerWords (Answer.Refused r)) out → after ≡ written (questionWords a) out
   refused-put r ea e = e ∙ rw ea
 
-  pub none-put : a ≡ answer.NoReport → after ≡ written (answerWords call.NoReport) out → after ≡ written (questionWords a) out
+  pub none-put : a ≡ QuestionAnswer.NoReport → after ≡ written (answerWords Answer.NoReport) out → after ≡ written (questionWords a) out
   none-put ea e = e ∙ rw ea

@@ -18,67 +18,60 @@ use Rattle.chain.proofs.Listed.{list-on}
 use Rattle.words.specs.Records.{tab, spliceCut}
 use Rattle.words.proofs.Records.{record-in, length-tab, getD-tab}
 use Rattle.models.specs.Refusals.{refusalOf, invalidCompletion}
-use Rattle.models.specs.declared.BackendCompletion.{BackendCompletion}
-use Rattle.models.specs.declared.Refusal.{Refusal}
-use Rattle.models.specs.declared.RequestReport.{RequestReport}
-use Rattle.models.specs.declared.Verdict.{Verdict}
-use Rattle.models.specs.declared.Verdict.the-variants as verdict
+use Rattle.models.specs.declared.{BackendCompletion.BackendCompletion, Refusal.Refusal, RequestReport.RequestReport, Verdict.Verdict}
 use Rattle.rows.specs.Table.{emptyRow, readRows, rowCount}
 use Rattle.rows.specs.Store.{Store, putIn, storeOf}
-use Rattle.rows.specs.declared.Row.{Row}
+use Rattle.rows.specs.declared.{Row.Row}
 use Rattle.rows.proofs.Rows.{length-readRows}
 use Rattle.rules.specs.Rules.{changeRow}
-use Rattle.rules.specs.declared.Change.the-variants as change
-use Rattle.rules.specs.declared.Step.{Step}
-use Rattle.rules.specs.declared.Step.the-variants as step
+use Rattle.rules.specs.declared.{Change.Change, Step.Step}
 use Rattle.checks.specs.Completion.{testCompletion}
-use Rattle.checks.specs.declared.completion.CompletionTest.{CompletionTest}
-use Rattle.checks.specs.declared.completion.CompletionTest.the-variants as test
+use Rattle.checks.specs.declared.{completion.CompletionTest.CompletionTest}
 use Rattle.session.specs.Lent.{Memory, memory}
-use Rattle.session.specs.declared.Size.{Size}
+use Rattle.session.specs.declared.{Size.Size}
 use Rattle.session.proofs.sizes.Laws.{place-in, place-small}
 use Rattle.scope.specs.Scope.{slotOf, meant}
 use Rattle.scope.specs.Returned.{completionWords, broughtAt, givenOf, listsAgree}
-use Rattle.scope.specs.declared.returned.Brought.{Brought}
+use Rattle.scope.specs.declared.{returned.Brought.Brought}
 use Rattle.recovery.specs.Entries.{rowCompletedBy, testedBy, completeOne, abortedBy, abortOne, onwardBy, entryAt, readEntries, completeAll, abortAll}
 use Rattle.recovery.specs.Places.{Below, Fit}
 
 -- ---- a completion of row i
 module _ (d : Step) (z : Size) (i : ℕ) (bytes : List ℕ) (store : Store) (area : List ℕ) where
-  pub completed-no : (r : Refusal) → d ≡ step.Refused r → after (verdict.Refused r) (memory store area) ≡ rowCompletedBy d z i bytes (memory store area)
+  pub completed-no : (r : Refusal) → d ≡ Step.Refused r → after (Verdict.Refused r) (memory store area) ≡ rowCompletedBy d z i bytes (memory store area)
   unfolding rowCompletedBy
   completed-no r e = rw e
 
-  pub completed-to : (next : Row) (x : RequestReport) (left : Store) (areaLeft : List ℕ) → d ≡ step.To next x → left ≡ putIn store i next
+  pub completed-to : (next : Row) (x : RequestReport) (left : Store) (areaLeft : List ℕ) → d ≡ Step.To next x → left ≡ putIn store i next
       → areaLeft ≡ spliceCut (i * z .«row_bytes») (z .«row_bytes») bytes area
-      → after verdict.Pass (memory left areaLeft) ≡ rowCompletedBy d z i bytes (memory store area)
+      → after Verdict.Pass (memory left areaLeft) ≡ rowCompletedBy d z i bytes (memory store area)
   unfolding rowCompletedBy
   completed-to next x left areaLeft e es ea = rw (es, ea, e)
 
 module _ (z : Size) (i : ℕ) (c : BackendCompletion) (bytes : List ℕ) (m : Memory) (row : Row) (t : CompletionTest)
     (er : row ≡ getD (m .store .rows) i emptyRow) (et : t ≡ testCompletion c (length bytes) (row .metadata .«requested_length»)) where
-  pub one-missing : (r : Refusal) → t ≡ test.MissingLength → r ≡ refusalOf 47 → after (verdict.Refused r) m ≡ completeOne z i c bytes m
+  pub one-missing : (r : Refusal) → t ≡ CompletionTest.MissingLength → r ≡ refusalOf 47 → after (Verdict.Refused r) m ≡ completeOne z i c bytes m
   unfolding completeOne testedBy
   one-missing r e ex = rw (ex, ← er, ← et, e)
 
-  pub one-invalid : (r : Refusal) → t ≡ test.Invalid → r ≡ invalidCompletion (c .«completion_code») → after (verdict.Refused r) m ≡ completeOne z i c bytes m
+  pub one-invalid : (r : Refusal) → t ≡ CompletionTest.Invalid → r ≡ invalidCompletion (c .«completion_code») → after (Verdict.Refused r) m ≡ completeOne z i c bytes m
   unfolding completeOne testedBy
   one-invalid r e ex = rw (ex, ← er, ← et, e)
 
-  pub one-valid : (actual n : ℕ) (d : Step) (y : After Verdict Memory) → t ≡ test.Valid actual n → d ≡ changeRow row (change.Complete actual n) → y ≡ rowCompletedBy d z i bytes m
+  pub one-valid : (actual n : ℕ) (d : Step) (y : After Verdict Memory) → t ≡ CompletionTest.Valid actual n → d ≡ changeRow row (Change.Complete actual n) → y ≡ rowCompletedBy d z i bytes m
       → y ≡ completeOne z i c bytes m
   unfolding completeOne testedBy
   one-valid actual n d y e ed ey =
       ey ∙ ap (λ (x : Step). rowCompletedBy x z i bytes m) ed
-      ∙ rw (← er, ← et, e) (ap (λ (r : Row). rowCompletedBy (changeRow r (change.Complete actual n)) z i bytes m) er)
+      ∙ rw (← er, ← et, e) (ap (λ (r : Row). rowCompletedBy (changeRow r (Change.Complete actual n)) z i bytes m) er)
 
 -- ---- an abort of row i
-module _ (i : ℕ) (store : Store) (row : Row) (d : Step) (er : row ≡ getD (store .rows) i emptyRow) (ed : d ≡ changeRow row change.ConfirmAbort) where
-  pub abort-no : (r : Refusal) → d ≡ step.Refused r → after (verdict.Refused r) store ≡ abortOne i store
+module _ (i : ℕ) (store : Store) (row : Row) (d : Step) (er : row ≡ getD (store .rows) i emptyRow) (ed : d ≡ changeRow row Change.ConfirmAbort) where
+  pub abort-no : (r : Refusal) → d ≡ Step.Refused r → after (Verdict.Refused r) store ≡ abortOne i store
   unfolding abortOne abortedBy
   abort-no r e = rw (← er, ← ed, e)
 
-  pub abort-to : (next : Row) (x : RequestReport) (left : Store) → d ≡ step.To next x → left ≡ putIn store i next → after verdict.Pass left ≡ abortOne i store
+  pub abort-to : (next : Row) (x : RequestReport) (left : Store) → d ≡ Step.To next x → left ≡ putIn store i next → after Verdict.Pass left ≡ abortOne i store
   unfolding abortOne abortedBy
   abort-to next x left e es = rw (es, ← er, ← ed, e)
 
@@ -135,13 +128,13 @@ module _ (is w₀ : List ℕ) (n : ℕ) (w : List ℕ) (k : ℕ) (e : n ≡ leng
     abort-next =
         ap (λ (x : After Verdict Store). onwardBy (x .result) x (λ (s : Store). abortAll (drop (suc k) is) s)) ev ∙ (rw (drop-cons is k 0 (omega arith)) at h)
 
-    pub abort-on : v ≡ verdict.Pass → abortAll (drop (k + 1) is) (storeOf w′) ≡ abortAll is (storeOf w₀)
+    pub abort-on : v ≡ Verdict.Pass → abortAll (drop (k + 1) is) (storeOf w′) ≡ abortAll is (storeOf w₀)
     abort-on q = rw add-one (rw q at abort-next)
 
-    pub abort-stop : (r : Refusal) → v ≡ verdict.Refused r → after v (storeOf w′) ≡ abortAll is (storeOf w₀)
+    pub abort-stop : (r : Refusal) → v ≡ Verdict.Refused r → after v (storeOf w′) ≡ abortAll is (storeOf w₀)
     abort-stop r q = rw q (rw q at abort-next)
 
-  pub abort-end : n ≤ k → after verdict.Pass (storeOf w) ≡ abortAll is (storeOf w₀)
+  pub abort-end : n ≤ k → after Verdict.Pass (storeOf w) ≡ abortAll is (storeOf w₀)
   abort-end o = let q : length is ≤ k = omega arith in let z : drop k is ≡ [] = drop-of-length-le is q in rw z at h
 
 -- ---- the loop over the completions
@@ -208,13 +201,13 @@ module _ (z : Size) (places words bytes w₀ area₀ : List ℕ) (n : ℕ) (w ar
         (ap (λ (x : After Verdict Memory). onwardBy (x .result) x (λ (m : Memory). completeAll z (drop (suc k) (readEntries places words)) (drop (b .given) (drop at bytes)) m)) one
         ∙ (rw (entries-drop places words k (omega arith), ← eb) at h))
 
-    pub complete-on : v ≡ verdict.Pass → completeAll z (drop (k + 1) (readEntries places words)) (drop (at + b .given) bytes) (memory (storeOf w′) area′) ≡ whole
+    pub complete-on : v ≡ Verdict.Pass → completeAll z (drop (k + 1) (readEntries places words)) (drop (at + b .given) bytes) (memory (storeOf w′) area′) ≡ whole
     complete-on q = rw add-one (rw q at complete-next)
 
-    pub complete-stop : (r : Refusal) → v ≡ verdict.Refused r → after v (memory (storeOf w′) area′) ≡ whole
+    pub complete-stop : (r : Refusal) → v ≡ Verdict.Refused r → after v (memory (storeOf w′) area′) ≡ whole
     complete-stop r q = rw q (rw q at complete-next)
 
-  pub complete-end : n ≤ k → after verdict.Pass (memory (storeOf w) area) ≡ whole
+  pub complete-end : n ≤ k → after Verdict.Pass (memory (storeOf w) area) ≡ whole
   complete-end o =
       let q : length (readEntries places words) ≤ k = omega (arith, entries-length places words) in
       let y : drop k (readEntries places words) ≡ [] = drop-of-length-le (readEntries places words) q in

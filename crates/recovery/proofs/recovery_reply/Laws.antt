@@ -13,30 +13,17 @@ use mir.Val.{Fits}
 use Rattle.chain.specs.After.{After, after}
 use Rattle.chain.specs.Lists.{anyIn, listed}
 use Rattle.chain.proofs.Chain.{takes, passes, both, fits-told}
-use Rattle.words.specs.declared.OptionU64.{OptionU64}
-use Rattle.words.specs.declared.OptionU64.the-variants as u64
+use Rattle.words.specs.declared.{OptionU64.OptionU64}
 use Rattle.models.specs.Refusals.{refusalOf, fromBackend}
 use Rattle.models.specs.Requests.{sameDevice}
 use Rattle.models.specs.declared.ControllerState.the-variants.{Initialized}
-use Rattle.models.specs.declared.OperationError.{OperationError}
-use Rattle.models.specs.declared.Refusal.{Refusal}
-use Rattle.models.specs.declared.RequestId.{RequestId}
-use Rattle.models.specs.declared.Verdict.{Verdict}
-use Rattle.models.specs.declared.Verdict.the-variants as verdict
+use Rattle.models.specs.declared.{OperationError.OperationError, Refusal.Refusal, RequestId.RequestId, Verdict.Verdict}
 use Rattle.rows.specs.Table.{readRows, isUncertain}
 use Rattle.rows.specs.Store.{storeOf}
-use Rattle.rows.specs.declared.Row.{Row}
+use Rattle.rows.specs.declared.{Row.Row}
 use Rattle.checks.specs.Completion.{hasError}
 use Rattle.session.specs.Session.{withController, withFlight, withStall, marked}
-use Rattle.session.specs.declared.InFlight.{InFlight}
-use Rattle.session.specs.declared.InFlight.the-variants as flight
-use Rattle.session.specs.declared.OptionStall.{OptionStall}
-use Rattle.session.specs.declared.OptionStall.the-variants as stall
-use Rattle.session.specs.declared.RecoverableStall.{RecoverableStall}
-use Rattle.session.specs.declared.Recovery.{Recovery}
-use Rattle.session.specs.declared.RecoveryKind.{RecoveryKind}
-use Rattle.session.specs.declared.RecoveryKind.the-variants as kind
-use Rattle.session.specs.declared.Session.{Session}
+use Rattle.session.specs.declared.{InFlight.InFlight, OptionStall.OptionStall, RecoverableStall.RecoverableStall, Recovery.Recovery, RecoveryKind.RecoveryKind, Session.Session, Size.Size}
 use Rattle.scope.specs.Affected.{affectedOf, tokensOf}
 use Rattle.scope.specs.Scope.{meant, inScope}
 use Rattle.scope.specs.Returned.{listsAgree}
@@ -47,21 +34,10 @@ use Rattle.scope.proofs.affected.Laws.{affected-bounded}
 use Rattle.chain.proofs.Listed.{listed-take}
 use Rattle.session.specs.Lent.{Memory, memory, memoryFits}
 use Rattle.session.specs.Sizes.{rowsFit, memorySizes}
-use Rattle.session.specs.declared.Size.{Size}
 use Rattle.session.proofs.sizes.Laws.{memory-rows, rows-sized}
 use borrow.Author.Tests.{not-false}
 use Rattle.recovery.specs.RecoveryReply.{ReplyLists, rowsMeant, recoveryRefused, replyRefused, withIds, Counts, Settles, ended, isWhole, isRevision, matching, restoredBy, resetBy, sessionAfter, refusedAfter, abortReport, concludedBy, concludedTo, settledOf, doneOf, replyBy, replySized, replyIn, recoveryReplyOf}
-use Rattle.recovery.specs.declared.AbortReport.{AbortReport}
-use Rattle.recovery.specs.declared.Ids.{Ids}
-use Rattle.recovery.specs.declared.Outcome.{Outcome}
-use Rattle.recovery.specs.declared.Recovered.{Recovered}
-use Rattle.recovery.specs.declared.RecoveryAnswer.{RecoveryAnswer}
-use Rattle.recovery.specs.declared.RecoveryAnswer.the-variants as answer
-use Rattle.recovery.specs.declared.RecoveryReply.{RecoveryReply}
-use Rattle.recovery.specs.declared.RecoveryReply.the-variants as reply
-use Rattle.recovery.specs.declared.Replied.{Replied}
-use Rattle.recovery.specs.declared.recovery_reply.Ended.{Ended}
-use Rattle.recovery.specs.declared.recovery_reply.Settled.{Settled}
+use Rattle.recovery.specs.declared.{AbortReport.AbortReport, Ids.Ids, Outcome.Outcome, Recovered.Recovered, RecoveryAnswer.RecoveryAnswer, RecoveryReply.RecoveryReply, Replied.Replied, recovery_reply.Ended.Ended, recovery_reply.Settled.Settled}
 use Rattle.recovery.proofs.Kept.{ids-kept}
 
 -- ---- the parts of a list of places
@@ -83,7 +59,7 @@ no-ids-is n e = rw e
 pub whole-is : (o : Outcome) (b : Bool) → b ≡ hasError (o .error) → (o .«restart_ready» && not b) ≡ isWhole o
 whole-is o b e = rw e
 
-pub revision-some : (o : OptionU64) (m n : ℕ) → o ≡ u64.Some m → eqb m n ≡ isRevision o n
+pub revision-some : (o : OptionU64) (m n : ℕ) → o ≡ OptionU64.Some m → eqb m n ≡ isRevision o n
 revision-some o m n e = rw e
 
 -- ---- the session after the entries
@@ -91,12 +67,12 @@ pub matches-is : (note : RecoverableStall) (x : Recovery) (certain : Bool) (s : 
     → c ≡ isRevision (s .«recovery_revision») (note .revision) → (a && eqb (note .endpoint) (x .endpoint) && certain && c) ≡ matching note x certain s
 matches-is note x certain s a c ea ec = rw (ea, ec)
 
-module _ (q : OptionStall) (x : Recovery) (certain : Bool) (s t : Session) (et : t ≡ withStall s stall.None) where
-  pub restored-none : q ≡ stall.None → t ≡ restoredBy q x certain s
+module _ (q : OptionStall) (x : Recovery) (certain : Bool) (s t : Session) (et : t ≡ withStall s OptionStall.None) where
+  pub restored-none : q ≡ OptionStall.None → t ≡ restoredBy q x certain s
   unfolding restoredBy
   restored-none e = et ∙ rw e
 
-  module _ (note : RecoverableStall) (e : q ≡ stall.Some note) (b : Bool) (eb : b ≡ matching note x certain s) where
+  module _ (note : RecoverableStall) (e : q ≡ OptionStall.Some note) (b : Bool) (eb : b ≡ matching note x certain s) where
     pub restored-on : (y : Session) → b ≡ true → y ≡ withController t Initialized (s .«recovery_revision») → y ≡ restoredBy q x certain s
     unfolding restoredBy
     restored-on y h ey = rw e (takes Session _ (matching note x certain s) _ _ (sym eb ∙ h) (rw et at ey))
@@ -106,11 +82,11 @@ module _ (q : OptionStall) (x : Recovery) (certain : Bool) (s t : Session) (et :
     restored-off h = rw e (passes Session _ (matching note x certain s) _ _ (sym eb ∙ h) et)
 
 module _ (k : RecoveryKind) (x : Recovery) (rows : List Row) (s : Session) where
-  pub reset-abort : k ≡ kind.Abort → s ≡ resetBy k x rows s
+  pub reset-abort : k ≡ RecoveryKind.Abort → s ≡ resetBy k x rows s
   unfolding resetBy
   reset-abort e = rw e
 
-  pub reset-on : (preserve u : Bool) (next : Session) → k ≡ kind.Reset preserve → u ≡ anyIn isUncertain rows
+  pub reset-on : (preserve u : Bool) (next : Session) → k ≡ RecoveryKind.Reset preserve → u ≡ anyIn isUncertain rows
       → next ≡ restoredBy (s .«recoverable_stall») x (not u) s → next ≡ resetBy k x rows s
   unfolding resetBy
   reset-on preserve u next e eu en = en ∙ rw (e, eu)
@@ -140,36 +116,36 @@ lists-are rows completed aborted a b ea eb = rw (ea, eb)
 
 module _ (z : Size) (l : RowLists) (m : Memory) (v : Verdict) (w₁ area₁ : List ℕ)
     (ev : after v (memory (storeOf w₁) area₁) ≡ completeAll z (readEntries (l .completed) (l .completions)) (l .bytes) m) where
-  pub apply-stop : (r : Refusal) → v ≡ verdict.Refused r → after v (memory (storeOf w₁) area₁) ≡ applyAll z l m
+  pub apply-stop : (r : Refusal) → v ≡ Verdict.Refused r → after v (memory (storeOf w₁) area₁) ≡ applyAll z l m
   unfolding applyAll
   apply-stop r e = rw (← ev, e)
 
-  pub apply-on : (u : Verdict) (w₂ : List ℕ) → v ≡ verdict.Pass → after u (storeOf w₂) ≡ abortAll (l .aborted) (storeOf w₁)
+  pub apply-on : (u : Verdict) (w₂ : List ℕ) → v ≡ Verdict.Pass → after u (storeOf w₂) ≡ abortAll (l .aborted) (storeOf w₁)
       → after u (memory (storeOf w₂) area₁) ≡ applyAll z l m
   unfolding applyAll
   apply-on u w₂ e eu = rw (← ev, e, ← eu)
 
 module _ (v : Verdict) (e : Ended) (report : AbortReport) (rows : List Row) where
-  pub conclude-no : (r : Refusal) (next : Session) → v ≡ verdict.Refused r → next ≡ refusedAfter r (e .idle)
-      → _≡_ {A = Settled} (record { answer = answer.Refused r; session = next }) (concludedTo v e report rows)
+  pub conclude-no : (r : Refusal) (next : Session) → v ≡ Verdict.Refused r → next ≡ refusedAfter r (e .idle)
+      → _≡_ {A = Settled} (record { answer = RecoveryAnswer.Refused r; session = next }) (concludedTo v e report rows)
   unfolding concludedTo
   conclude-no r next ev en = rw (ev, en)
 
-  pub conclude-on : (next : Session) → v ≡ verdict.Pass → next ≡ sessionAfter e rows
-      → _≡_ {A = Settled} (record { answer = answer.Report report; session = next }) (concludedTo v e report rows)
+  pub conclude-on : (next : Session) → v ≡ Verdict.Pass → next ≡ sessionAfter e rows
+      → _≡_ {A = Settled} (record { answer = RecoveryAnswer.Report report; session = next }) (concludedTo v e report rows)
   unfolding concludedTo
   conclude-on next ev en = rw (ev, en)
 
 concluded-with : (v : Verdict) (e : Ended) (report : AbortReport) (ids : Ids) (rows : List Row)
     → withIds (concludedTo v e report rows) ids ≡ concludedBy v e report ids rows
 unfolding concludedTo concludedBy
-concluded-with (verdict.Refused r) e report ids rows = refl
-concluded-with verdict.Pass e report ids rows = refl
+concluded-with (Verdict.Refused r) e report ids rows = refl
+concluded-with Verdict.Pass e report ids rows = refl
 
 concluded-counts : (v : Verdict) (e : Ended) (report : AbortReport) (rows : List Row) → Counts (concludedTo v e report rows .answer) (report .completed) (report .aborted)
 unfolding concludedTo
-concluded-counts (verdict.Refused r) e report rows = tt
-concluded-counts verdict.Pass e report rows = (refl, refl)
+concluded-counts (Verdict.Refused r) e report rows = tt
+concluded-counts Verdict.Pass e report rows = (refl, refl)
 
 pub settled-is : (e : Ended) (l : RowLists) (m : Memory) (report : AbortReport) (v : Verdict) (w₁ area₁ : List ℕ) (y : Settled)
     → report ≡ abortReport e (length (l .completed)) (length (l .aborted)) → after v (memory (storeOf w₁) area₁) ≡ applyAll (e .idle .size) l m
@@ -207,7 +183,7 @@ module _ (x : Recovery) (w list : List ℕ) (count : ℕ) (ec : take count list 
 
     pub done-is : (idle : Session) (o : Outcome) (l : ReplyLists) (area : List ℕ) (y : After Recovered Memory)
         → y ≡ doneOf (ended idle x o) (take count list) (take count own) l (memory (storeOf w) area)
-        → y ≡ replyBy (reply.Done o) x l idle (memory (storeOf w) area)
+        → y ≡ replyBy (RecoveryReply.Done o) x l idle (memory (storeOf w) area)
     unfolding replyBy storeOf
     done-is idle o l area y ey = ey ∙ rw (own-is, ec)
 
@@ -228,12 +204,12 @@ module _ (e : Ended) (affected own : List ℕ) (l : ReplyLists) (m : Memory) (wh
 
 -- ---- by the reply, the sizes and what is in flight
 module _ (p : RecoveryReply) (x : Recovery) (l : ReplyLists) (idle : Session) (m : Memory) where
-  pub reply-45 : (e : OperationError) (next : Session) (r : Refusal) (y : Replied) (rows : List Row) → p ≡ reply.Error e → next ≡ marked idle → r ≡ fromBackend 45 e
+  pub reply-45 : (e : OperationError) (next : Session) (r : Refusal) (y : Replied) (rows : List Row) → p ≡ RecoveryReply.Error e → next ≡ marked idle → r ≡ fromBackend 45 e
       → y ≡ replyRefused next r → after (filled y rows) m ≡ replyBy p x l idle m
   unfolding replyBy
   reply-45 e next r y rows f en er ey = rw (ey, en, er, f)
 
-  pub reply-done : (o : Outcome) (y : After Recovered Memory) → p ≡ reply.Done o → y ≡ replyBy (reply.Done o) x l idle m → y ≡ replyBy p x l idle m
+  pub reply-done : (o : Outcome) (y : After Recovered Memory) → p ≡ RecoveryReply.Done o → y ≡ replyBy (RecoveryReply.Done o) x l idle m → y ≡ replyBy p x l idle m
   reply-done o y f ey = ey ∙ rw f
 
 module _ (r : RecoveryReply) (x : Recovery) (l : ReplyLists) (s : Session) (m : Memory) (f : Bool) (ef : f ≡ memoryFits (s .size) m) where
@@ -246,12 +222,12 @@ module _ (r : RecoveryReply) (x : Recovery) (l : ReplyLists) (s : Session) (m : 
     unfolding replySized
     sized-49 y rows n ey = passes (After Recovered Memory) _ _ _ _ (rw ef at t) (takes (After Recovered Memory) _ _ _ _ (rw eg at n) (rw ey))
 
-    pub sized-on : (idle : Session) (y : After Recovered Memory) → not g ≡ false → idle ≡ withFlight s flight.Nothing → y ≡ replyBy r x l idle m → y ≡ replySized r x l s m
+    pub sized-on : (idle : Session) (y : After Recovered Memory) → not g ≡ false → idle ≡ withFlight s InFlight.Nothing → y ≡ replyBy r x l idle m → y ≡ replySized r x l s m
     unfolding replySized
     sized-on idle y n ei ey = passes (After Recovered Memory) _ _ _ _ (rw ef at t) (passes (After Recovered Memory) _ _ _ _ (rw eg at n) (rw ei at ey))
 
 -- what the tests of the sizes say
-pub fit-is : (s idle : Session) (w area : List ℕ) (f : Bool) → f ≡ memorySizes (s .size) (length w) (length area) → not f ≡ false → idle ≡ withFlight s flight.Nothing
+pub fit-is : (s idle : Session) (w area : List ℕ) (f : Bool) → f ≡ memorySizes (s .size) (length w) (length area) → not f ≡ false → idle ≡ withFlight s InFlight.Nothing
     → Fit (idle .size) w area
 fit-is s idle w area f e t ei = rw ei (record { sizes = fits-told f _ e t })
 
@@ -264,35 +240,35 @@ module _ (r : RecoveryReply) (l : ReplyLists) (s : Session) (m : Memory) where
     unfolding recoveryReplyOf
     refused-in e = rw ey (sym e)
 
-    pub in-idle : s .«in_flight» ≡ flight.Nothing → after (filled y rows) m ≡ recoveryReplyOf r l s m
+    pub in-idle : s .«in_flight» ≡ InFlight.Nothing → after (filled y rows) m ≡ recoveryReplyOf r l s m
     unfolding recoveryReplyOf replyIn
     in-idle e = refused-in (ap (λ (f : InFlight). replyIn f r l s m) e)
 
-    pub in-submission : (id : RequestId) → s .«in_flight» ≡ flight.Submission id → after (filled y rows) m ≡ recoveryReplyOf r l s m
+    pub in-submission : (id : RequestId) → s .«in_flight» ≡ InFlight.Submission id → after (filled y rows) m ≡ recoveryReplyOf r l s m
     unfolding recoveryReplyOf replyIn
     in-submission id e = refused-in (ap (λ (f : InFlight). replyIn f r l s m) e)
 
-    pub in-poll : (id : RequestId) → s .«in_flight» ≡ flight.Poll id → after (filled y rows) m ≡ recoveryReplyOf r l s m
+    pub in-poll : (id : RequestId) → s .«in_flight» ≡ InFlight.Poll id → after (filled y rows) m ≡ recoveryReplyOf r l s m
     unfolding recoveryReplyOf replyIn
     in-poll id e = refused-in (ap (λ (f : InFlight). replyIn f r l s m) e)
 
-  pub in-recovery : (x : Recovery) (y : After Recovered Memory) → s .«in_flight» ≡ flight.Recovery x → y ≡ replySized r x l s m → y ≡ recoveryReplyOf r l s m
+  pub in-recovery : (x : Recovery) (y : After Recovered Memory) → s .«in_flight» ≡ InFlight.Recovery x → y ≡ replySized r x l s m → y ≡ recoveryReplyOf r l s m
   unfolding recoveryReplyOf replyIn
   in-recovery x y e ey = ey ∙ rw e
 
 -- ---- the ids at the places
-pub fill-refused : (p : Replied) (rows : List Row) (r : Refusal) (ids : Ids) → p .answer ≡ answer.Refused r → ids ≡ noIds
+pub fill-refused : (p : Replied) (rows : List Row) (r : Refusal) (ids : Ids) → p .answer ≡ RecoveryAnswer.Refused r → ids ≡ noIds
     → _≡_ {A = Recovered} (record { answer = p .answer; session = p .session; ids = ids }) (filled p rows)
 fill-refused p rows r ids e ei = ap (λ (q : Ids). record { answer = p .answer; session = p .session; ids = q }) (ei ∙ sym (ap (λ (x : RecoveryAnswer). idsIn x rows (p .places)) e))
 
-module _ (p : Replied) (r : AbortReport) (e : p .answer ≡ answer.Report r) (h : manyIn (p .answer) ≤ 128) where
+module _ (p : Replied) (r : AbortReport) (e : p .answer ≡ RecoveryAnswer.Report r) (h : manyIn (p .answer) ≤ 128) where
   pub fill-few : r .completed + r .aborted ≤ 128
   fill-few = omega (arith, h, ap manyIn e)
 
   pub fill-report : (rows : List Row) (ids : Ids) → ids ≡ idLists rows (take (r .completed) (p .places)) (take (r .aborted) (drop (r .completed) (p .places)))
-      → _≡_ {A = Recovered} (record { answer = answer.Report r; session = p .session; ids = ids }) (filled p rows)
+      → _≡_ {A = Recovered} (record { answer = RecoveryAnswer.Report r; session = p .session; ids = ids }) (filled p rows)
   fill-report rows ids ei =
-      ap (λ (q : Ids). record { answer = answer.Report r; session = p .session; ids = q }) ei
+      ap (λ (q : Ids). record { answer = RecoveryAnswer.Report r; session = p .session; ids = q }) ei
       ∙ sym (ap (λ (x : RecoveryAnswer). record { answer = x; session = p .session; ids = idsIn x rows (p .places) }) e)
 
 module _ (l : List ℕ) (n m : ℕ) (few : n + m ≤ 128) (el : length l ≡ 128) where

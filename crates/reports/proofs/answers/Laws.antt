@@ -2,9 +2,9 @@
 use mathlib.Core.Bool.{Bool, true, false}
 use mathlib.Core.Path.{_≡_, refl}
 use Rattle.chain.proofs.Chain.{takes, passes, through}
-use Rattle.models.specs.declared.OperationError.{OperationError}
+use Rattle.models.specs.declared.{OperationError.OperationError}
 use Rattle.session.specs.Session.{marked}
-use Rattle.session.specs.declared.Session.{Session}
+use Rattle.session.specs.declared.{Session.Session}
 use Rattle.reports.specs.Answers.{isMild, effect}
 
 -- what a backend's error does

@@ -8,25 +8,20 @@ use lib.ListN.{length, getD, drop, length-drop}
 use lib.Seq.{getD-drop}
 use borrow.Author.Tests.{not-true, not-false, lt-ltb, le-ltb, ltb-true}
 use Rattle.chain.specs.Lists.{find, anyIn}
-use Rattle.chain.specs.declared.Found.{Found}
-use Rattle.chain.specs.declared.Found.the-variants as found
+use Rattle.chain.specs.declared.{Found.Found}
 use Rattle.chain.proofs.Chain.{caseB, takes, passes, not-through}
 use Rattle.chain.proofs.Lists.{find-on, find-here}
 use Rattle.models.specs.Refusals.{refusalOf}
-use Rattle.models.specs.declared.Refusal.{Refusal}
-use Rattle.models.specs.declared.RequestId.{RequestId}
-use Rattle.models.specs.declared.RequestReport.{RequestReport}
+use Rattle.models.specs.declared.{Refusal.Refusal, RequestId.RequestId, RequestReport.RequestReport}
 use Rattle.rows.specs.Table.{emptyRow}
 use Rattle.rows.specs.Store.{Store}
-use Rattle.rows.specs.declared.Row.{Row}
+use Rattle.rows.specs.declared.{Row.Row}
 use Rattle.rules.specs.Rules.{reportOf}
 use Rattle.session.specs.Lent.{storeFits}
-use Rattle.session.specs.declared.InFlight.{InFlight}
-use Rattle.session.specs.declared.Session.{Session}
+use Rattle.session.specs.declared.{InFlight.InFlight, Session.Session}
 use Rattle.reports.specs.Status.{isSubmitting, isShown}
 use Rattle.reports.specs.Scan.{shownFrom, placedBy, reportFrom}
-use Rattle.reports.specs.declared.PlacedReport.{PlacedReport}
-use Rattle.reports.specs.declared.PlacedReport.the-variants as placed
+use Rattle.reports.specs.declared.{PlacedReport.PlacedReport}
 
 -- whether a row has a report, by its status word and its id
 module _ (f : InFlight) (row : Row) (u : Bool) (eu : u ≡ row .used) where
@@ -59,7 +54,7 @@ module _ (f : InFlight) (l : List Row) (n place i : ℕ) (e : n ≡ length l) (h
     pub scan-on : b ≡ false → i + 1 ≤ place + find (isShown f) rest
     scan-on t = let z = left in omega (arith, find-on (isShown f) emptyRow rest (i - place) (omega arith) (omega arith) (here ∙ t))
 
-    pub scan-at : b ≡ true → found.At i ≡ shownFrom f place l
+    pub scan-at : b ≡ true → Found.At i ≡ shownFrom f place l
     unfolding shownFrom
     scan-at t =
         let n' = left in
@@ -67,34 +62,34 @@ module _ (f : InFlight) (l : List Row) (n place i : ℕ) (e : n ≡ length l) (h
         let w : place + find (isShown f) rest ≡ i = omega arith in
         rw (lt-ltb (find (isShown f) rest) (length rest) (omega arith), w)
 
-  pub scan-past : n ≤ i → found.Nothing ≡ shownFrom f place l
+  pub scan-past : n ≤ i → Found.Nothing ≡ shownFrom f place l
   unfolding shownFrom
   scan-past t = let z = left in rw (le-ltb (find (isShown f) rest) (length rest) (omega arith))
 
 -- the row that was found is one of the rows
-pub scanned-in : (f : InFlight) (place : ℕ) (l : List Row) (g : Found) (i : ℕ) → g ≡ shownFrom f place l → g ≡ found.At i → i < length l
+pub scanned-in : (f : InFlight) (place : ℕ) (l : List Row) (g : Found) (i : ℕ) → g ≡ shownFrom f place l → g ≡ Found.At i → i < length l
 unfolding shownFrom
 scanned-in f place l g i eg e =
     let r = drop place l in
     caseB (anyIn (isShown f) r)
-    (λ y. let z : found.At (place + find (isShown f) r) ≡ found.At i = sym (rw y at eg) ∙ e in
+    (λ y. let z : Found.At (place + find (isShown f) r) ≡ Found.At i = sym (rw y at eg) ∙ e in
     let q : i ≡ place + find (isShown f) r = cc in
     let m = ltb-true (find (isShown f) r) (length r) y in
     let w = length-drop place l in omega arith)
-    (λ y. let z : found.Nothing ≡ found.At i = sym (rw y at eg) ∙ e in let n : _≡_ {A = ℕ} 0 1 = cc in absurd (omega arith))
+    (λ y. let z : Found.Nothing ≡ Found.At i = sym (rw y at eg) ∙ e in let n : _≡_ {A = ℕ} 0 1 = cc in absurd (omega arith))
 
 -- 3, and the report
 module _ (place : ℕ) (s : Session) (store : Store) (b : Bool) (eb : b ≡ storeFits (s .size) store) where
-  pub from-unfit : (r : Refusal) → not b ≡ true → r ≡ refusalOf 3 → placed.Refused r ≡ reportFrom place s store
+  pub from-unfit : (r : Refusal) → not b ≡ true → r ≡ refusalOf 3 → PlacedReport.Refused r ≡ reportFrom place s store
   unfolding reportFrom
   from-unfit r t e = takes PlacedReport _ _ _ _ (not-through b _ true eb t) (rw e)
 
   module _ (nb : not b ≡ false) (g : Found) (eg : g ≡ shownFrom (s .«in_flight») place (store .rows)) where
-    pub from-none : g ≡ found.Nothing → placed.None ≡ reportFrom place s store
+    pub from-none : g ≡ Found.Nothing → PlacedReport.None ≡ reportFrom place s store
     unfolding reportFrom placedBy
     from-none t = passes PlacedReport _ _ _ _ (not-through b _ false eb nb) (rw (sym eg ∙ t))
 
-    pub from-at : (i : ℕ) (row : Row) (x : RequestReport) → g ≡ found.At i → row ≡ getD (store .rows) i emptyRow → x ≡ reportOf row
-        → placed.At i x ≡ reportFrom place s store
+    pub from-at : (i : ℕ) (row : Row) (x : RequestReport) → g ≡ Found.At i → row ≡ getD (store .rows) i emptyRow → x ≡ reportOf row
+        → PlacedReport.At i x ≡ reportFrom place s store
     unfolding reportFrom placedBy
     from-at i row x t er e = passes PlacedReport _ _ _ _ (not-through b _ false eb nb) (rw (sym eg ∙ t, e, er))

@@ -13,52 +13,35 @@ use mir.Syntax.{w64}
 use mir.Val.{Fits}
 use Rattle.chain.specs.Chain.{_if_else_}
 use Rattle.chain.specs.Lists.{only, count, foundIn}
-use Rattle.chain.specs.declared.Found.{Found}
-use Rattle.chain.specs.declared.Found.the-variants as found
+use Rattle.chain.specs.declared.{Found.Found}
 use Rattle.chain.proofs.Chain.{caseB, takes, passes, through, not-through, if-all}
 use Rattle.chain.proofs.Lists.{sum-suc}
 use Rattle.models.specs.Refusals.{refusalOf}
 use Rattle.models.specs.Requests.{sameRequest, requestBefore}
-use Rattle.models.specs.declared.Refusal.{Refusal}
-use Rattle.models.specs.declared.RequestId.{RequestId}
-use Rattle.models.specs.declared.RequestReport.{RequestReport}
+use Rattle.models.specs.declared.{Refusal.Refusal, RequestId.RequestId, RequestReport.RequestReport}
 use Rattle.rows.specs.Table.{emptyRow, readRows, rowIn, idIn}
 use Rattle.rows.specs.Store.{Store, storeOf}
-use Rattle.rows.specs.declared.Row.{Row}
+use Rattle.rows.specs.declared.{Row.Row}
 use Rattle.rules.specs.Rules.{reportOf}
 use Rattle.ledger.specs.Search.{isAt}
 use Rattle.ledger.specs.Tally.{heldCount, heldBytes}
 use Rattle.ledger.proofs.Found.{found-in}
 use Rattle.session.specs.Lent.{storeFits}
 use Rattle.session.specs.Sizes.{memorySizes}
-use Rattle.session.specs.declared.InFlight.{InFlight}
-use Rattle.session.specs.declared.InFlight.the-variants as flight
-use Rattle.session.specs.declared.Session.{Session}
+use Rattle.session.specs.declared.{InFlight.InFlight, Session.Session}
 use Rattle.session.proofs.sizes.Laws.{place-in}
 use Rattle.reports.specs.Status.{isSubmitting, shownAt, statusBy, statusOf, isShown, comesAfter, beats, isBetter, better, bestFrom, reportAt, betterAt, nextOf, shownCount, completedLength, bytesPart, partBy, completedPart, partOf, bytesOf, heldCountOf, heldBytesOf}
 use Rattle.reports.specs.Said.{partNumber}
-use Rattle.reports.specs.declared.HeldAnswer.{HeldAnswer}
-use Rattle.reports.specs.declared.HeldAnswer.the-variants as held
-use Rattle.reports.specs.declared.OptionId.{OptionId}
-use Rattle.reports.specs.declared.OptionId.the-variants as option
-use Rattle.reports.specs.declared.Part.{Part}
-use Rattle.reports.specs.declared.PartAnswer.{PartAnswer}
-use Rattle.reports.specs.declared.PartAnswer.the-variants as bytes
-use Rattle.reports.specs.declared.ReportAnswer.{ReportAnswer}
-use Rattle.reports.specs.declared.ReportAnswer.the-variants as report
-use Rattle.reports.specs.declared.NextReport.{NextReport}
-use Rattle.reports.specs.declared.NextReport.the-variants as next
-use Rattle.reports.specs.declared.Tally.{Tally}
-use Rattle.reports.specs.declared.Tally.the-variants as tally
+use Rattle.reports.specs.declared.{HeldAnswer.HeldAnswer, NextReport.NextReport, OptionId.OptionId, Part.Part, PartAnswer.PartAnswer, ReportAnswer.ReportAnswer, Tally.Tally}
 
 -- a submission in flight
-pub submitting-own : (f : InFlight) (id own : RequestId) (b : Bool) → f ≡ flight.Submission own → b ≡ sameRequest own id → b ≡ isSubmitting f id
+pub submitting-own : (f : InFlight) (id own : RequestId) (b : Bool) → f ≡ InFlight.Submission own → b ≡ sameRequest own id → b ≡ isSubmitting f id
 submitting-own f id own b e eb = eb ∙ rw e
 
 -- the row of an id that has a report
 module _ (f : InFlight) (id : RequestId) (rows : List Row) where
   module _ (b : Bool) (eb : b ≡ isSubmitting f id) where
-    pub shown-none : b ≡ true → found.Nothing ≡ shownAt f id rows
+    pub shown-none : b ≡ true → Found.Nothing ≡ shownAt f id rows
     unfolding shownAt
     shown-none t = takes Found _ _ _ _ (through b _ true eb t) refl
 
@@ -66,36 +49,36 @@ module _ (f : InFlight) (id : RequestId) (rows : List Row) where
     unfolding shownAt
     shown-find g t eg = passes Found _ _ _ _ (through b _ false eb t) eg
 
-  shown-by : (b : Bool) (i : ℕ) → (found.Nothing if b else foundIn (isAt id) rows) ≡ found.At i → i < length rows
+  shown-by : (b : Bool) (i : ℕ) → (Found.Nothing if b else foundIn (isAt id) rows) ≡ Found.At i → i < length rows
   unfolding _if_else_
   shown-by true i e = let z : _≡_ {A = ℕ} 0 1 = cc in absurd (omega arith)
   shown-by false i e = found-in (isAt id) rows _ i refl e
 
-  pub shown-in : (g : Found) (i : ℕ) → g ≡ shownAt f id rows → g ≡ found.At i → i < length rows
+  pub shown-in : (g : Found) (i : ℕ) → g ≡ shownAt f id rows → g ≡ Found.At i → i < length rows
   unfolding shownAt
   shown-in g i eg e = shown-by (isSubmitting f id) i (sym eg ∙ e)
 
 -- a request's status
 module _ (id : RequestId) (s : Session) (store : Store) (f : Bool) (ef : f ≡ storeFits (s .size) store) where
-  pub status-unfit : (r : Refusal) → not f ≡ true → r ≡ refusalOf 3 → report.Refused r ≡ statusOf id s store
+  pub status-unfit : (r : Refusal) → not f ≡ true → r ≡ refusalOf 3 → ReportAnswer.Refused r ≡ statusOf id s store
   unfolding statusOf
   status-unfit r t e = takes ReportAnswer _ _ _ _ (not-through f _ true ef t) (rw e)
 
   module _ (nf : not f ≡ false) (g : Found) (eg : g ≡ shownAt (s .«in_flight») id (store .rows)) where
-    pub status-none : (r : Refusal) → g ≡ found.Nothing → r ≡ refusalOf 40 → report.Refused r ≡ statusOf id s store
+    pub status-none : (r : Refusal) → g ≡ Found.Nothing → r ≡ refusalOf 40 → ReportAnswer.Refused r ≡ statusOf id s store
     unfolding statusOf statusBy
     status-none r t e = passes ReportAnswer _ _ _ _ (not-through f _ false ef nf) (rw (sym eg ∙ t, e))
 
-    pub status-at : (i : ℕ) (row : Row) (x : RequestReport) → g ≡ found.At i → row ≡ getD (store .rows) i emptyRow → x ≡ reportOf row
-        → report.Report x ≡ statusOf id s store
+    pub status-at : (i : ℕ) (row : Row) (x : RequestReport) → g ≡ Found.At i → row ≡ getD (store .rows) i emptyRow → x ≡ reportOf row
+        → ReportAnswer.Report x ≡ statusOf id s store
     unfolding statusOf statusBy
     status-at i row x t er e = passes ReportAnswer _ _ _ _ (not-through f _ false ef nf) (rw (sym eg ∙ t, e, er))
 
 -- the order of reports
-pub after-some : (o : OptionId) (id own : RequestId) (b : Bool) → o ≡ option.Some own → b ≡ requestBefore own id → b ≡ comesAfter o id
+pub after-some : (o : OptionId) (id own : RequestId) (b : Bool) → o ≡ OptionId.Some own → b ≡ requestBefore own id → b ≡ comesAfter o id
 after-some o id own b e eb = eb ∙ rw e
 
-pub beats-at : (rows : List Row) (best : Found) (id own : RequestId) (i : ℕ) (b : Bool) → best ≡ found.At i → own ≡ idIn rows i → b ≡ requestBefore id own
+pub beats-at : (rows : List Row) (best : Found) (id own : RequestId) (i : ℕ) (b : Bool) → best ≡ Found.At i → own ≡ idIn rows i → b ≡ requestBefore id own
     → b ≡ beats (reportAt best rows) id
 beats-at rows best id own i b e eo eb = eb ∙ rw (e, eo)
 
@@ -119,7 +102,7 @@ module _ (f : InFlight) (o : OptionId) (rows : List Row) (best : Found) (i : ℕ
     wins : (v : Bool) → (b && c) ≡ v → isBetter f o (reportAt best rows) (rowIn rows i) ≡ v
     wins v e = rw (sym ea ∙ not-false a t, ← ei, ← eb, ← ec) e
 
-    pub place-next : (b && c) ≡ true → found.At i ≡ betterAt f o rows best i
+    pub place-next : (b && c) ≡ true → Found.At i ≡ betterAt f o rows best i
     unfolding betterAt
     place-next e = takes Found _ _ _ _ (wins true e) refl
 
@@ -147,33 +130,33 @@ place-report f o l best i = caseB (isBetter f o (reportAt best l) (rowIn l i)) (
 
 -- how many rows there are up to a place, with its own
 abbrev pub upTo : Found → ℕ
-upTo (found.At i) = i + 1
-upTo found.Nothing = 0
+upTo (Found.At i) = i + 1
+upTo Found.Nothing = 0
 
 abbrev pub Leads : InFlight → OptionId → List Row → ℕ → ℕ → Found → Type 0
-Leads f o l n i best = (n ≡ length l) × (i ≤ n) × (upTo best ≤ i) × (bestFrom f o (reportAt best l) (drop i l) ≡ bestFrom f o next.None l)
+Leads f o l n i best = (n ≡ length l) × (i ≤ n) × (upTo best ≤ i) × (bestFrom f o (reportAt best l) (drop i l) ≡ bestFrom f o NextReport.None l)
 
 pub best-near : (f : InFlight) (o : OptionId) (l : List Row) (i : ℕ) (best after : Found) → upTo best ≤ i → after ≡ betterAt f o l best i → upTo after ≤ i + 1
 unfolding betterAt
-best-near f o l i best after h e = rw e (if-all (λ x. upTo x ≤ i + 1) (found.At i) _ best (omega arith) (omega arith))
+best-near f o l i best after h e = rw e (if-all (λ x. upTo x ≤ i + 1) (Found.At i) _ best (omega arith) (omega arith))
 
-module _ (f : InFlight) (o : OptionId) (l : List Row) (n i : ℕ) (best : Found) (e : n ≡ length l) (k : bestFrom f o (reportAt best l) (drop i l) ≡ bestFrom f o next.None l) where
-  pub best-on : (after : Found) → i < n → after ≡ betterAt f o l best i → bestFrom f o (reportAt after l) (drop (i + 1) l) ≡ bestFrom f o next.None l
+module _ (f : InFlight) (o : OptionId) (l : List Row) (n i : ℕ) (best : Found) (e : n ≡ length l) (k : bestFrom f o (reportAt best l) (drop i l) ≡ bestFrom f o NextReport.None l) where
+  pub best-on : (after : Found) → i < n → after ≡ betterAt f o l best i → bestFrom f o (reportAt after l) (drop (i + 1) l) ≡ bestFrom f o NextReport.None l
   best-on after h ea =
       rw (ea, place-report f o l best i, add-one) (sym (best-suc f o l (reportAt best l) i (omega arith)) ∙ k)
 
   module _ (h : n ≤ i) where
-    best-end : reportAt best l ≡ bestFrom f o next.None l
+    best-end : reportAt best l ≡ bestFrom f o NextReport.None l
     best-end = sym (best-past f o l (reportAt best l) i (omega arith)) ∙ k
 
-    pub best-none : best ≡ found.Nothing → next.None ≡ bestFrom f o next.None l
+    pub best-none : best ≡ Found.Nothing → NextReport.None ≡ bestFrom f o NextReport.None l
     best-none eb = rw eb at best-end
 
-    pub best-found : (place : ℕ) (row : Row) (x : RequestReport) → best ≡ found.At place → row ≡ rowIn l place → x ≡ reportOf row
-        → next.Report x ≡ bestFrom f o next.None l
+    pub best-found : (place : ℕ) (row : Row) (x : RequestReport) → best ≡ Found.At place → row ≡ rowIn l place → x ≡ reportOf row
+        → NextReport.Report x ≡ bestFrom f o NextReport.None l
     best-found place row x eb er ex = rw (ex, er) (rw eb at best-end)
 
-pub best-inside : (l : List Row) (n i place : ℕ) (best : Found) → n ≡ length l → i ≤ n → upTo best ≤ i → best ≡ found.At place → place < length l
+pub best-inside : (l : List Row) (n i place : ℕ) (best : Found) → n ≡ length l → i ≤ n → upTo best ≤ i → best ≡ Found.At place → place < length l
 best-inside l n i place best e h k eb = let z : place + 1 ≤ i = rw eb at k in omega arith
 
 -- how many have a report
@@ -204,56 +187,56 @@ shown-most total after i false h e = omega arith
 -- by the sizes
 module _ (s : Session) (store : Store) (f : Bool) (ef : f ≡ storeFits (s .size) store) where
   module _ (r : Refusal) (t : not f ≡ true) (er : r ≡ refusalOf 3) where
-    pub next-unfit : (o : OptionId) → next.Refused r ≡ nextOf o s store
+    pub next-unfit : (o : OptionId) → NextReport.Refused r ≡ nextOf o s store
     unfolding nextOf
     next-unfit o = takes NextReport _ _ _ _ (not-through f _ true ef t) (rw er)
 
-    pub shown-unfit : tally.Refused r ≡ shownCount s store
+    pub shown-unfit : Tally.Refused r ≡ shownCount s store
     unfolding shownCount
     shown-unfit = takes Tally _ _ _ _ (not-through f _ true ef t) (rw er)
 
-    pub held-unfit : held.Refused r ≡ heldCountOf s store
+    pub held-unfit : HeldAnswer.Refused r ≡ heldCountOf s store
     unfolding heldCountOf
     held-unfit = takes HeldAnswer _ _ _ _ (not-through f _ true ef t) (rw er)
 
-    pub bytes-unfit : tally.Refused r ≡ heldBytesOf s store
+    pub bytes-unfit : Tally.Refused r ≡ heldBytesOf s store
     unfolding heldBytesOf
     bytes-unfit = takes Tally _ _ _ _ (not-through f _ true ef t) (rw er)
 
   module _ (t : not f ≡ false) where
-    pub next-on : (o : OptionId) (x : NextReport) → x ≡ bestFrom (s .«in_flight») o next.None (store .rows) → x ≡ nextOf o s store
+    pub next-on : (o : OptionId) (x : NextReport) → x ≡ bestFrom (s .«in_flight») o NextReport.None (store .rows) → x ≡ nextOf o s store
     unfolding nextOf
     next-on o x e = passes NextReport _ _ _ _ (not-through f _ false ef t) e
 
-    pub shown-on : (n : ℕ) → n ≡ count (isShown (s .«in_flight»)) (store .rows) → tally.Number n ≡ shownCount s store
+    pub shown-on : (n : ℕ) → n ≡ count (isShown (s .«in_flight»)) (store .rows) → Tally.Number n ≡ shownCount s store
     unfolding shownCount
-    shown-on n e = passes Tally _ _ _ _ (not-through f _ false ef t) (ap tally.Number e)
+    shown-on n e = passes Tally _ _ _ _ (not-through f _ false ef t) (ap Tally.Number e)
 
-    pub held-on : (n : ℕ) → n ≡ heldCount 8 (store .rows) → held.Count n ≡ heldCountOf s store
+    pub held-on : (n : ℕ) → n ≡ heldCount 8 (store .rows) → HeldAnswer.Count n ≡ heldCountOf s store
     unfolding heldCountOf
-    held-on n e = passes HeldAnswer _ _ _ _ (not-through f _ false ef t) (ap held.Count e)
+    held-on n e = passes HeldAnswer _ _ _ _ (not-through f _ false ef t) (ap HeldAnswer.Count e)
 
-    pub bytes-on : (n : ℕ) → n ≡ heldBytes 64 (store .rows) → tally.Number n ≡ heldBytesOf s store
+    pub bytes-on : (n : ℕ) → n ≡ heldBytes 64 (store .rows) → Tally.Number n ≡ heldBytesOf s store
     unfolding heldBytesOf
-    bytes-on n e = passes Tally _ _ _ _ (not-through f _ false ef t) (ap tally.Number e)
+    bytes-on n e = passes Tally _ _ _ _ (not-through f _ false ef t) (ap Tally.Number e)
 
 -- where the bytes of a Completed request stand
 module _ (id : RequestId) (size : ℕ) (s : Session) (store : Store) (f : Bool) (ef : f ≡ memorySizes (s .size) (length (store .words)) size) where
-  pub part-unfit : (r : Refusal) → not f ≡ true → r ≡ refusalOf 3 → bytes.Refused r ≡ completedPart id size s store
+  pub part-unfit : (r : Refusal) → not f ≡ true → r ≡ refusalOf 3 → PartAnswer.Refused r ≡ completedPart id size s store
   unfolding completedPart
   part-unfit r t e = takes PartAnswer _ _ _ _ (not-through f _ true ef t) (rw e)
 
   module _ (t : not f ≡ false) (g : Found) (eg : g ≡ shownAt (s .«in_flight») id (store .rows)) where
-    pub part-none : (r : Refusal) → g ≡ found.Nothing → r ≡ refusalOf 40 → bytes.Refused r ≡ completedPart id size s store
+    pub part-none : (r : Refusal) → g ≡ Found.Nothing → r ≡ refusalOf 40 → PartAnswer.Refused r ≡ completedPart id size s store
     unfolding completedPart partBy
     part-none r e er = passes PartAnswer _ _ _ _ (not-through f _ false ef t) (rw (sym eg ∙ e, er))
 
-    pub part-at : (i len n : ℕ) (row : Row) → g ≡ found.At i → row ≡ getD (store .rows) i emptyRow → len ≡ completedLength (row .state)
-        → n ≡ min len (s .size .«row_bytes») → bytes.Part (bytesPart (i * s .size .«row_bytes») n) ≡ completedPart id size s store
+    pub part-at : (i len n : ℕ) (row : Row) → g ≡ Found.At i → row ≡ getD (store .rows) i emptyRow → len ≡ completedLength (row .state)
+        → n ≡ min len (s .size .«row_bytes») → PartAnswer.Part (bytesPart (i * s .size .«row_bytes») n) ≡ completedPart id size s store
     unfolding completedPart partBy
     part-at i len n row e er el en = passes PartAnswer _ _ _ _ (not-through f _ false ef t) (rw (sym eg ∙ e, en, el, er))
 
-pub part-empty : (a : PartAnswer) (r : Refusal) → a ≡ bytes.Refused r → bytesPart 0 0 ≡ partOf a
+pub part-empty : (a : PartAnswer) (r : Refusal) → a ≡ PartAnswer.Refused r → bytesPart 0 0 ≡ partOf a
 part-empty a r e = rw e
 
 -- it lies inside the area
@@ -267,8 +250,8 @@ module _ (id : RequestId) (s : Session) (w area : List ℕ) where
   part-by : (g : Found) → g ≡ shownAt (s .«in_flight») id (readRows w) → memorySizes (s .size) (length w) (length area) ≡ true
       → Inside (partBy g (s .size .«row_bytes») (readRows w))
   unfolding partBy
-  part-by found.Nothing eg t = omega arith
-  part-by (found.At i) eg t =
+  part-by Found.Nothing eg t = omega arith
+  part-by (Found.At i) eg t =
       omega (
         arith,
         place-in (s .size) w (length area) t i (shown-in (s .«in_flight») id (readRows w) _ i eg refl),
@@ -276,7 +259,7 @@ module _ (id : RequestId) (s : Session) (w area : List ℕ) where
       )
 
   part-fit : (fits : Bool) → fits ≡ memorySizes (s .size) (length w) (length area)
-      → Inside (bytes.Refused (refusalOf 3) if not fits else partBy (shownAt (s .«in_flight») id (readRows w)) (s .size .«row_bytes») (readRows w))
+      → Inside (PartAnswer.Refused (refusalOf 3) if not fits else partBy (shownAt (s .«in_flight») id (readRows w)) (s .size .«row_bytes») (readRows w))
   unfolding _if_else_
   part-fit true e = part-by (shownAt (s .«in_flight») id (readRows w)) refl (sym e)
   part-fit false e = omega arith

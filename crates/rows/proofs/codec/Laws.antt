@@ -6,14 +6,12 @@ use lib.Dec.{eqb}
 use borrow.Author.Tests.{eqb-true}
 use Rattle.chain.proofs.Chain.{caseB}
 use Rattle.words.specs.Words.{readFlag, flagWord, optionU32Word, optionI32Word}
-use Rattle.words.specs.declared.OptionU32.{OptionU32}
+use Rattle.words.specs.declared.{OptionU32.OptionU32}
 use Rattle.models.specs.Codes.{categoryWord}
-use Rattle.models.specs.declared.OperationError.{OperationError}
-use Rattle.models.specs.declared.RequestState.{RequestState}
+use Rattle.models.specs.declared.{OperationError.OperationError, RequestState.RequestState}
 use Rattle.models.specs.declared.RequestState.the-variants.{Pending, Completed, Failed, Aborted}
 use Rattle.rows.specs.Codec.{readStateWords, failedWords, stateWords, kindWord, stateByKind, kindBy, stateIn, rowStatus, restOf, rowStatusWords, statusWords}
-use Rattle.rows.specs.declared.codec.StateWords.{StateWords}
-use Rattle.rows.specs.declared.codec.StatusWords.{StatusWords}
+use Rattle.rows.specs.declared.{codec.StateWords.StateWords, codec.StatusWords.StatusWords}
 
 -- the words of an error
 pub failed-exact : (x : OperationError) (k : OptionU32) (q : Bool) (a c d e f : ℕ) → a ≡ categoryWord (x .category) → c ≡ flagWord q

@@ -11,11 +11,10 @@ use borrow.Author.Tests.{ne-eqb, le-ltb, eqb-true, eqb-false}
 use Rattle.chain.proofs.Chain.{caseB}
 use Rattle.words.specs.Words.{readFlag}
 use Rattle.models.specs.Requests.{deviceMayAccess, isPending, isUncertainFailure}
-use Rattle.models.specs.declared.DeviceId.{DeviceId}
-use Rattle.models.specs.declared.RequestId.{RequestId}
+use Rattle.models.specs.declared.{DeviceId.DeviceId, RequestId.RequestId}
 use Rattle.rows.specs.Codec.{readRow, readMetadata, stateByKind, kindBy}
 use Rattle.rows.specs.Table.{wordsAt, wordAt, readRows, rowCount, emptyRow, rowAt, idIn, tokenIn, isHeld, isUncertain, isPendingRow}
-use Rattle.rows.specs.declared.Row.{Row}
+use Rattle.rows.specs.declared.{Row.Row}
 use Rattle.rows.proofs.Rows.{row-is}
 
 -- one field is one word

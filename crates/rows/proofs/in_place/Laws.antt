@@ -14,18 +14,15 @@ use Rattle.words.specs.Records.{splice}
 use Rattle.words.proofs.Options.{low, flag-back}
 use Rattle.models.specs.Codes.{readTransfer, transferWord, readDirection, directionWord}
 use Rattle.models.specs.Values.{setupWords, setupTail, metadataTail}
-use Rattle.models.specs.declared.RequestState.{RequestState}
+use Rattle.models.specs.declared.{RequestState.RequestState, SetupWords.SetupWords}
 use Rattle.models.specs.declared.RequestState.the-variants.{Pending, Completed}
-use Rattle.models.specs.declared.SetupWords.{SetupWords}
 use Rattle.models.proofs.Enums.{transfer-back, direction-back}
 use Rattle.rows.specs.Codec.{readSetupWords, setupIn, readMetadata, stateByKind, kindBy, stateIn, stateWords, statusWords, statusTail, readRow, recordOf}
 use Rattle.rows.specs.Table.{recordWords, rowWords, rowCount, recordAt, wordsAt, wordAt, readRows, rowAt, emptyRow, isPendingRow, reportOf, withToken, restated, withState, flagged}
 use Rattle.rows.specs.Store.{storeOf, putIn}
 use Rattle.rows.specs.Values.{stateTail, reportValues}
 use Rattle.rows.specs.InPlace.{setupAt, stateAt, cancelIn, cancelled, timedOut, completedRow}
-use Rattle.rows.specs.declared.Row.{Row}
-use Rattle.rows.specs.declared.codec.StateWords.{StateWords}
-use Rattle.rows.specs.declared.codec.StatusWords.{StatusWords}
+use Rattle.rows.specs.declared.{Row.Row, codec.StateWords.StateWords, codec.StatusWords.StatusWords}
 use Rattle.rows.proofs.Rows.{row-is, row-at, put-row}
 use Rattle.rows.proofs.columns.Laws.{pending-is}
 

@@ -14,7 +14,7 @@ use Rattle.chain.proofs.Lists.{sum-suc, sum-take}
 use Rattle.words.specs.Records.{tab, part}
 use Rattle.words.proofs.Records.{part-getD, length-tab, getD-tab}
 use Rattle.scope.specs.Returned.{completionWords, readBrought, broughtAt, givenOf, listsAgree}
-use Rattle.scope.specs.declared.returned.Brought.{Brought}
+use Rattle.scope.specs.declared.{returned.Brought.Brought}
 
 -- what a tag r, read as v, says: x where it is k, y where not
 module _ (A : Type 0) (x y z : A) (r v k : ℕ) where

@@ -16,7 +16,7 @@ use Rattle.rows.specs.Table.{rowWords, rowCount, readRows}
 use Rattle.rows.proofs.Rows.{length-readRows}
 use Rattle.bus.specs.Layout.{busWords}
 use Rattle.session.specs.Sizes.{sized, rowsFit, areaFits, busFits, memorySizes, lentSizes}
-use Rattle.session.specs.declared.Size.{Size}
+use Rattle.session.specs.declared.{Size.Size}
 
 -- 1 to 1,024 rows of 1 to 65,536 bytes
 pub record Sized (z : Size) : Type 0 where

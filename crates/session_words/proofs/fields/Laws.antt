@@ -11,13 +11,9 @@ use Rattle.chain.proofs.Chain.{caseB, both, passes, eq-not}
 use Rattle.words.specs.Records.{splice}
 use Rattle.models.specs.Codes.{readController}
 use Rattle.models.specs.Values.{requestIdWords}
-use Rattle.models.specs.declared.ControllerState.{ControllerState}
-use Rattle.models.specs.declared.RequestId.{RequestId}
+use Rattle.models.specs.declared.{ControllerState.ControllerState, RequestId.RequestId}
 use Rattle.session.specs.Session.{isBusy, isInitialized, withFlight}
-use Rattle.session.specs.declared.InFlight.{InFlight}
-use Rattle.session.specs.declared.InFlight.the-variants as flight
-use Rattle.session.specs.declared.Session.{Session}
-use Rattle.session.specs.declared.Size.{Size}
+use Rattle.session.specs.declared.{InFlight.InFlight, Session.Session, Size.Size}
 use Rattle.session_words.specs.Fields.{isSubmitFlight, isPollFlight, flightId}
 use Rattle.session_words.specs.State.{readRequestId, readSession, sessionWords, sessionSize, standsAt, isSession, Kept, keptOf, keptAs}
 use Rattle.session_words.proofs.Own.{own-words}
@@ -63,22 +59,22 @@ module _ (l : List ℕ) where
       ∙ rw (not-true (eqb (getD l 15 0) 0) busy-words)
       (caseB (eqb (getD l 15 0) 1) (λ u. rw u) (λ u. rw u (caseB (eqb (getD l 15 0) 2) (λ v. rw v) (λ v. rw v))))
 
-idle : (f : InFlight) → isBusy f ≡ false → f ≡ flight.Nothing
-idle flight.Nothing h = refl
-idle (flight.Submission id) h = cc
-idle (flight.Poll id) h = cc
-idle (flight.Recovery x) h = cc
+idle : (f : InFlight) → isBusy f ≡ false → f ≡ InFlight.Nothing
+idle InFlight.Nothing h = refl
+idle (InFlight.Submission id) h = cc
+idle (InFlight.Poll id) h = cc
+idle (InFlight.Recovery x) h = cc
 
 -- the words of a session where nothing is in flight, and those with a poll
-poll-put : (s : Session) (id : RequestId) → s .«in_flight» ≡ flight.Nothing
-    → splice 15 (2 ∷ requestIdWords id) (sessionWords s) ≡ sessionWords (withFlight s (flight.Poll id))
+poll-put : (s : Session) (id : RequestId) → s .«in_flight» ≡ InFlight.Nothing
+    → splice 15 (2 ∷ requestIdWords id) (sessionWords s) ≡ sessionWords (withFlight s (InFlight.Poll id))
 unfolding sessionWords splice
 poll-put s id e = rw e
 
 poll-back : (s : Session) (id : RequestId) → readSession (sessionWords s) ≡ s
-    → readSession (sessionWords (withFlight s (flight.Poll id))) ≡ withFlight s (flight.Poll id)
+    → readSession (sessionWords (withFlight s (InFlight.Poll id))) ≡ withFlight s (InFlight.Poll id)
 unfolding readSession sessionWords
-poll-back s id e = ap (λ (x : Session). withFlight x (flight.Poll id)) e
+poll-back s id e = ap (λ (x : Session). withFlight x (InFlight.Poll id)) e
 
 own-size : (l : List ℕ) → isSession l ≡ true → length l ≡ 26
 unfolding isSession
@@ -88,31 +84,31 @@ pub poll-room : (l : List ℕ) → isSession l ≡ true → 15 + 4 ≤ length l
 poll-room l h = let n = own-size l h in omega arith
 
 pub poll-begun : (l after : List ℕ) (id : RequestId) → isSession l ≡ true → isBusy (readSession l .«in_flight») ≡ false
-    → after ≡ splice 15 (take 4 (2 ∷ requestIdWords id)) l → keptOf after ≡ keptAs l (withFlight (readSession l) (flight.Poll id))
+    → after ≡ splice 15 (take 4 (2 ∷ requestIdWords id)) l → keptOf after ≡ keptAs l (withFlight (readSession l) (InFlight.Poll id))
 unfolding keptAs keptOf
 poll-begun l after id h b e =
     let s = readSession l in
     let own = own-words l h in
-    let z : after ≡ sessionWords (withFlight s (flight.Poll id)) = e ∙ ap (splice 15 (2 ∷ requestIdWords id)) (sym own) ∙ poll-put s id (idle (s .«in_flight») b) in
+    let z : after ≡ sessionWords (withFlight s (InFlight.Poll id)) = e ∙ ap (splice 15 (2 ∷ requestIdWords id)) (sym own) ∙ poll-put s id (idle (s .«in_flight») b) in
     passes Kept _ _ _ _ (eq-not _ _ (own-size l h)) (rw (z, poll-back s id (ap readSession own)))
 
 -- and those with nothing in flight any more
-flight-put : (s : Session) → splice 15 (replicate 9 0) (sessionWords s) ≡ sessionWords (withFlight s flight.Nothing)
+flight-put : (s : Session) → splice 15 (replicate 9 0) (sessionWords s) ≡ sessionWords (withFlight s InFlight.Nothing)
 unfolding sessionWords splice
 flight-put s = refl
 
-flight-back : (s : Session) → readSession (sessionWords s) ≡ s → readSession (sessionWords (withFlight s flight.Nothing)) ≡ withFlight s flight.Nothing
+flight-back : (s : Session) → readSession (sessionWords s) ≡ s → readSession (sessionWords (withFlight s InFlight.Nothing)) ≡ withFlight s InFlight.Nothing
 unfolding readSession sessionWords
-flight-back s e = ap (λ (x : Session). withFlight x flight.Nothing) e
+flight-back s e = ap (λ (x : Session). withFlight x InFlight.Nothing) e
 
 pub flight-room : (l : List ℕ) → isSession l ≡ true → 15 + 9 ≤ length l
 flight-room l h = let n = own-size l h in omega arith
 
 pub flight-ended : (l after : List ℕ) → isSession l ≡ true → after ≡ splice 15 (replicate 9 0) l
-    → keptOf after ≡ keptAs l (withFlight (readSession l) flight.Nothing)
+    → keptOf after ≡ keptAs l (withFlight (readSession l) InFlight.Nothing)
 unfolding keptAs keptOf
 flight-ended l after h e =
     let s = readSession l in
     let own = own-words l h in
-    let z : after ≡ sessionWords (withFlight s flight.Nothing) = e ∙ ap (splice 15 (replicate 9 0)) (sym own) ∙ flight-put s in
+    let z : after ≡ sessionWords (withFlight s InFlight.Nothing) = e ∙ ap (splice 15 (replicate 9 0)) (sym own) ∙ flight-put s in
     passes Kept _ _ _ _ (eq-not _ _ (own-size l h)) (rw (z, flight-back s (ap readSession own)))

@@ -8,34 +8,19 @@ use borrow.Author.Tests.{eq-eqb, ne-eqb}
 use Rattle.chain.proofs.Chain.{takes, passes, eq-not, ne-not}
 use Rattle.words.specs.Records.{splice}
 use Rattle.words.specs.Words.{readOptionU64, optionU64Words}
-use Rattle.words.specs.declared.OptionU64.{OptionU64}
-use Rattle.words.specs.declared.OptionWords.{OptionWords}
+use Rattle.words.specs.declared.{OptionU64.OptionU64, OptionWords.OptionWords}
 use Rattle.words.proofs.Options.{low}
 use Rattle.models.specs.Codes.{readController, controllerWord}
-use Rattle.models.specs.declared.DeviceId.{DeviceId}
-use Rattle.models.specs.declared.ControllerState.{ControllerState}
-use Rattle.models.specs.declared.OptionPorts.{OptionPorts}
-use Rattle.models.specs.declared.OptionPorts.the-variants as ports
-use Rattle.models.specs.declared.Ports.{Ports}
-use Rattle.models.specs.declared.RequestId.{RequestId}
-use Rattle.session.specs.declared.InFlight.{InFlight}
-use Rattle.session.specs.declared.InFlight.the-variants as flight
-use Rattle.session.specs.declared.OptionStall.{OptionStall}
-use Rattle.session.specs.declared.OptionStall.the-variants as stall
-use Rattle.session.specs.declared.RecoverableStall.{RecoverableStall}
-use Rattle.session.specs.declared.Recovery.{Recovery}
-use Rattle.session.specs.declared.RecoveryKind.{RecoveryKind}
-use Rattle.session.specs.declared.Session.{Session}
+use Rattle.models.specs.declared.{ControllerState.ControllerState, DeviceId.DeviceId, OptionPorts.OptionPorts, Ports.Ports, RequestId.RequestId}
+use Rattle.session.specs.declared.{InFlight.InFlight, OptionStall.OptionStall, RecoverableStall.RecoverableStall, Recovery.Recovery, RecoveryKind.RecoveryKind, Session.Session}
 use Rattle.session_words.specs.State.{readPorts, portsWords, readDeviceWords, readRequestWords, readStall, stallWords, readKind, readFlight, readDeviceId, readRequestId, portsIn, stallIn, flightIn, recoveryFlight, flightWords, readSession, sessionWords, portsTail, revisionTail, stallTail, flightTail, Kept, keptOf, keptAs}
-use Rattle.session_words.specs.declared.state.FlightWords.{FlightWords}
-use Rattle.session_words.specs.declared.state.PortsWords.{PortsWords}
-use Rattle.session_words.specs.declared.state.StallWords.{StallWords}
+use Rattle.session_words.specs.declared.{state.FlightWords.FlightWords, state.PortsWords.PortsWords, state.StallWords.StallWords}
 
-pub ports-back : (p : Ports) → p .count < 2 ^ 8 → readPorts 1 (p .session) (p .count) ≡ ports.Some p
+pub ports-back : (p : Ports) → p .count < 2 ^ 8 → readPorts 1 (p .session) (p .count) ≡ OptionPorts.Some p
 ports-back p h = simp (low 8 h)
 
 pub stall-back : (x : RecoverableStall) → x .device .slot < 2 ^ 8 → x .endpoint < 2 ^ 8
-    → readStall 1 (x .revision) (readDeviceWords (x .device .session) (x .device .generation) (x .device .slot)) (x .endpoint) ≡ stall.Some x
+    → readStall 1 (x .revision) (readDeviceWords (x .device .session) (x .device .generation) (x .device .slot)) (x .endpoint) ≡ OptionStall.Some x
 stall-back x h k = simp (low 8 h, low 8 k)
 
 -- what is in flight, from its words
@@ -45,7 +30,7 @@ flightBy f =
     (f .kind)
 
 pub recovery-back : (x : Recovery) (f : FlightWords) → x .device .slot < 2 ^ 8 → x .endpoint < 2 ^ 8
-    → f ≡ recoveryFlight x → readKind (f .kind) ≡ x .kind → flightBy f ≡ flight.Recovery x
+    → f ≡ recoveryFlight x → readKind (f .kind) ≡ x .kind → flightBy f ≡ InFlight.Recovery x
 recovery-back x f h g ef ek =
     let z : readKind (recoveryFlight x .kind) ≡ x .kind = ap (λ (y : FlightWords). readKind (y .kind)) (sym ef) ∙ ek in
     rw ef (simp (low 8 h, low 8 g, z))
@@ -71,19 +56,19 @@ module _ (s : Session) (p : PortsWords) (c : ℕ) (r : OptionWords) (x : StallWo
 
 -- what is in flight, by its tag
 module _ (l : List ℕ) (tag : ℕ) (et : tag ≡ getD l 15 0) where
-  pub flight-nothing : tag ≡ 0 → flight.Nothing ≡ flightIn l
+  pub flight-nothing : tag ≡ 0 → InFlight.Nothing ≡ flightIn l
   flight-nothing e = simp (sym et, eq-eqb tag 0 e)
 
   module _ (some : tag ≡ 0 → ⊥) (id : RequestId) (ei : id ≡ readRequestId l 16) where
-    pub flight-submission : tag ≡ 1 → flight.Submission id ≡ flightIn l
+    pub flight-submission : tag ≡ 1 → InFlight.Submission id ≡ flightIn l
     flight-submission e = simp (sym et, ne-eqb tag 0 some, eq-eqb tag 1 e, ei)
 
     module _ (other : tag ≡ 1 → ⊥) where
-      pub flight-poll : tag ≡ 2 → flight.Poll id ≡ flightIn l
+      pub flight-poll : tag ≡ 2 → InFlight.Poll id ≡ flightIn l
       flight-poll e = simp (sym et, ne-eqb tag 0 some, ne-eqb tag 1 other, eq-eqb tag 2 e, ei)
 
       pub flight-recovery : (d : DeviceId) (e w : ℕ) (k : RecoveryKind) → (tag ≡ 2 → ⊥) → d ≡ readDeviceId l 19 → e ≡ getD l 22 0 → k ≡ readKind w
-          → w ≡ getD l 23 0 → flight.Recovery (record { target = id; device = d; endpoint = e % 2 ^ 8; kind = k }) ≡ flightIn l
+          → w ≡ getD l 23 0 → InFlight.Recovery (record { target = id; device = d; endpoint = e % 2 ^ 8; kind = k }) ≡ flightIn l
       flight-recovery d e w k h ed ee ek ew =
           simp (sym et, ne-eqb tag 0 some, ne-eqb tag 1 other, ne-eqb tag 2 h, ei, ed, ee, ek, ew)
 

@@ -2,120 +2,42 @@
 use Prim.Native.Nat.{ℕ}
 use mathlib.Core.Bool.{Bool}
 use mathlib.Core.List.{List}
-use mathlib.Core.Path.{_≡_, refl, _∙_}
+use mathlib.Core.Path.{_≡_, _∙_}
 use lib.ListN.{length}
-use Rattle.chain.specs.declared.Found.{Found}
-use Rattle.chain.specs.declared.Found.the-variants as found
-use Rattle.models.specs.declared.ControlPlan.{ControlPlan}
-use Rattle.models.specs.declared.PortReading.{PortReading}
-use Rattle.models.specs.declared.Refusal.{Refusal}
-use Rattle.models.specs.declared.RequestMetadata.{RequestMetadata}
-use Rattle.models.specs.declared.Verdict.{Verdict}
-use Rattle.models.specs.declared.Verdict.the-variants as verdict
-use Rattle.rows.specs.declared.Row.{Row}
-use Rattle.checks.specs.Packets.{packetsChecked}
-use Rattle.checks.specs.Plan.{planned}
-use Rattle.checks.specs.Prepare.{prepared}
-use Rattle.checks.specs.declared.plan.Planned.{Planned}
-use Rattle.checks.specs.declared.plan.Planned.the-variants as plan
-use Rattle.checks.specs.declared.plan.ValidatedControlPlan.{ValidatedControlPlan}
-use Rattle.checks.specs.declared.prepare.Prepared.{Prepared}
-use Rattle.checks.specs.declared.prepare.Prepared.the-variants as prepare
-use Rattle.bus.specs.Layout.{busWords}
+use Rattle.models.specs.declared.{ControlPlan.ControlPlan, PortReading.PortReading, Refusal.Refusal, RequestMetadata.RequestMetadata}
 use Rattle.bus.specs.Tables.{Bus}
+use Rattle.checks.specs.declared.{plan.ValidatedControlPlan.ValidatedControlPlan}
 use Rattle.targets.specs.Wants.{wantedReading}
-use Rattle.targets.specs.declared.Readings.{Readings}
-use Rattle.targets.specs.declared.wants.Wanted.{Wanted}
-use Rattle.targets.specs.declared.wants.Wanted.the-variants as wanted
-use Rattle.session.specs.Lent.{Lent, lentFits}
+use Rattle.targets.specs.declared.{Readings.Readings, wants.Wanted.Wanted}
+use Rattle.session.specs.Lent.{Lent}
 use Rattle.session.specs.Session.{isInitialized}
-use Rattle.session.specs.Sizes.{lentSizes}
-use Rattle.session.specs.Start.{readyOf}
-use Rattle.session.specs.declared.Session.{Session}
-use Rattle.session.proofs.start.Laws.{guard-stop, guard-on, ready-sizes}
-use Rattle.session.proofs.sizes.Laws.{lent-bus}
-use Rattle.submissions.specs.Begin.{roomIn}
+use Rattle.session.specs.declared.{Session.Session, sizes.Place.Place}
+use Rattle.submissions.specs.Admit.{admitOf, admitPlanOf}
+use Rattle.submissions.specs.Plan.{both}
 use Rattle.submissions.specs.Submit.{Request}
-use Rattle.submissions.specs.Wants.{targetWants, preparedWants, roomWants, packetsWants, submitWants, plannedWants, planRoomWants, planWants}
+use Rattle.submissions.specs.Wants.{targetWants, wantsBy, submitWants, planWantsBy, planWants}
+use Rattle.submissions.specs.declared.{admit.Admitted.Admitted, admit.AdmittedPlan.AdmittedPlan}
 
 pub target-on : (m : RequestMetadata) (x : Readings) (s : Session) (b : Bus) (t : Bool) (w : Wanted) → t ≡ isInitialized (s .state)
     → w ≡ wantedReading t (s .ports) m x b → w ≡ targetWants m x s b
 unfolding targetWants
 target-on m x s b t w e ew = ew ∙ rw e
 
-module _ (q : Request) (s : Session) (b : Bus) where
-  -- 6 to 17
-  module _ (a : Prepared) (ea : a ≡ prepared (q .spec) (length (q .bytes)) (s .size .«row_bytes»)) where
-    pub prepared-none : (r : Refusal) → a ≡ prepare.Refused r → wanted.Nothing ≡ preparedWants q s b
-    unfolding preparedWants
-    prepared-none r e = rw (← ea, e, preparedWants)
+module _ (packets : List ℕ) (q : Request) (s : Session) (l : Lent) (a : Admitted) (ea : a ≡ admitOf packets (q .given) (q .spec) (length (q .bytes)) s l) where
+  pub submit-none : (r : Refusal) → a ≡ Admitted.Refused r → Wanted.Nothing ≡ submitWants packets q s l
+  unfolding submitWants wantsBy
+  submit-none r e = rw (← ea, e)
 
-    pub prepared-wants : (m : RequestMetadata) (w : Wanted) → a ≡ prepare.Ready m → w ≡ targetWants m (q .readings) s b → w ≡ preparedWants q s b
-    unfolding preparedWants
-    prepared-wants m w e ew = ew ∙ rw (← ea, e, preparedWants)
+  pub submit-wants : (p : Place) (m : RequestMetadata) (w : Wanted) → a ≡ Admitted.Ready p m → w ≡ targetWants m (q .readings) s (l .bus) → w ≡ submitWants packets q s l
+  unfolding submitWants wantsBy
+  submit-wants p m w e ew = ew ∙ rw (← ea, e)
 
-  module _ (rows : List Row) where
-    -- 5
-    module _ (f : Found) (ef : f ≡ roomIn rows) where
-      pub room-none : f ≡ found.Nothing → wanted.Nothing ≡ roomWants q s b rows
-      unfolding roomWants
-      room-none e = rw (← ef, e, roomWants)
+module _ (q : ControlPlan) (bytes : List ℕ) (first : PortReading) (s : Session) (l : Lent) (a : AdmittedPlan) (ea : a ≡ admitPlanOf q (length bytes) s l) where
+  pub plan-none : (r : Refusal) → a ≡ AdmittedPlan.Refused r → Wanted.Nothing ≡ planWants q bytes first s l
+  unfolding planWants planWantsBy
+  plan-none r e = rw (← ea, e)
 
-      pub room-wants : (i : ℕ) (w : Wanted) → f ≡ found.At i → w ≡ preparedWants q s b → w ≡ roomWants q s b rows
-      unfolding roomWants
-      room-wants i w e ew = ew ∙ rw (← ef, e, roomWants)
-
-    -- 4
-    module _ (packets : List ℕ) (v : Verdict) (ev : v ≡ packetsChecked (q .given) packets (q .spec .«transfer_type») (q .spec .length)) where
-      pub packets-none : (r : Refusal) → v ≡ verdict.Refused r → wanted.Nothing ≡ packetsWants packets q s b rows
-      unfolding packetsWants
-      packets-none r e = rw (← ev, e, packetsWants)
-
-      pub packets-wants : (w : Wanted) → v ≡ verdict.Pass → w ≡ roomWants q s b rows → w ≡ packetsWants packets q s b rows
-      unfolding packetsWants
-      packets-wants w e ew = ew ∙ rw (← ev, e, packetsWants)
-
-module _ (q : ControlPlan) (bytes : List ℕ) (first : PortReading) (s : Session) (b : Bus) where
-  -- 18 to 25 with 6 and 7
-  module _ (a : Planned) (ea : a ≡ planned q (length bytes) (s .size .«row_bytes»)) where
-    pub planned-none : (r : Refusal) → a ≡ plan.Refused r → wanted.Nothing ≡ plannedWants q bytes first s b
-    unfolding plannedWants
-    planned-none r e = rw (← ea, e, plannedWants)
-
-    pub planned-wants : (v : ValidatedControlPlan) (w : Wanted) → a ≡ plan.Ready v → w ≡ targetWants (v .metadata) (record { first = first; second = first }) s b
-        → w ≡ plannedWants q bytes first s b
-    unfolding plannedWants
-    planned-wants v w e ew = ew ∙ rw (← ea, e, plannedWants)
-
-  -- 5
-  module _ (rows : List Row) (f : Found) (ef : f ≡ roomIn rows) where
-    pub plan-room-none : f ≡ found.Nothing → wanted.Nothing ≡ planRoomWants q bytes first s b rows
-    unfolding planRoomWants
-    plan-room-none e = rw (← ef, e, planRoomWants)
-
-    pub plan-room-wants : (i : ℕ) (w : Wanted) → f ≡ found.At i → w ≡ plannedWants q bytes first s b → w ≡ planRoomWants q bytes first s b rows
-    unfolding planRoomWants
-    plan-room-wants i w e ew = ew ∙ rw (← ef, e, planRoomWants)
-
--- 1, 3
-pub ready-bus : (s : Session) (v : Verdict) (words area bus : ℕ) → v ≡ readyOf s (lentSizes (s .size) words area bus) → v ≡ verdict.Pass → bus ≡ busWords
-ready-bus s v words area bus ev e = lent-bus (s .size) words area bus (ready-sizes s _ v ev e)
-
-module _ (s : Session) (l : Lent) (v : Verdict) (ev : v ≡ readyOf s (lentFits (s .size) l)) where
-  module _ (packets : List ℕ) (q : Request) where
-    pub submit-none : (r : Refusal) → v ≡ verdict.Refused r → wanted.Nothing ≡ submitWants packets q s l
-    unfolding submitWants
-    submit-none r e = guard-stop Wanted (λ r. wanted.Nothing) _ s _ _ v ev r e refl
-
-    pub submit-wants : (w : Wanted) → v ≡ verdict.Pass → w ≡ packetsWants packets q s (l .bus) (l .memory .store .rows) → w ≡ submitWants packets q s l
-    unfolding submitWants
-    submit-wants w e ew = guard-on Wanted _ _ s _ w v ev e ew
-
-  module _ (q : ControlPlan) (bytes : List ℕ) (first : PortReading) where
-    pub plan-none : (r : Refusal) → v ≡ verdict.Refused r → wanted.Nothing ≡ planWants q bytes first s l
-    unfolding planWants
-    plan-none r e = guard-stop Wanted (λ r. wanted.Nothing) _ s _ _ v ev r e refl
-
-    pub plan-wants : (w : Wanted) → v ≡ verdict.Pass → w ≡ planRoomWants q bytes first s (l .bus) (l .memory .store .rows) → w ≡ planWants q bytes first s l
-    unfolding planWants
-    plan-wants w e ew = guard-on Wanted _ _ s _ w v ev e ew
+  pub plan-wants : (p : Place) (v : ValidatedControlPlan) (w : Wanted) → a ≡ AdmittedPlan.Ready p v → w ≡ targetWants (v .metadata) (both first) s (l .bus)
+      → w ≡ planWants q bytes first s l
+  unfolding planWants planWantsBy
+  plan-wants p v w e ew = ew ∙ rw (← ea, e)

@@ -9,27 +9,14 @@ use Rattle.chain.proofs.Chain.{takes, passes, not-through}
 use Rattle.models.specs.Kinds.{isControl, isBulk, isIsochronous, isPrepared, isConfigured}
 use Rattle.models.specs.Refusals.{rejected}
 use Rattle.models.specs.Requests.{sameDevice}
-use Rattle.models.specs.declared.DeviceId.{DeviceId}
-use Rattle.models.specs.declared.DeviceSnapshot.{DeviceSnapshot}
-use Rattle.models.specs.declared.OptionDevice.{OptionDevice}
-use Rattle.models.specs.declared.OptionDevice.the-variants as device
-use Rattle.models.specs.declared.OptionPorts.{OptionPorts}
-use Rattle.models.specs.declared.PortReading.{PortReading}
-use Rattle.models.specs.declared.Refusal.{Refusal}
-use Rattle.models.specs.declared.RequestMetadata.{RequestMetadata}
-use Rattle.models.specs.declared.TransferType.{TransferType}
-use Rattle.models.specs.declared.Verdict.{Verdict}
-use Rattle.models.specs.declared.Verdict.the-variants as verdict
+use Rattle.models.specs.declared.{DeviceId.DeviceId, DeviceSnapshot.DeviceSnapshot, OptionDevice.OptionDevice, OptionPorts.OptionPorts, PortReading.PortReading, Refusal.Refusal, RequestMetadata.RequestMetadata, TransferType.TransferType, Verdict.Verdict}
 use Rattle.standards.specs.Ports.{portSpeed}
 use Rattle.bus.specs.Tables.{Bus, deviceAt, markAt}
 use Rattle.bus.specs.Ports.{freshPort}
 use Rattle.bus.specs.Endpoints.{hasEndpoint}
-use Rattle.bus.specs.declared.ports.PortChecked.{PortChecked}
-use Rattle.bus.specs.declared.ports.PortChecked.the-variants as checked
+use Rattle.bus.specs.declared.{ports.PortChecked.PortChecked}
 use Rattle.targets.specs.Target.{refusedDevice, knownBy, knownDevice, preparedDevice, freshDevice, checkDeviceBy, checkDevice, speedChecked, endpointBy, checkEndpoint, checkTargetBy, checkTarget}
-use Rattle.targets.specs.declared.Readings.{Readings}
-use Rattle.targets.specs.declared.target.DeviceChecked.{DeviceChecked}
-use Rattle.targets.specs.declared.target.DeviceChecked.the-variants as answer
+use Rattle.targets.specs.declared.{Readings.Readings, target.DeviceChecked.DeviceChecked}
 
 -- 26, 27, 28: m is the slot's mark
 module _ (i : Bool) (id : DeviceId) (b : Bus) (m : Bool) (em : m ≡ markAt b (id .slot)) where
@@ -42,39 +29,39 @@ module _ (i : Bool) (id : DeviceId) (b : Bus) (m : Bool) (em : m ≡ markAt b (i
     unfolding knownDevice
     known-on o r e er = passes DeviceChecked _ _ _ _ (sym em ∙ clear) (er ∙ ap (λ (x : OptionDevice). knownBy x i id) (sym e ∙ ef))
 
-    pub known-absent : (r : DeviceChecked) → found ≡ device.None → r ≡ refusedDevice 27 → r ≡ knownDevice i id b
+    pub known-absent : (r : DeviceChecked) → found ≡ OptionDevice.None → r ≡ refusedDevice 27 → r ≡ knownDevice i id b
     unfolding knownBy
-    known-absent r e er = known-on device.None r e er
+    known-absent r e er = known-on OptionDevice.None r e er
 
-    module _ (d : DeviceSnapshot) (ed : found ≡ device.Some d) (same : Bool) (es : same ≡ sameDevice (d .id) id) where
+    module _ (d : DeviceSnapshot) (ed : found ≡ OptionDevice.Some d) (same : Bool) (es : same ≡ sameDevice (d .id) id) where
       pub known-other : (r : DeviceChecked) → not same ≡ true → r ≡ refusedDevice 27 → r ≡ knownDevice i id b
       unfolding knownBy
-      known-other r e er = known-on (device.Some d) r ed (takes DeviceChecked _ _ _ _ (not-through same _ true es e) er)
+      known-other r e er = known-on (OptionDevice.Some d) r ed (takes DeviceChecked _ _ _ _ (not-through same _ true es e) er)
 
       module _ (own : not same ≡ false) where
         pub known-early : (r : DeviceChecked) → not i ≡ true → r ≡ refusedDevice 28 → r ≡ knownDevice i id b
         unfolding knownBy
         known-early r e er =
-            known-on (device.Some d) r ed (passes DeviceChecked _ _ _ _ (not-through same _ false es own) (takes DeviceChecked _ _ _ _ e er))
+            known-on (OptionDevice.Some d) r ed (passes DeviceChecked _ _ _ _ (not-through same _ false es own) (takes DeviceChecked _ _ _ _ e er))
 
-        pub known-ready : not i ≡ false → answer.Ready d ≡ knownDevice i id b
+        pub known-ready : not i ≡ false → DeviceChecked.Ready d ≡ knownDevice i id b
         unfolding knownBy
         known-ready e =
-            known-on (device.Some d) (answer.Ready d) ed
+            known-on (OptionDevice.Some d) (DeviceChecked.Ready d) ed
             (passes DeviceChecked _ _ _ _ (not-through same _ false es own) (passes DeviceChecked _ _ _ _ e refl))
 
 -- 35
 module _ (p : PortChecked) (d : DeviceSnapshot) where
-  pub prepared-refused : (r : Refusal) → p ≡ checked.Refused r → answer.Refused r ≡ preparedDevice p d
+  pub prepared-refused : (r : Refusal) → p ≡ PortChecked.Refused r → DeviceChecked.Refused r ≡ preparedDevice p d
   unfolding preparedDevice
   prepared-refused r e = rw e
 
-  module _ (raw : ℕ) (ep : p ≡ checked.Read raw) (t : Bool) (et : t ≡ isPrepared (d .state)) where
+  module _ (raw : ℕ) (ep : p ≡ PortChecked.Read raw) (t : Bool) (et : t ≡ isPrepared (d .state)) where
     pub prepared-early : (r : DeviceChecked) → not t ≡ true → r ≡ refusedDevice 35 → r ≡ preparedDevice p d
     unfolding preparedDevice
     prepared-early r e er = rw ep (takes DeviceChecked _ _ _ _ (not-through t _ true et e) er)
 
-    pub prepared-ready : not t ≡ false → answer.Ready d ≡ preparedDevice p d
+    pub prepared-ready : not t ≡ false → DeviceChecked.Ready d ≡ preparedDevice p d
     unfolding preparedDevice
     prepared-ready e = rw ep (passes DeviceChecked _ _ _ _ (not-through t _ false et e) refl)
 
@@ -86,11 +73,11 @@ fresh-is o d reading b left p r e er = rw (er, ← e)
 
 -- 26 to 35
 module _ (i : Bool) (o : OptionPorts) (id : DeviceId) (reading : PortReading) (b : Bus) (k : DeviceChecked) (ek : k ≡ knownDevice i id b) where
-  pub device-refused : (r : Refusal) → k ≡ answer.Refused r → after (answer.Refused r) b ≡ checkDevice i o id reading b
+  pub device-refused : (r : Refusal) → k ≡ DeviceChecked.Refused r → after (DeviceChecked.Refused r) b ≡ checkDevice i o id reading b
   unfolding checkDevice checkDeviceBy
   device-refused r e = rw (← ek, e)
 
-  pub device-fresh : (d : DeviceSnapshot) (r : DeviceChecked) (left : Bus) → k ≡ answer.Ready d → after r left ≡ freshDevice o d reading b
+  pub device-fresh : (d : DeviceSnapshot) (r : DeviceChecked) (left : Bus) → k ≡ DeviceChecked.Ready d → after r left ≡ freshDevice o d reading b
       → after r left ≡ checkDevice i o id reading b
   unfolding checkDevice checkDeviceBy
   device-fresh d r left e er = er ∙ rw (← ek, e)
@@ -107,7 +94,7 @@ module _ (raw slot endpoint : ℕ) (type : TransferType) (b : Bus) (speed : ℕ)
     speed-isochronous r e er = passes Verdict _ _ _ _ (rw (es, eb) at noBulk) (takes Verdict _ _ _ _ (rw (es, ei) at e) er)
 
     module _ (neither : (eqb speed 2 && isochronous) ≡ false) where
-      pub placed-by : (r : Verdict) → r ≡ (rejected 38 if not (hasEndpoint slot endpoint type b) else verdict.Pass) → r ≡ speedChecked raw slot endpoint type b
+      pub placed-by : (r : Verdict) → r ≡ (rejected 38 if not (hasEndpoint slot endpoint type b) else Verdict.Pass) → r ≡ speedChecked raw slot endpoint type b
       unfolding speedChecked
       placed-by r er = passes Verdict _ _ _ _ (rw (es, eb) at noBulk) (passes Verdict _ _ _ _ (rw (es, ei) at neither) er)
 
@@ -115,16 +102,16 @@ module _ (raw slot endpoint : ℕ) (type : TransferType) (b : Bus) (speed : ℕ)
         pub speed-absent : (r : Verdict) → not t ≡ true → r ≡ rejected 38 → r ≡ speedChecked raw slot endpoint type b
         speed-absent r e er = placed-by r (takes Verdict _ _ _ _ (not-through t _ true et e) er)
 
-        pub speed-pass : not t ≡ false → verdict.Pass ≡ speedChecked raw slot endpoint type b
-        speed-pass e = placed-by verdict.Pass (passes Verdict _ _ _ _ (not-through t _ false et e) refl)
+        pub speed-pass : not t ≡ false → Verdict.Pass ≡ speedChecked raw slot endpoint type b
+        speed-pass e = placed-by Verdict.Pass (passes Verdict _ _ _ _ (not-through t _ false et e) refl)
 
 -- the second reading, then 37, 58 and 38
 module _ (p : PortChecked) (m : RequestMetadata) (b : Bus) where
-  pub read-refused : (r : Refusal) → p ≡ checked.Refused r → verdict.Refused r ≡ endpointBy p m b
+  pub read-refused : (r : Refusal) → p ≡ PortChecked.Refused r → Verdict.Refused r ≡ endpointBy p m b
   unfolding endpointBy
   read-refused r e = rw e
 
-  pub read-on : (raw : ℕ) (r : Verdict) → p ≡ checked.Read raw → r ≡ speedChecked raw (m .device .slot) (m .endpoint) (m .«transfer_type») b
+  pub read-on : (raw : ℕ) (r : Verdict) → p ≡ PortChecked.Read raw → r ≡ speedChecked raw (m .device .slot) (m .endpoint) (m .«transfer_type») b
       → r ≡ endpointBy p m b
   unfolding endpointBy
   read-on raw r e er = er ∙ rw e
@@ -142,12 +129,12 @@ module _ (o : OptionPorts) (d : DeviceSnapshot) (m : RequestMetadata) (reading :
 
 -- what follows the device's check
 module _ (k : DeviceChecked) (o : OptionPorts) (m : RequestMetadata) (second : PortReading) (b : Bus) where
-  pub after-refused : (r : Refusal) → k ≡ answer.Refused r → after (verdict.Refused r) b ≡ checkTargetBy k o m second b
+  pub after-refused : (r : Refusal) → k ≡ DeviceChecked.Refused r → after (Verdict.Refused r) b ≡ checkTargetBy k o m second b
   unfolding checkTargetBy
   after-refused r e = rw e
 
-  module _ (d : DeviceSnapshot) (ek : k ≡ answer.Ready d) (t : Bool) (et : t ≡ isControl (m .«transfer_type»)) where
-    pub after-control : t ≡ true → after verdict.Pass b ≡ checkTargetBy k o m second b
+  module _ (d : DeviceSnapshot) (ek : k ≡ DeviceChecked.Ready d) (t : Bool) (et : t ≡ isControl (m .«transfer_type»)) where
+    pub after-control : t ≡ true → after Verdict.Pass b ≡ checkTargetBy k o m second b
     unfolding checkTargetBy
     after-control e = rw ek (takes (After Verdict Bus) _ _ _ _ (sym et ∙ e) refl)
 

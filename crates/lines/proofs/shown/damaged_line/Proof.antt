@@ -7,12 +7,5 @@ pub damaged-line-spec : {M : Type 1} → statement M
 damaged-line-spec =
     tie.close
     (tie.spec
-    (λ
-    c
-    κs.
-    search
-    needs)
-    (λ
-    c.
-    search
-    damaged-told))
+    (λ c κs. search needs)
+    (λ c. search damaged-told))

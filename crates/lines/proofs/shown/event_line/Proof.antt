@@ -7,17 +7,6 @@ pub event-line-spec : {M : Type 1} → statement M
 event-line-spec =
     tie.close
     (tie.spec
-    (λ
-    c
-    κs.
-    search
-    needs)
-    (λ
-    c
-    κs.
-    search
-    needs)
-    (λ
-    c.
-    search
-    event-told))
+    (λ c κs. search needs)
+    (λ c κs. search needs)
+    (λ c. search event-told))

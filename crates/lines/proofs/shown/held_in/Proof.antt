@@ -7,17 +7,6 @@ pub held-in-spec : {M : Type 1} → statement M
 held-in-spec =
     tie.close
     (tie.spec
-    (λ
-    c
-    κs.
-    search
-    needs)
-    (λ
-    c
-    κs.
-    search
-    needs)
-    (λ
-    c.
-    search
-    held-told))
+    (λ c κs. search needs)
+    (λ c κs. search needs)
+    (λ c. search held-told))

@@ -7,29 +7,9 @@ pub letter-of-spec : {M : Type 1} → statement M
 letter-of-spec =
     tie.close
     (tie.spec
-    (λ
-    c.
-    search
-    needs)
-    (λ
-    c.
-    search
-    needs)
-    (λ
-    c
-    κs.
-    search
-    needs)
-    (λ
-    c
-    κs.
-    search
-    needs)
-    (λ
-    c.
-    search
-    letter-none)
-    (λ
-    c.
-    search
-    letter-some))
+    (λ c. search needs)
+    (λ c. search needs)
+    (λ c κs. search needs)
+    (λ c κs. search needs)
+    (λ c. search letter-none)
+    (λ c. search letter-some))

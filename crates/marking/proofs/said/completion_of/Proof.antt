@@ -7,25 +7,8 @@ pub completion-of-spec : {M : Type 1} → statement M
 completion-of-spec =
     tie.close
     (tie.spec
-    (λ
-    c.
-    search
-    needs)
-    (λ
-    c.
-    search
-    needs)
-    (λ
-    c
-    κs.
-    search
-    needs)
-    (λ
-    c
-    κs.
-    search
-    needs)
-    (λ
-    c.
-    search
-    completion-told))
+    (λ c. search needs)
+    (λ c. search needs)
+    (λ c κs. search needs)
+    (λ c κs. search needs)
+    (λ c. search completion-told))

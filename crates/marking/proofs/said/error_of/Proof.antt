@@ -7,20 +7,7 @@ pub error-of-spec : {M : Type 1} → statement M
 error-of-spec =
     tie.close
     (tie.spec
-    (λ
-    c
-    κs.
-    search
-    needs)
-    (λ
-    c.
-    search
-    flag-off)
-    (λ
-    c.
-    search
-    needs)
-    (λ
-    c.
-    search
-    flag-on))
+    (λ c κs. search needs)
+    (λ c. search flag-off)
+    (λ c. search needs)
+    (λ c. search flag-on))

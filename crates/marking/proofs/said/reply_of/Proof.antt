@@ -7,21 +7,7 @@ pub reply-of-spec : {M : Type 1} → statement M
 reply-of-spec =
     tie.close
     (tie.spec
-    (λ
-    c
-    κs.
-    search
-    needs)
-    (λ
-    c.
-    search
-    flag-off)
-    (λ
-    c
-    κs.
-    search
-    needs)
-    (λ
-    c.
-    search
-    reply-on))
+    (λ c κs. search needs)
+    (λ c. search flag-off)
+    (λ c κs. search needs)
+    (λ c. search reply-on))

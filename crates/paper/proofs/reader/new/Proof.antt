@@ -30,7 +30,7 @@ use denote.Struct.Rest.{own-shut}
 use denote.Triple.Entry.{alive, onEntry}
 use denote.Triple.Walked.{says, Stays, stay-none-slice, walkOf, goes-none-slice, ends-at}
 use denote.Exit.{yes}
-use Rattle.paper.specs.declared.reader.Reader.{Reader}
+use Rattle.paper.specs.declared.{reader.Reader.Reader}
 use Rattle.paper.proofs.reader.Laws.{number, shown}
 use Rattle.paper.proofs.reader.Reader as T
 use Rattle.paper.proofs.reader.Reader.Laws as T′

@@ -36,7 +36,7 @@ use denote.Triple.Table.{cited}
 use denote.Triple.Walked.{says, Stays, stay-none, walkOf, goes-none, ends-at}
 use denote.Exit.{yes}
 use Rattle.paper.specs.Events.{eventAt}
-use Rattle.paper.specs.declared.reader.Reader.{Reader}
+use Rattle.paper.specs.declared.{reader.Reader.Reader}
 use Rattle.paper.proofs.OptionEvent as S
 use Rattle.paper.proofs.OptionEvent.Laws as S′
 use Rattle.paper.proofs.events.event_at as event

@@ -29,7 +29,7 @@ use denote.Struct.Rest.{own-put}
 use denote.Triple.Entry.{Vals, alive, onEntry}
 use denote.Triple.Walked.{says, Stays, stay-none, walkOf, goes-none, ends-at}
 use denote.Exit.{yes}
-use Rattle.paper.specs.declared.reader.Reader.{Reader}
+use Rattle.paper.specs.declared.{reader.Reader.Reader}
 use Rattle.paper.proofs.reader.Laws.{Held, held-vals, held-tells, held-typed, held-twice, shown}
 use Rattle.paper.proofs.reader.Reader as T
 use Rattle.paper.proofs.reader.Reader.Laws as T′

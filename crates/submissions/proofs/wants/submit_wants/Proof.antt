@@ -1,19 +1,20 @@
 use Rattle.rows.specs.Store.{storeOf}
 use Rattle.bus.specs.Tables.{busOf}
-use Rattle.submissions.proofs.wants.Laws.{ready-bus, submit-none, submit-wants}
+use Rattle.submissions.proofs.Admission.{admitted-tables}
+use Rattle.submissions.proofs.wants.Laws.{submit-none, submit-wants}
 use borrow.Author.Needs.{needs}
 use Rattle.submissions.proofs.wants.submit_wants.Statement.{statement}
 use Rattle.submissions.proofs.wants.submit_wants.Tie as tie
 
-packets-wants-requires : tie.Need-packets-wants-requires
-packets-wants-requires c κs = search ready-bus
+target-wants-requires : tie.Need-target-wants-requires
+target-wants-requires c κs = search admitted-tables
 
 returns : tie.Need-returns
-unfolding storeOf busOf
+unfolding busOf
 returns c = search submit-none
 
 returns-2 : tie.Need-returns-2
-unfolding storeOf busOf
+unfolding busOf
 returns-2 c = search submit-wants
 
 pub submit-wants-spec : {M : Type 1} → statement M
@@ -23,6 +24,6 @@ submit-wants-spec =
     (λ c κs. search needs)
     (λ c. search needs)
     (λ c. search needs)
-    packets-wants-requires
+    target-wants-requires
     returns
     returns-2)
