@@ -14,14 +14,14 @@ use Rattle.words.specs.Records.{tab, splice}
 use Rattle.words.specs.Words.{flagWord, readFlag}
 use Rattle.words.proofs.Options.{low, flag-back}
 use Rattle.words.proofs.Records.{tab-same, le-or-lt}
-use Rattle.models.specs.Values.{optionErrorWords, metadataTail}
+use Rattle.models.specs.Values.{optionErrorWords, metadataTail, readDeviceWords}
 use Rattle.models.specs.declared.{ControlProfile.ControlProfile, DeviceId.DeviceId, Direction.Direction, OperationError.OperationError, OptionError.OptionError, Refusal.Refusal, RequestMetadata.RequestMetadata, RequestReport.RequestReport, RequestState.RequestState}
 use Rattle.models.proofs.Enums.{transfer-back, direction-back, profile-back}
 use Rattle.standards.specs.Setup.{setupBytes}
 use Rattle.rows.specs.Codec.{readMetadata, readStateWords, stateWords}
 use Rattle.session.specs.Said.{recoveryWord}
 use Rattle.session.specs.declared.{Recovery.Recovery, RecoveryKind.RecoveryKind}
-use Rattle.session_words.specs.State.{readDeviceWords, readKind}
+use Rattle.session_words.specs.State.{readKind}
 use Rattle.submissions.specs.declared.{PlanSubmission.PlanSubmission, Submission.Submission}
 use Rattle.recovery.specs.declared.{AbortReport.AbortReport}
 use Rattle.calls.specs.Fits.{ErrorFits, OptionErrorFits, DeviceFits}

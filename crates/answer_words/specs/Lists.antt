@@ -10,8 +10,8 @@ use Rattle.models.specs.declared.{RequestId.RequestId}
 use Rattle.rows.specs.declared.{Row.Row}
 use Rattle.recovery.specs.Recover.{recoverOf}
 use Rattle.recovery.specs.RecoveryReply.{recoveryReplyOf}
-use Rattle.recovery.specs.Reports.{idLists}
-use Rattle.recovery.specs.declared.{BeginAnswer.BeginAnswer, Begun.Begun, Ids.Ids, Recovered.Recovered, RecoveryAnswer.RecoveryAnswer}
+use Rattle.recovery.specs.Reports.{idsOf}
+use Rattle.recovery.specs.declared.{BeginAnswer.BeginAnswer, Begun.Begun, RecoveryAnswer.RecoveryAnswer, Replied.Replied}
 use Rattle.calls.specs.Calls.{Beginning, Submit, SubmitPlan, Poll, Recover, Replying, ToSubmit, ToPoll, ToRecovery, Call, Open, Place, Move, Begin, Reply, Change, Read}
 use Rattle.calls.specs.Step.{World, worldStore}
 
@@ -37,31 +37,30 @@ begunList (BeginAnswer.Recover x) n tokens = tokenList (take n tokens)
 unfoldable pub begunLists : Begun → List ℕ
 begunLists o = begunList (o .answer) (o .count) (o .tokens)
 
--- the ids of the completed requests, and those of the aborted
-abbrev pub recoveredBy : RecoveryAnswer → Ids → List ℕ
-recoveredBy (RecoveryAnswer.Refused r) ids = []
-recoveredBy (RecoveryAnswer.Report x) ids = idList (take (x .completed) (ids .completed)) ++ idList (take (x .aborted) (ids .aborted))
-
-unfoldable pub recoveredLists : Recovered → List ℕ
-recoveredLists o = recoveredBy (o .answer) (o .ids)
-
--- the same of the rows at the first n places, and at the next m
+-- the ids of the completed requests, whose rows stand at the first n places, and of the aborted ones, at the next m
 abbrev pub partLists : List Row → List ℕ → ℕ → ℕ → List ℕ
-partLists rows places n m =
-    let ids = idLists rows (take n places) (take m (drop n places)) in
-    idList (take n (ids .completed)) ++ idList (take m (ids .aborted))
+partLists rows places n m = idList (idsOf rows (take n places)) ++ idList (idsOf rows (take m (drop n places)))
+
+abbrev pub recoveredBy : RecoveryAnswer → List Row → List ℕ → List ℕ
+recoveredBy (RecoveryAnswer.Refused r) rows places = []
+recoveredBy (RecoveryAnswer.Report x) rows places = partLists rows places (x .completed) (x .aborted)
+
+unfoldable pub recoveredLists : Replied → List Row → List ℕ
+recoveredLists o rows = recoveredBy (o .answer) rows (o .places)
 
 -- the lists of a call: those of a recovery's start and of its reply, and no others
 abbrev pub begunIn : Beginning → World → List ℕ
 begunIn (Submit packets q) w = []
-begunIn (SubmitPlan q bytes first) w = []
+begunIn (SubmitPlan q) w = []
 begunIn (Poll id) w = []
 begunIn (Recover id kind) w = begunLists (recoverOf id kind (w .session) (worldStore w))
 
 abbrev pub repliedIn : Replying → World → List ℕ
 repliedIn (ToSubmit reply) w = []
 repliedIn (ToPoll reply bytes) w = []
-repliedIn (ToRecovery reply lists) w = recoveredLists (recoveryReplyOf reply lists (w .session) (w .lent .memory) .result)
+repliedIn (ToRecovery reply lists) w =
+    let o = recoveryReplyOf reply lists (w .session) (w .lent .memory) in
+    recoveredLists (o .result) (o .lent .store .rows)
 
 unfoldable pub listsOf : Call → World → List ℕ
 listsOf (Open o) w = []

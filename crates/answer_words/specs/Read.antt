@@ -9,10 +9,10 @@ use Rattle.words.specs.Records.{tab}
 use Rattle.words.specs.Words.{readFlag}
 use Rattle.models.specs.Codes.{readDirection, readProfile}
 use Rattle.models.specs.Said.{Said, says}
+use Rattle.models.specs.Values.{readError, readOptionError, readRequestId, readDeviceId}
 use Rattle.models.specs.declared.{RequestMetadata.RequestMetadata, RequestState.RequestState}
 use Rattle.rows.specs.Codec.{readMetadata, readStateWords}
-use Rattle.scope.specs.Returned.{readError, readOptionError}
-use Rattle.session_words.specs.State.{readRequestId, readDeviceId, readKind}
+use Rattle.session_words.specs.State.{readKind}
 use Rattle.calls.specs.Fits.{U32Fits, ErrorFits, OptionErrorFits, DeviceFits, SetupFits}
 use Rattle.calls.specs.declared.{Answer.Answer}
 

@@ -7,13 +7,12 @@ use recovery::Replied;
 use rows::columns;
 use words::slices;
 ghost use mathlib.Core.Path.{_≡_};
-ghost use mathlib.Core.List.{_++_};
 ghost use Prim.Native.Nat.{_+_, _*_, _≤_, min};
 ghost use lib.ListN.{length, take};
 ghost use Rattle.words.specs.Records.{splice};
 ghost use Rattle.models.specs.Values.{requestIdWords};
 ghost use Rattle.rows.specs.Table.{readRows};
-ghost use Rattle.recovery.specs.Reports.{idsOf, from, manyIn, filled};
+ghost use Rattle.recovery.specs.Reports.{idsOf, manyIn};
 ghost use Rattle.answer_words.specs.Lists.{tokenList, idList, begunLists, partLists, recoveredLists, putLists};
 
 // How many words the lists of an answer have at most.
@@ -60,21 +59,6 @@ fn put_ids(lists: &mut [u64], at: usize, rows: &[u64], places: &[usize])
     }
 }
 
-// The ids at the first n places, and at the others.
-fn put_two(lists: &mut [u64], rows: &[u64], places: &[usize], n: usize)
-    requires { ⌜ (n ≤ length (now places)) × (length (now places) ≤ 128) ⌝ }
-    ensures { λ _. ⌜ now (lists .exit) ≡ putLists (idList (idsOf (readRows (now (rows .entry))) (take n (now (places .entry))))
-        ++ idList (idsOf (readRows (now (rows .entry))) (from n (now (places .entry))))) (now (lists .entry)) ⌝ }
-{
-    let m = places.len() - n;
-    let second = 1 + n * 3;
-    if lists.len() < second + 1 + m * 3 {
-        return;
-    }
-    put_ids(lists, 0, rows, &places[..n]);
-    put_ids(lists, second, rows, &places[n..]);
-}
-
 // The ids at the first n places, and at the next m.
 fn put_parts(lists: &mut [u64], rows: &[u64], places: [usize; 128], n: usize, m: usize)
     requires { ⌜ n + m ≤ 128 ⌝ }
@@ -82,7 +66,12 @@ fn put_parts(lists: &mut [u64], rows: &[u64], places: [usize; 128], n: usize, m:
         ≡ putLists (partLists (readRows (now (rows .entry))) places n m) (now (lists .entry)) ⌝ }
 {
     let end = n + m;
-    put_two(lists, rows, &places[..end], n);
+    let second = 1 + n * 3;
+    if lists.len() < second + 1 + m * 3 {
+        return;
+    }
+    put_ids(lists, 0, rows, &places[..n]);
+    put_ids(lists, second, rows, &places[n..end]);
 }
 
 // The tokens of the requests that a recovery affects; a refusal has none.
@@ -101,7 +90,7 @@ pub fn write_begun(lists: &mut [u64], begun: Begun)
 pub fn write_replied(lists: &mut [u64], rows: &[u64], replied: Replied)
     requires { ⌜ manyIn (replied .answer) ≤ 128 ⌝ }
     ensures { λ _. ⌜ now (lists .exit)
-        ≡ putLists (recoveredLists (filled replied (readRows (now (rows .entry))))) (now (lists .entry)) ⌝ }
+        ≡ putLists (recoveredLists replied (readRows (now (rows .entry)))) (now (lists .entry)) ⌝ }
 {
     let answer = replied.answer;
     let places = replied.places;

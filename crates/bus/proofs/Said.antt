@@ -1,4 +1,4 @@
--- What the placing of a port or of endpoints and the checks of a port refuse is of the table. Assumes nothing.
+-- Every number that the placing of a port or of endpoints or a check of a port refuses by is in its list. Assumes nothing.
 use Prim.Native.Nat.{ℕ}
 use mathlib.Core.List.{List, [], _∷_}
 use mathlib.Core.Path.{_≡_, refl}

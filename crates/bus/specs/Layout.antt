@@ -1,14 +1,25 @@
--- What the words of the bus say: 255 port rows, 256 device rows, 256 endpoint lists and 256 marks, one table after the other.
--- Every list of words says something. Assumes nothing.
+-- Encoding of the bus as words: 255 port rows, 256 device rows, 256 endpoint lists and 256 marks, one table after the other.
+-- Decoding is total. Assumes nothing.
 use Prim.Native.Nat.{ℕ, _+_, _*_, _%_, _^_}
 use mathlib.Core.Bool.{Bool, cond}
 use mathlib.Core.List.{List, [], _∷_}
 use lib.ListN.{getD, take, drop}
 use lib.Dec.{eqb}
 use Rattle.words.specs.Words.{readFlag, flagWord, readOptionU32, optionU32Word}
-use Rattle.models.specs.Codes.{readDeviceState, deviceStateWord, transferWord}
+use Rattle.models.specs.Codes.{readDeviceState, transferWord}
+use Rattle.models.specs.Values.{snapshotWords}
 use Rattle.models.specs.declared.{DeviceSnapshot.DeviceSnapshot, OptionDevice.OptionDevice, TransferType.TransferType}
 use Rattle.bus.specs.declared.{PortRow.PortRow}
+
+-- how many ports and slots there are, and the most endpoints of a slot
+abbrev pub portCount : ℕ
+portCount = 255
+
+abbrev pub slotCount : ℕ
+slotCount = 256
+
+abbrev pub endpointsMost : ℕ
+endpointsMost = 30
 
 -- the words of a record of each table, and where the table starts
 abbrev pub portWords : ℕ
@@ -17,7 +28,7 @@ portWords = 2
 abbrev pub deviceWords : ℕ
 deviceWords = 8
 
--- a count and 30 endpoints
+-- a count and the endpoints
 abbrev pub listWords : ℕ
 listWords = 31
 
@@ -51,16 +62,15 @@ readDevice w =
     }))
 
 unfoldable pub deviceRecord : DeviceSnapshot → List ℕ
-deviceRecord d =
-    1 ∷ d .id .session ∷ d .id .generation ∷ d .id .slot ∷ d .port .session ∷ d .port .generation ∷ d .port .number ∷ deviceStateWord (d .state) ∷ []
+deviceRecord d = 1 ∷ snapshotWords d
 
 -- an endpoint: its address in the low 8 bits, its transfer type above them
 abbrev pub endpointWord : ℕ → TransferType → ℕ
 endpointWord address type = address + 2 ^ 8 * transferWord type
 
--- a list: a count, of which 30 at the most count, and a word for each endpoint
+-- a list: a count, cut at the most endpoints, and a word for each endpoint
 unfoldable pub readEndpoints : List ℕ → List ℕ
-readEndpoints w = take (getD w 0 0) (take 30 (drop 1 w))
+readEndpoints w = take (getD w 0 0) (take endpointsMost (drop 1 w))
 
 abbrev pub readMark : List ℕ → Bool
 readMark w = readFlag (getD w 0 0)

@@ -17,7 +17,7 @@ unfoldable pub numberChecked : OptionPorts → ℕ → Verdict
 numberChecked OptionPorts.None number = Verdict.Refused (refusalOf 29)
 numberChecked (OptionPorts.Some p) number = Verdict.Refused (refusalOf 30) if eqb number 0 || ltb (p .count) number else Verdict.Pass
 
--- 29, 30, or the row takes its place
+-- 29, 30, or the row replaces the port's
 unfoldable pub setPortBy : Verdict → ℕ → PortRow → Bus → After Verdict Bus
 setPortBy (Verdict.Refused r) number row b = after (Verdict.Refused r) b
 setPortBy Verdict.Pass number row b = after Verdict.Pass (putPort b number row)

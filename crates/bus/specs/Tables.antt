@@ -1,4 +1,4 @@
--- The bus: its words and the tables that they say, and one row of a table put. Assumes nothing.
+-- The bus: its words, the tables that they decode to, and one row of a table put. Assumes nothing.
 use Prim.Native.Nat.{ℕ, zero, suc, _+_, _-_, _*_}
 use mathlib.Core.Bool.{Bool, false}
 use mathlib.Core.List.{List, [], _∷_, _++_}
@@ -7,7 +7,7 @@ use Rattle.words.specs.Words.{flagWord}
 use Rattle.words.specs.Records.{splice, chunks}
 use Rattle.words.specs.declared.{OptionU32.OptionU32}
 use Rattle.models.specs.declared.{DeviceSnapshot.DeviceSnapshot, OptionDevice.OptionDevice}
-use Rattle.bus.specs.Layout.{portWords, deviceWords, listWords, devicesAt, listsAt, marksAt, busWords, readPort, portRecord, readDevice, deviceRecord, readEndpoints, readMark}
+use Rattle.bus.specs.Layout.{portCount, slotCount, portWords, deviceWords, listWords, devicesAt, listsAt, marksAt, busWords, readPort, portRecord, readDevice, deviceRecord, readEndpoints, readMark}
 use Rattle.bus.specs.declared.{PortRow.PortRow}
 
 pub record Bus : Type 0 where
@@ -20,10 +20,10 @@ pub record Bus : Type 0 where
 unfoldable pub busOf : List ℕ → Bus
 busOf l = record {
   words = l;
-  ports = chunks 0 portWords readPort 255 l;
-  devices = chunks devicesAt deviceWords readDevice 256 l;
-  lists = chunks listsAt listWords readEndpoints 256 l;
-  marks = chunks marksAt 1 readMark 256 l;
+  ports = chunks 0 portWords readPort portCount l;
+  devices = chunks devicesAt deviceWords readDevice slotCount l;
+  lists = chunks listsAt listWords readEndpoints slotCount l;
+  marks = chunks marksAt 1 readMark slotCount l;
 }
 
 -- a port at opening
@@ -56,7 +56,7 @@ putPort b number r = record {
   marks = b .marks;
 }
 
--- the device takes the place of its slot's
+-- the device replaces its slot's
 unfoldable pub putDevice : Bus → DeviceSnapshot → Bus
 putDevice b d = record {
   words = splice (devicesAt + d .id .slot * deviceWords) (deviceRecord d) (b .words);
@@ -66,7 +66,7 @@ putDevice b d = record {
   marks = b .marks;
 }
 
--- the words l take the place of the slot's list: the count, then as many words; later words stay, and are not read
+-- the words l replace the slot's list: the count, then as many words; later words stay, and are not read
 unfoldable pub putEndpoints : Bus → ℕ → List ℕ → Bus
 putEndpoints b slot l = record {
   words = splice (listsAt + slot * listWords) (length l ∷ l) (b .words);
@@ -93,9 +93,9 @@ newPorts (suc n) = 1 ∷ 0 ∷ newPorts n
 -- at opening: every device absent, every list empty, every mark clear, every port of generation 1 and without a reading
 unfoldable pub cleared : Bus
 cleared = record {
-  words = newPorts 255 ++ replicate (busWords - devicesAt) 0;
-  ports = replicate 255 newPort;
-  devices = replicate 256 OptionDevice.None;
-  lists = replicate 256 [];
-  marks = replicate 256 false;
+  words = newPorts portCount ++ replicate (busWords - devicesAt) 0;
+  ports = replicate portCount newPort;
+  devices = replicate slotCount OptionDevice.None;
+  lists = replicate slotCount [];
+  marks = replicate slotCount false;
 }

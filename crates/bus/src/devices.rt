@@ -1,4 +1,5 @@
 // Device rows and reconciliation marks, one of each for a slot.
+use crate::DEVICE_WORDS;
 use crate::DEVICES;
 use crate::MARKS;
 use models::DeviceId;
@@ -13,7 +14,7 @@ ghost use Rattle.models.specs.declared.OptionDevice.the-variants as device;
 ghost use Rattle.bus.specs.Layout.{busWords, readDevice, deviceRecord};
 ghost use Rattle.bus.specs.Tables.{busOf, deviceAt, putDevice, markAt, putMark};
 
-fn encode_device(d: DeviceSnapshot) -> [u64; 8]
+fn encode_device(d: DeviceSnapshot) -> [u64; DEVICE_WORDS]
     ensures { λ w. ⌜ (readDevice w ≡ device.Some d) × (w ≡ deviceRecord d) ⌝ }
 {
     let state = d.state;
@@ -33,7 +34,7 @@ pub fn read_device(bus: &[u64], slot: u8) -> OptionDevice
     requires { ⌜ length (now bus) ≡ busWords ⌝ }
     ensures { λ r. ⌜ r ≡ deviceAt (busOf (now (bus .entry))) slot ⌝ }
 {
-    let at = DEVICES + slot as usize * 8;
+    let at = DEVICES + slot as usize * DEVICE_WORDS;
     if bus[at] == 0 {
         return OptionDevice::None;
     }
@@ -51,14 +52,14 @@ pub fn read_device(bus: &[u64], slot: u8) -> OptionDevice
     OptionDevice::Some(DeviceSnapshot { id, port, state })
 }
 
-// The device takes the place of its slot's.
+// The device replaces its slot's.
 pub fn set_device(bus: &mut [u64], d: DeviceSnapshot)
     requires { ⌜ length (now bus) ≡ busWords ⌝ }
     ensures { λ _. ⌜ busOf (now (bus .exit)) ≡ putDevice (busOf (now (bus .entry))) d ⌝ }
 {
-    let at = DEVICES + d.id.slot as usize * 8;
+    let at = DEVICES + d.id.slot as usize * DEVICE_WORDS;
     let w = encode_device(d);
-    slices::copy_words(bus, at, &w, 8);
+    slices::copy_words(bus, at, &w, DEVICE_WORDS);
 }
 
 // The slot waits for a raw reconciliation.

@@ -1,4 +1,5 @@
 // Root ports: the Rust's `Ports`.
+use crate::PORT_WORDS;
 use crate::PortRow;
 use models::OptionPorts;
 use models::PortId;
@@ -48,7 +49,7 @@ fn read_port(bus: &[u64], number: u8) -> PortRow
     requires { ⌜ length (now bus) ≡ busWords ⌝ }
     ensures { λ r. ⌜ r ≡ portAt (busOf (now (bus .entry))) number ⌝ }
 {
-    let at = port_index(number) * 2;
+    let at = port_index(number) * PORT_WORDS;
     let reading = words::to_option_u32(bus[at + 1]);
     PortRow {
         generation: bus[at],
@@ -60,13 +61,13 @@ fn write_port(bus: &mut [u64], number: u8, row: PortRow)
     requires { ⌜ length (now bus) ≡ busWords ⌝ }
     ensures { λ _. ⌜ busOf (now (bus .exit)) ≡ putPort (busOf (now (bus .entry))) number row ⌝ }
 {
-    let at = port_index(number) * 2;
+    let at = port_index(number) * PORT_WORDS;
     let reading = row.reading;
     let w = [row.generation, words::option_u32_word(reading)];
-    slices::copy_words(bus, at, &w, 2);
+    slices::copy_words(bus, at, &w, PORT_WORDS);
 }
 
-// 29: no ports; 30: the number is 0 or above the count.
+// Refuses by 29 if there are no ports, by 30 if the number is 0 or above the count.
 fn check_number(ports: OptionPorts, number: u8) -> Verdict
     ensures { λ r. ⌜ r ≡ numberChecked ports number ⌝ }
 {
@@ -79,11 +80,11 @@ fn check_number(ports: OptionPorts, number: u8) -> Verdict
     Verdict::Pass
 }
 
-// Puts a port row, whatever its old words.
+// Puts a port row, whatever its old words. Refuses by 29 and 30.
 pub fn set_port(bus: &mut [u64], ports: OptionPorts, number: u8, row: PortRow) -> Verdict
     requires { ⌜ length (now bus) ≡ busWords ⌝ }
-    ensures { λ r. ⌜ (after r (busOf (now (bus .exit))) ≡ setPort ports number row (busOf (now (bus .entry))))
-        × Tabled placedPortNumbers (verdictSaid r) ⌝ }
+    ensures step { λ r. ⌜ after r (busOf (now (bus .exit))) ≡ setPort ports number row (busOf (now (bus .entry))) ⌝ }
+    ensures table { λ r. ⌜ Tabled placedPortNumbers (verdictSaid r) ⌝ }
 {
     let checked = check_number(ports, number);
     let Verdict::Pass = checked else {
@@ -103,7 +104,7 @@ fn is_session(ports: OptionPorts, session: u64) -> bool
     session == p.session
 }
 
-// 32: no reading.
+// Refuses by 32 a port without a reading.
 fn check_reading(reading: OptionU32) -> PortChecked
     ensures { λ r. ⌜ r ≡ readingChecked reading ⌝ }
 {
@@ -113,7 +114,7 @@ fn check_reading(reading: OptionU32) -> PortChecked
     PortChecked::Read(raw)
 }
 
-// 31: another session or generation.
+// Refuses by 31 an id of another session or generation, then by 32.
 fn validate_row(ports: OptionPorts, id: PortId, row: PortRow) -> PortChecked
     ensures { λ r. ⌜ r ≡ validatedRow ports id row ⌝ }
 {
@@ -125,7 +126,7 @@ fn validate_row(ports: OptionPorts, id: PortId, row: PortRow) -> PortChecked
     check_reading(reading)
 }
 
-// 29, 30, 31, 32.
+// The port's reading, or its refusal by 29, 30, 31 or 32.
 pub fn validate(bus: &[u64], ports: OptionPorts, id: PortId) -> PortChecked
     requires { ⌜ length (now bus) ≡ busWords ⌝ }
     ensures { λ r. ⌜ r ≡ validated ports id (busOf (now (bus .entry))) ⌝ }
@@ -140,7 +141,7 @@ pub fn validate(bus: &[u64], ports: OptionPorts, id: PortId) -> PortChecked
     }
 }
 
-// The row with the reading and its generation, raised by one; 34: it is at its maximum.
+// The row with the reading and the next generation. Refuses by 34 if that is past the maximum.
 fn raise(row: PortRow, raw: u32) -> Observed
     ensures { λ r. ⌜ r ≡ raisedRow row raw ⌝ }
 {
@@ -171,7 +172,7 @@ fn observe_row(row: PortRow, raw: u32) -> Observed
     Observed::To(next)
 }
 
-// Observes a port, and writes its row unless 34.
+// Writes a reading to its port's row, unless 34 refuses it.
 fn observe(bus: &mut [u64], number: u8, raw: u32) -> Observed
     requires { ⌜ length (now bus) ≡ busWords ⌝ }
     ensures { λ r. ⌜ after r (busOf (now (bus .exit))) ≡ observePort number raw (busOf (now (bus .entry))) ⌝ }
@@ -187,7 +188,7 @@ fn observe(bus: &mut [u64], number: u8, raw: u32) -> Observed
     }
 }
 
-// 34 with nothing written, or 31 again with the row written.
+// Writes a word to its port's row. Refuses by 34 with nothing written, or by 31 with the row written.
 fn observe_word(bus: &mut [u64], ports: OptionPorts, id: PortId, raw: u32) -> PortChecked
     requires { ⌜ length (now bus) ≡ busWords ⌝ }
     ensures { λ r. ⌜ after r (busOf (now (bus .exit))) ≡ freshWord raw ports id (busOf (now (bus .entry))) ⌝ }
@@ -199,7 +200,7 @@ fn observe_word(bus: &mut [u64], ports: OptionPorts, id: PortId, raw: u32) -> Po
     }
 }
 
-// What a word is answered by where it is observed, with nothing written.
+// The answer that `observe_word` would give, without writing the reading.
 pub fn peek_word(bus: &[u64], ports: OptionPorts, id: PortId, raw: u32) -> PortChecked
     requires { ⌜ length (now bus) ≡ busWords ⌝ }
     ensures { λ r. ⌜ r ≡ freshWord raw ports id (busOf (now (bus .entry))) .result ⌝ }
@@ -212,7 +213,7 @@ pub fn peek_word(bus: &[u64], ports: OptionPorts, id: PortId, raw: u32) -> PortC
     }
 }
 
-// 33, 34, and 31 again.
+// Writes a reading to its port's row. Refuses by 33, 34 and 31.
 fn observe_reading(
     bus: &mut [u64],
     ports: OptionPorts,
@@ -228,7 +229,7 @@ fn observe_reading(
     }
 }
 
-// Validates the id, takes a reading (33), observes it (34), and validates the id again (31).
+// Validates the id, writes the reading, and validates the id again.
 pub fn fresh_port(
     bus: &mut [u64],
     ports: OptionPorts,
@@ -236,8 +237,8 @@ pub fn fresh_port(
     reading: PortReading,
 ) -> PortChecked
     requires { ⌜ length (now bus) ≡ busWords ⌝ }
-    ensures { λ r. ⌜ (after r (busOf (now (bus .exit))) ≡ freshPort ports id reading (busOf (now (bus .entry))))
-        × Tabled freshPortNumbers (portSaid r) ⌝ }
+    ensures step { λ r. ⌜ after r (busOf (now (bus .exit))) ≡ freshPort ports id reading (busOf (now (bus .entry))) ⌝ }
+    ensures table { λ r. ⌜ Tabled freshPortNumbers (portSaid r) ⌝ }
 {
     let checked = validate(bus, ports, id);
     let PortChecked::Read(_) = checked else {

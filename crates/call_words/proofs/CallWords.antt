@@ -1,11 +1,11 @@
 -- Words that are a call are the words of the call that they say. Assumes nothing.
-use Prim.Native.Nat.{ℕ, suc, _+_, _-_, _*_, _/_, _%_, _≤_, _^_}
+use Prim.Native.Nat.{ℕ, suc, _+_, _*_, _/_, _%_, _≤_, _^_}
 use mathlib.Core.Path.{_≡_, refl, sym, ap, _∙_}
-use mathlib.Core.Bool.{Bool, true, false, not, _&&_, false≢true}
+use mathlib.Core.Bool.{Bool, true, false, _&&_, false≢true}
 use mathlib.Core.List.{List, [], _∷_, _++_, append-assoc}
 use native.Mathlib.Omega.{arith}
 use lib.Dec.{eqb, leb}
-use lib.ListN.{length, getD, take, drop, take-append-drop}
+use lib.ListN.{length, getD, drop, take-append-drop}
 use lib.Seq.{drop-drop}
 use borrow.Author.Tests.{eqb-true, eqb-false, leb-true, leb-false}
 use Rattle.chain.specs.Chain.{_if_else_}
@@ -13,14 +13,13 @@ use Rattle.chain.proofs.Chain.{caseB, both, and3, if-by}
 use Rattle.words.specs.Records.{tab, part}
 use Rattle.words.specs.Words.{readFlag, readOptionU64}
 use Rattle.words.proofs.Records.{part-length}
-use Rattle.models.specs.Values.{requestIdWords}
-use Rattle.scope.specs.Returned.{completionWords, readOptionError, readCompletion}
-use Rattle.session_words.specs.State.{readRequestId}
+use Rattle.models.specs.Values.{requestIdWords, readOptionError, readRequestId}
+use Rattle.scope.specs.Returned.{completionWords, readCompletion}
 use Rattle.session.specs.declared.{RecoveryKind.RecoveryKind}
 use Rattle.calls.specs.Calls.{Call, Open, Place, Device, Port, Endpoints, Reconcile, Move, Acquire, Initialize, Close, Begin, Submit, SubmitPlan, Recover, Reply, ToSubmit, ToPoll, ToRecovery, Change, Cancel, Timeout, Read, Reports, HeldCount, HeldBytes}
-use Rattle.call_words.specs.Parts.{isZero, isFlag, isByte, areZero, byFlag, zeros, backendCompletionWords, isError, isOptionError, readReading, isCompletion}
+use Rattle.call_words.specs.Parts.{isZero, isFlag, isByte, areZero, byFlag, zeros, backendCompletionWords, isError, isOptionError, isCompletion}
 use Rattle.call_words.specs.Form.{has, isOpenCall, isSetDevice, isSetPort, isSetEndpoints, isSetReconcile, isAcquire, isInitialize, isClose, isSubmit, isPlan, isSubmitReply, isPollReply, isReports, isReset, isRecovered, isRecoveryReply, isPlacing, isMoving, isSubmission, isReplying, isReporting, isRecoveryCall, isCall}
-use Rattle.call_words.specs.Arguments.{readOpening, readSnapshot, readPortRow, readAcquireReply, readSpec, readReadings, readRequest, readPlan, readSubmitReply, readPollReply, readOptionId, readRecoveryReply, readCompleted, readCompletions, readAborted, readLists}
+use Rattle.call_words.specs.Arguments.{readOpening, readSnapshot, readPortRow, readAcquireReply, readSpec, readReadings, readRequest, readPlan, readPlanRequest, readSubmitReply, readPollReply, readOptionId, readRecoveryReply, readCompleted, readCompletions, readAborted, readLists}
 use Rattle.call_words.specs.Decode.{readPlacing, readMoving, readSubmission, readReplying, readChanging, readReporting, readRecovering, readCall}
 use Rattle.call_words.specs.Encode.{recoveryReplyWords, callWords}
 use Rattle.call_words.proofs.Told.{and4, opening-told, device-told, port-told, endpoints-told, reconcile-told, acquire-told, initialize-told, close-told, submit-reply-told, reports-told, reset-told, recovery-reply-told, submit-told, plan-told}
@@ -129,7 +128,7 @@ module _ (w : List ℕ) where
       )
       (rw e at (cut w 27 (g .0)))
 
-  plan-says : (bytes : List ℕ) → getD w 0 0 ≡ 9 → isPlan w ≡ true → Says (Begin (SubmitPlan (readPlan w) bytes (readReading w 14)))
+  plan-says : (bytes : List ℕ) → getD w 0 0 ≡ 9 → isPlan w ≡ true → Says (Begin (SubmitPlan (readPlanRequest w bytes)))
   unfolding readPlan callWords
   plan-says bytes e t =
       let p = plan-told w t in

@@ -17,9 +17,9 @@ use Rattle.words.proofs.Options.{low}
 use Rattle.words.proofs.Signed.{option-i32-word}
 use Rattle.words.proofs.Records.{getD-tab, tab-all, tab-same, tab-list}
 use Rattle.models.specs.Codes.{readCategory, categoryWord, readTransfer, transferWord, readDirection, directionWord, readProfile, profileWord, readDeviceState, deviceStateWord}
-use Rattle.models.specs.Values.{setupWords, errorWords, optionErrorWords}
+use Rattle.models.specs.Values.{setupWords, errorWords, optionErrorWords, readError, readOptionError}
 use Rattle.models.specs.declared.{SetupWords.SetupWords}
-use Rattle.scope.specs.Returned.{readError, readOptionError, readCompletion}
+use Rattle.scope.specs.Returned.{readCompletion}
 use Rattle.call_words.proofs.Told.{and4, and5}
 use Rattle.call_words.specs.Parts.{areZero, byFlag, zeros, isOptionNumber, isError, isOptionError, isSetup, isOptionSetup, readOptionSetup, isReading, readReading, readingWords, isCompletion, backendCompletionWords, isStage, readStage, stageWords, readStatus, statusWord}
 

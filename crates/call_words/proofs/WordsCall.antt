@@ -1,7 +1,7 @@
 -- A call is what its words say: the laws of the parts, then of each call. Assumes nothing.
 use Prim.Native.Nat.{ℕ, _+_, _*_, _/_}
 use mathlib.Core.Path.{_≡_, refl, sym, ap, _∙_}
-use mathlib.Core.List.{List, [], _∷_, _++_, append-assoc}
+use mathlib.Core.List.{List, _∷_, _++_, append-assoc}
 use native.Mathlib.Omega.{arith}
 use lib.ListN.{length, getD, take, drop}
 use lib.Seq.{drop-drop, take-at, drop-at}
@@ -117,7 +117,8 @@ begin-back (Submit packets q) (s, f, g) =
       reading-back b g,
       flag-back (q .given),
     ))
-begin-back (SubmitPlan x bytes r) (p, f) =
+begin-back (SubmitPlan q) (p, f) =
+    let x = q .plan in
     let u = p .1 in
     rw (stage-shape (x .«data_stage»))
     (rw (
@@ -130,7 +131,7 @@ begin-back (SubmitPlan x bytes r) (p, f) =
       low 16 (u .4),
       stage-back (x .«data_stage»),
       status-back (x .«status_direction»),
-      reading-back r f,
+      reading-back (q .reading) f,
     ))
 begin-back (Poll id) h = refl
 begin-back (Recover id RecoveryKind.Abort) h = refl

@@ -7,6 +7,7 @@ use lib.Dec.{eqb}
 use Rattle.words.specs.Words.{readFlag, readOptionU32, readOptionU64}
 use Rattle.words.specs.Records.{part}
 use Rattle.models.specs.Codes.{readTransfer, readDirection, readProfile, readDeviceState}
+use Rattle.models.specs.Values.{readError, readOptionError, readDeviceId, readRequestId}
 use Rattle.models.specs.declared.{ControlPlan.ControlPlan, DeviceSnapshot.DeviceSnapshot, RequestSpec.RequestSpec}
 use Rattle.bus.specs.declared.{PortRow.PortRow}
 use Rattle.targets.specs.declared.{Readings.Readings}
@@ -15,10 +16,10 @@ use Rattle.reports.specs.declared.{OptionId.OptionId}
 use Rattle.polls.specs.declared.{PollReply.PollReply}
 use Rattle.submissions.specs.Submit.{Request, request}
 use Rattle.submissions.specs.declared.{SubmitReply.SubmitReply}
-use Rattle.scope.specs.Returned.{completionWords, readError, readOptionError, readCompletion}
+use Rattle.scope.specs.Returned.{completionWords, readCompletion}
 use Rattle.recovery.specs.RecoveryReply.{ReplyLists, replyLists}
 use Rattle.recovery.specs.declared.{RecoveryReply.RecoveryReply}
-use Rattle.session_words.specs.State.{readDeviceId, readRequestId}
+use Rattle.calls.specs.Calls.{PlanRequest, planRequest}
 use Rattle.call_words.specs.Parts.{readPortId, readSetup, readOptionSetup, readReading, readStage, readStatus}
 
 unfoldable pub readOpening : List ℕ → Opening
@@ -64,6 +65,9 @@ readPlan w = record {
   «data_stage» = readStage w 10;
   «status_direction» = readStatus (getD w 13 0);
 }
+
+abbrev pub readPlanRequest : List ℕ → List ℕ → PlanRequest
+readPlanRequest w bytes = planRequest (readPlan w) bytes (readReading w 14)
 
 unfoldable pub readSubmitReply : List ℕ → SubmitReply
 readSubmitReply w = cond (eqb (getD w 1 0) 0) (SubmitReply.Token (getD w 2 0)) (SubmitReply.Error (readError w 3))

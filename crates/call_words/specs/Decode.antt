@@ -5,12 +5,10 @@ use lib.ListN.{getD, drop}
 use lib.Dec.{eqb, leb}
 use Rattle.chain.specs.Chain.{_if_else_}
 use Rattle.words.specs.Words.{readFlag, readOptionU64}
+use Rattle.models.specs.Values.{readOptionError, readRequestId}
 use Rattle.session.specs.declared.{RecoveryKind.RecoveryKind}
-use Rattle.scope.specs.Returned.{readOptionError}
 use Rattle.calls.specs.Calls.{Call, Open, Place, Device, Port, Endpoints, Reconcile, Move, Acquire, Initialize, Close, Begin, Submit, SubmitPlan, Poll, Recover, Reply, ToSubmit, ToPoll, ToRecovery, Change, Cancel, Timeout, Reclaim, Withdraw, Read, Status, Reports, CountReports, CompletedBytes, HeldCount, HeldBytes}
-use Rattle.session_words.specs.State.{readRequestId}
-use Rattle.call_words.specs.Parts.{readReading}
-use Rattle.call_words.specs.Arguments.{readOpening, readSnapshot, readPortRow, readAcquireReply, readRequest, readPlan, readSubmitReply, readPollReply, readOptionId, readRecoveryReply, readLists}
+use Rattle.call_words.specs.Arguments.{readOpening, readSnapshot, readPortRow, readAcquireReply, readRequest, readPlanRequest, readSubmitReply, readPollReply, readOptionId, readRecoveryReply, readLists}
 
 -- 0 to 4
 unfoldable pub readPlacing : ℕ → List ℕ → Call
@@ -32,7 +30,7 @@ readMoving n w =
 unfoldable pub readSubmission : ℕ → List ℕ → List ℕ → Call
 readSubmission n w bytes =
     Begin (Submit (drop 27 w) (readRequest w bytes)) if eqb n 8 else
-    Begin (SubmitPlan (readPlan w) bytes (readReading w 14))
+    Begin (SubmitPlan (readPlanRequest w bytes))
 
 -- 10 to 12
 unfoldable pub readReplying : ℕ → List ℕ → List ℕ → Call

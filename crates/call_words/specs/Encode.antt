@@ -68,7 +68,7 @@ movingWords (Close fresh e) = 7 ∷ optionNumberWords fresh ++ optionErrorWords 
 abbrev pub beginningWords : Beginning → List ℕ
 beginningWords (Submit packets q) =
     8 ∷ specWords (q .spec) ++ readingWords (q .readings .first) ++ readingWords (q .readings .second) ++ flagWord (q .given) ∷ packets
-beginningWords (SubmitPlan p bytes reading) = 9 ∷ controlPlanWords p ++ readingWords reading
+beginningWords (SubmitPlan q) = 9 ∷ controlPlanWords (q .plan) ++ readingWords (q .reading)
 beginningWords (Poll id) = 11 ∷ requestIdWords id
 beginningWords (Recover id RecoveryKind.Abort) = 22 ∷ requestIdWords id
 beginningWords (Recover id (RecoveryKind.Reset preserve)) = 23 ∷ requestIdWords id ++ flagWord preserve ∷ []
@@ -106,7 +106,7 @@ callWords (Read r) = readingCallWords r
 
 abbrev pub beginningBytes : Beginning → List ℕ
 beginningBytes (Submit packets q) = q .bytes
-beginningBytes (SubmitPlan p bytes reading) = bytes
+beginningBytes (SubmitPlan q) = q .bytes
 beginningBytes (Poll id) = []
 beginningBytes (Recover id k) = []
 

@@ -39,7 +39,7 @@ MovingFits (Close fresh e) = OptionErrorFits e
 
 abbrev pub BeginningFits : Beginning → Type 0
 BeginningFits (Submit packets q) = SpecFits (q .spec) × ReadingFits (q .readings .first) × ReadingFits (q .readings .second)
-BeginningFits (SubmitPlan p bytes reading) = PlanFits p × ReadingFits reading
+BeginningFits (SubmitPlan q) = PlanFits (q .plan) × ReadingFits (q .reading)
 BeginningFits (Poll id) = Unit {0}
 BeginningFits (Recover id kind) = Unit {0}
 

@@ -8,10 +8,9 @@ use lib.Dec.{eqb, leb}
 use Rattle.words.specs.Words.{flagWord, optionU32Word, optionU64Words}
 use Rattle.words.specs.declared.{OptionU64.OptionU64}
 use Rattle.models.specs.Codes.{readDirection, directionWord}
-use Rattle.models.specs.Values.{setupWords, setupTail, errorWords, optionErrorWords}
+use Rattle.models.specs.Values.{setupWords, setupTail, errorWords, optionErrorWords, readError}
 use Rattle.models.specs.declared.{BackendCompletion.BackendCompletion, OptionDirection.OptionDirection, OptionSetup.OptionSetup, OptionStage.OptionStage, PortId.PortId, PortReading.PortReading, SetupPacket.SetupPacket}
 use Rattle.rows.specs.Codec.{readSetupWords}
-use Rattle.scope.specs.Returned.{readError}
 
 -- ---- one word
 

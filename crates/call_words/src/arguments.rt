@@ -10,18 +10,19 @@ use models::PortReading;
 use models::RequestSpec;
 use models::SetupPacket;
 use models::codes;
+use models::values::device_at;
+use models::values::error_at;
+use models::values::id_at;
+use models::values::option_error_at;
 use polls::PollReply;
 use recovery::Outcome;
 use recovery::RecoveryReply;
 use reports::OptionId;
 use rows::codec;
 use scope::returned;
-use scope::returned::error_at;
-use scope::returned::option_error_at;
 use session::Size;
 use session::lifecycle::AcquireReply;
 use session::lifecycle::Opening;
-use session_words::state;
 use submissions::SubmitReply;
 use targets::Readings;
 use words::slices;
@@ -30,7 +31,6 @@ ghost use mathlib.Core.Path.{_≡_};
 ghost use Prim.Native.Nat.{_+_, _*_, min};
 ghost use lib.ListN.{getD, take, drop};
 ghost use Rattle.scope.specs.Returned.{completionWords};
-ghost use Rattle.session_words.specs.State.{readDeviceId, readRequestId};
 ghost use Rattle.call_words.specs.Parts.{readPortId, readSetup, readReading, readStage, readStatus};
 ghost use Rattle.call_words.specs.Arguments.{readOpening, readSnapshot, readPortRow, readAcquireReply, readSpec, readReadings, readPlan, readSubmitReply, readPollReply, readOptionId, readRecoveryReply, readCompleted, readCompletions, readAborted};
 
@@ -92,7 +92,7 @@ pub fn snapshot(w: &[u64]) -> DeviceSnapshot
     ensures { λ r. ⌜ r ≡ readSnapshot (now (w .entry)) ⌝ }
 {
     DeviceSnapshot {
-        id: state::device_at(w, 1),
+        id: device_at(w, 1),
         port: port_id_at(w, 4),
         state: codes::to_device_state(word_at(w, 7)),
     }
@@ -128,7 +128,7 @@ pub fn spec(w: &[u64]) -> RequestSpec
         word_at(w, 13),
     );
     RequestSpec {
-        device: state::device_at(w, 1),
+        device: device_at(w, 1),
         endpoint: (word_at(w, 4) % 256) as u8,
         transfer_type: codes::to_transfer(word_at(w, 5)),
         direction: codes::to_direction(word_at(w, 6)),
@@ -172,7 +172,7 @@ pub fn plan(w: &[u64]) -> ControlPlan
     ensures { λ r. ⌜ r ≡ readPlan (now (w .entry)) ⌝ }
 {
     ControlPlan {
-        device: state::device_at(w, 1),
+        device: device_at(w, 1),
         profile: codes::to_profile(word_at(w, 4)),
         setup: setup_at(w, 5),
         data_stage: stage_at(w, 10),
@@ -209,7 +209,7 @@ pub fn option_id(w: &[u64]) -> OptionId
     if word_at(w, 1) == 0 {
         return OptionId::None;
     }
-    OptionId::Some(state::id_at(w, 2))
+    OptionId::Some(id_at(w, 2))
 }
 
 pub fn backend_abort(w: &[u64]) -> RecoveryReply

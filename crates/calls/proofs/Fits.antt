@@ -4,11 +4,10 @@ use Rattle.words.specs.Words.{optionU32Word, readOptionU32}
 use Rattle.words.specs.declared.{OptionU32.OptionU32}
 use Rattle.words.proofs.Options.{low, option-u32-back}
 use Rattle.words.proofs.Signed.{option-i32-says}
-use Rattle.models.specs.Values.{setupWords, errorWords, optionErrorWords}
+use Rattle.models.specs.Values.{setupWords, errorWords, optionErrorWords, readError, readOptionError}
 use Rattle.models.specs.declared.{OperationError.OperationError, OptionError.OptionError, OptionSetup.OptionSetup, SetupWords.SetupWords}
 use Rattle.models.proofs.Enums.{category-back}
 use Rattle.rows.specs.Codec.{readSetupWords}
-use Rattle.scope.specs.Returned.{readError, readOptionError}
 use Rattle.calls.specs.Fits.{U32Fits, ErrorFits, OptionErrorFits, SetupFits}
 
 pub u32-back : (o : OptionU32) → U32Fits o → readOptionU32 (optionU32Word o) ≡ o

@@ -102,8 +102,8 @@ moved-tabled (Close fresh reply) w = close-tabled fresh reply _ _
 begun-tabled : (b : Beginning) (w : World) → Tabled (beginningNumbers b) (answerSaid (begunOf b w .result .answer))
 unfolding begunOf
 begun-tabled (Submit packets q) w = same _ (submit-same (submitOf packets q (w .session) (w .lent) .result .answer)) (submit-tabled q _ _ packets)
-begun-tabled (SubmitPlan q bytes first) w =
-    same _ (plan-same (submitPlanOf q bytes first (w .session) (w .lent) .result .answer)) (submit-plan-tabled q bytes first _ _)
+begun-tabled (SubmitPlan q) w =
+    same _ (plan-same (submitPlanOf (q .plan) (q .bytes) (q .reading) (w .session) (w .lent) .result .answer)) (submit-plan-tabled (q .plan) (q .bytes) (q .reading) _ _)
 begun-tabled (Poll id) w = same _ (poll-same (pollOf id (w .session) (worldStore w) .answer)) (poll-tabled id _ _)
 begun-tabled (Recover id kind) w = same _ (begin-same (recoverOf id kind (w .session) (worldStore w) .answer)) (recover-tabled id kind _ _)
 

@@ -26,11 +26,20 @@ pub data Moving : Type 0 where
   Initialize : OptionError → Moving
   Close : OptionU64 → OptionError → Moving
 
+-- the submission of a control plan
+pub record PlanRequest : Type 0 where
+  pub plan : ControlPlan
+  pub bytes : List ℕ
+  pub reading : PortReading
+
+abbrev pub planRequest : ControlPlan → List ℕ → PortReading → PlanRequest
+planRequest q bytes x = record { plan = q; bytes = bytes; reading = x }
+
 -- what asks the backend, and waits for its reply
 pub data Beginning : Type 0 where
   -- packets, and the request
   Submit : List ℕ → Request → Beginning
-  SubmitPlan : ControlPlan → List ℕ → PortReading → Beginning
+  SubmitPlan : PlanRequest → Beginning
   Poll : RequestId → Beginning
   Recover : RequestId → RecoveryKind → Beginning
 
@@ -47,7 +56,7 @@ pub data Changing : Type 0 where
   Reclaim : Changing
   Withdraw : Changing
 
--- what leaves all as it is
+-- read-only calls
 pub data Reading : Type 0 where
   Status : RequestId → Reading
   Reports : OptionId → Reading

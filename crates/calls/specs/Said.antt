@@ -37,7 +37,7 @@ movingNumbers (Close fresh reply) = closeNumbers
 
 abbrev pub beginningNumbers : Beginning → List ℕ
 beginningNumbers (Submit packets q) = submitNumbers
-beginningNumbers (SubmitPlan q bytes first) = submitPlanNumbers
+beginningNumbers (SubmitPlan q) = submitPlanNumbers
 beginningNumbers (Poll id) = pollNumbers
 beginningNumbers (Recover id kind) = recoverNumbers
 

@@ -1,17 +1,18 @@
 -- A call's step: its answer, and the session, the bus, the store and the area after it. One clause a call, in groups, by the definitions that
 -- the calls' own contracts cite. Assumes nothing.
-use mathlib.Core.List.{List}
+use mathlib.Core.List.{List, [], _∷_}
 use lib.ListN.{length}
 use Rattle.chain.specs.After.{After, after}
 use Rattle.rows.specs.Store.{Store}
 use Rattle.rules.specs.declared.Change as rules
 use Rattle.rules.specs.declared.Change.the-variants as change
 use Rattle.bus.specs.Tables.{Bus}
-use Rattle.models.specs.declared.{Verdict.Verdict}
+use Rattle.words.specs.declared.{OptionU64.OptionU64}
+use Rattle.models.specs.declared.{ControllerState.ControllerState, OptionPorts.OptionPorts, Verdict.Verdict}
 use Rattle.session.specs.Lent.{Memory, Lent, memory, lent}
 use Rattle.session.specs.Lifecycle.{openOf, acquireOf, initializeOf, closeOf}
 use Rattle.session.specs.Place.{setDeviceOf, setPortOf, setEndpointsOf, setReconcileOf}
-use Rattle.session.specs.declared.{Called.Called, Session.Session, lifecycle.Opened.Opened}
+use Rattle.session.specs.declared.{Called.Called, InFlight.InFlight, OptionStall.OptionStall, Session.Session, lifecycle.Opened.Opened}
 use Rattle.submissions.specs.Submit.{submitOf}
 use Rattle.submissions.specs.Plan.{submitPlanOf}
 use Rattle.submissions.specs.SubmitReply.{submitReplyOf}
@@ -24,7 +25,7 @@ use Rattle.reports.specs.Status.{statusOf, nextOf, shownCount, completedPart, h
 use Rattle.reports.specs.declared.{Reported.Reported}
 use Rattle.recovery.specs.Recover.{recoverOf}
 use Rattle.recovery.specs.RecoveryReply.{recoveryReplyOf}
-use Rattle.recovery.specs.declared.{Begun.Begun, Recovered.Recovered}
+use Rattle.recovery.specs.declared.{Begun.Begun, Replied.Replied}
 use Rattle.calls.specs.Calls.{Placing, Device, Port, Endpoints, Reconcile, Moving, Acquire, Initialize, Close, Beginning, Submit, SubmitPlan, Poll, Recover, Replying, ToSubmit, ToPoll, ToRecovery, Changing, Cancel, Timeout, Reclaim, Withdraw, Reading, Status, Reports, CountReports, CompletedBytes, HeldCount, HeldBytes, Call, Open, Place, Move, Begin, Reply, Change, Read}
 use Rattle.calls.specs.Answers.{outcome, ofOpened, ofVerdict, ofSubmit, ofPlan, ofReport, ofPoll, ofNext, ofTally, ofPart, ofBegin, ofRecovery}
 use Rattle.calls.specs.declared.{Answer.Answer, Outcome.Outcome}
@@ -36,6 +37,20 @@ pub record World : Type 0 where
 
 abbrev pub world : Session → Lent → World
 world s l = record { session = s; lent = l }
+
+-- what an opening is handed: no session yet
+abbrev pub noSession : Session
+noSession = record {
+  number = 0;
+  generation = 0;
+  «next_sequence» = 0;
+  ports = OptionPorts.None;
+  state = ControllerState.Closed;
+  «recovery_revision» = OptionU64.None;
+  «recoverable_stall» = OptionStall.None;
+  «in_flight» = InFlight.Nothing;
+  size = record { «row_count» = 0; «row_bytes» = 0 };
+}
 
 abbrev pub worldStore : World → Store
 worldStore w = w .lent .memory .store
@@ -78,7 +93,7 @@ reports o w = onStore (after (outcome (ofReport (o .result .answer)) (o .result 
 abbrev pub finishes : After Reported Memory → World → After Outcome Lent
 finishes o w = onMemory (after (outcome (ofReport (o .result .answer)) (o .result .session)) (o .lent)) w
 
-abbrev pub recovers : After Recovered Memory → World → After Outcome Lent
+abbrev pub recovers : After Replied Memory → World → After Outcome Lent
 recovers o w = onMemory (after (outcome (ofRecovery (o .result .answer)) (o .result .session)) (o .lent)) w
 
 abbrev pub reads : Answer → World → After Outcome Lent
@@ -98,7 +113,7 @@ movedOf (Close fresh reply) w = closeOf fresh reply (w .session) (worldStore w)
 
 unfoldable pub begunOf : Beginning → World → After Outcome Lent
 begunOf (Submit packets q) w = submits (submitOf packets q (w .session) (w .lent))
-begunOf (SubmitPlan q bytes first) w = plans (submitPlanOf q bytes first (w .session) (w .lent))
+begunOf (SubmitPlan q) w = plans (submitPlanOf (q .plan) (q .bytes) (q .reading) (w .session) (w .lent))
 begunOf (Poll id) w = polls (pollOf id (w .session) (worldStore w)) w
 begunOf (Recover id kind) w = begins (recoverOf id kind (w .session) (worldStore w)) w
 
@@ -130,3 +145,19 @@ stepOf (Begin b) w = begunOf b w
 stepOf (Reply r) w = repliedOf r w
 stepOf (Change id c) w = reports (changeOf id (changeBy c) (w .session) (worldStore w)) w
 stepOf (Read r) w = reads (readOf r w) w
+
+-- ---- calls one after another
+
+-- what a call leaves is handed to the next
+abbrev pub next : After Outcome Lent → World
+next o = world (o .result .session) (o .lent)
+
+-- calls after an outcome; the answer is the last call's
+abbrev pub madeAfter : List Call → After Outcome Lent → After Outcome Lent
+madeAfter [] o = o
+madeAfter (c ∷ cs) o = madeAfter cs (stepOf c (next o))
+
+-- what calls leave of a world
+abbrev pub madeOn : List Call → World → World
+madeOn [] w = w
+madeOn (c ∷ cs) w = next (madeAfter cs (stepOf c w))

@@ -8,7 +8,7 @@ use session::Session;
 use submissions::PlanSubmission;
 use submissions::Submission;
 
-pub mod answers;
+pub mod answers; // answers.rt: the answer of each call as one type
 
 // What a call answers.
 pub enum Answer {

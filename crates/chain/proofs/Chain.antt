@@ -1,7 +1,7 @@
 -- Laws of chains of checks. A proof walks a chain from its front by `search chain depth N`, N above the number of checks: at each
 -- `return` the code's tests say which law serves at each check. Assumes nothing.
 use Prim.Native.Nat.{ℕ}
-use mathlib.Core.Bool.{Bool, true, false, not, _&&_}
+use mathlib.Core.Bool.{Bool, true, false, not, _&&_, _||_, true≢false}
 use mathlib.Core.Path.{_≡_, refl, ap, sym, _∙_}
 use native.Mathlib.Omega.{arith}
 use borrow.Author.Tests.{not-false, eq-eqb, ne-eqb, lt-ltb, le-ltb, le-leb, lt-leb}
@@ -47,6 +47,11 @@ both false b e = (e, cc)
 
 pub and3 : (a b c : Bool) → (a && b && c) ≡ true → (a ≡ true) × (b ≡ true) × (c ≡ true)
 and3 a b c e = let p = both (a && b) c e in let q = both a b (p .0) in (q .0, q .1, p .1)
+
+-- of two tests by `||` that both fail
+pub or-false : (a b : Bool) → (a || b) ≡ false → (a ≡ false) × (b ≡ false)
+or-false true b e = absurd (true≢false e)
+or-false false b e = (refl, e)
 
 pub and-false : (a : Bool) → (a && false) ≡ false
 and-false true = refl

@@ -1,10 +1,10 @@
 -- Laws of the callers of a verdict (a refusal is passed on, a pass is answered with what is ready), and of the status of a Compliant plan. Assumes nothing.
 use Prim.Native.Nat.{ℕ}
-use mathlib.Core.Bool.{Bool, true, false, cond, not, _&&_, Bool·beq}
-use mathlib.Core.Path.{_≡_, refl, ap, sym, _∙_}
+use mathlib.Core.Bool.{Bool, true, false, cond, not, _&&_}
+use mathlib.Core.Path.{_≡_, refl, _∙_}
 use lib.Dec.{ltb}
 use Rattle.models.specs.Kinds.{isIn}
-use Rattle.models.specs.declared.{ControlPlan.ControlPlan, Refusal.Refusal, RequestMetadata.RequestMetadata, RequestSpec.RequestSpec, Verdict.Verdict}
+use Rattle.models.specs.declared.{ControlPlan.ControlPlan, DataStage.DataStage, Refusal.Refusal, RequestMetadata.RequestMetadata, RequestSpec.RequestSpec, Verdict.Verdict}
 use Rattle.models.specs.declared.Direction.the-variants.{In, Out}
 use Rattle.checks.specs.Plan.{planFacts, compliantStatus, planChecked, planOf, plannedIf, planned}
 use Rattle.checks.specs.Prepare.{specFacts, specChecked, metadataOf, preparedIf, prepared}
@@ -28,13 +28,10 @@ module _ (q : ControlPlan) (m row : ℕ) (f : PlanFacts) (v : Verdict) (ef : f �
   unfolding planned plannedIf
   plan-go x e ex = rw (← ef, ← ev, e, ex)
 
--- the status of a Compliant plan, and a test against it
+-- the status of a Compliant plan
 in-unless : (t : Bool) → not t ≡ isIn (cond t Out In)
 in-unless true = refl
 in-unless false = refl
 
-pub status-in : (v : PlanFacts) → not (v .inward && ltb 0 (v .length)) ≡ isIn (compliantStatus v)
-status-in v = in-unless (v .inward && ltb 0 (v .length))
-
-pub status-through : (a s t b : Bool) → s ≡ t → not (Bool·beq a s) ≡ b → not (Bool·beq a t) ≡ b
-status-through a s t b e f = ap (λ (x : Bool). not (Bool·beq a x)) (sym e) ∙ f
+pub status-in : (s : DataStage) (b : Bool) → b ≡ isIn (s .direction) → not (b && ltb 0 (s .length)) ≡ isIn (compliantStatus s)
+status-in s b e = in-unless (b && ltb 0 (s .length)) ∙ rw e

@@ -1,6 +1,6 @@
--- What a check that passed says of its request: it fits its row, and so does the data that it brings. Assumes nothing.
+-- A request or a plan that passed fits its row, and so does its data. Assumes nothing.
 use Prim.Native.Nat.{ℕ, _≤_}
-use mathlib.Core.Bool.{Bool, true, false, not, _&&_, _||_}
+use mathlib.Core.Bool.{Bool, true, false}
 use mathlib.Core.Path.{_≡_, refl, sym, ap}
 use native.Mathlib.Omega.{arith}
 use borrow.Author.Tests.{ltb-false, eqb-true}
@@ -8,7 +8,7 @@ use lib.Dec.{eqb}
 use Rattle.chain.specs.Chain.{_if_else_}
 use Rattle.chain.proofs.Chain.{caseB}
 use Rattle.models.specs.declared.{ControlPlan.ControlPlan, Refusal.Refusal, RequestMetadata.RequestMetadata, RequestSpec.RequestSpec, Verdict.Verdict}
-use Rattle.checks.specs.Prepare.{specFacts, dataChecked, controlChecked, otherChecked, specChecked, metadataOf, preparedIf, prepared}
+use Rattle.checks.specs.Prepare.{specFacts, isWrongData, dataChecked, controlChecked, otherChecked, specChecked, metadataOf, preparedIf, prepared}
 use Rattle.checks.specs.Plan.{planFacts, payloadChecked, stagesChecked, sizeChecked, planChecked, planOf, plannedIf, planned}
 use Rattle.checks.specs.declared.{plan.PlanFacts.PlanFacts, plan.Planned.Planned, plan.ValidatedControlPlan.ValidatedControlPlan, prepare.Prepared.Prepared, prepare.SpecFacts.SpecFacts}
 
@@ -28,8 +28,8 @@ unfolding _if_else_
 either true a b f g e = f e
 either false a b f g e = g e
 
--- the data of an IN is none, and of an OUT as long as it says
-given-small : (inward : Bool) (given length : ℕ) → (inward && not (eqb given 0) || not inward && not (eqb given length)) ≡ false → given ≤ length
+-- IN has no data, and OUT as much as its length
+given-small : (inward : Bool) (given length : ℕ) → isWrongData inward given length ≡ false → given ≤ length
 given-small true g n = caseB (eqb g 0) (λ e. rw e λ h. omega (arith, eqb-true g 0 e)) (λ e. rw e λ h. absurd (let z : _≡_ {A = ℕ} 0 1 = cc in omega arith))
 given-small false g n = caseB (eqb g n) (λ e. rw e λ h. omega (arith, eqb-true g n e)) (λ e. rw e λ h. absurd (let z : _≡_ {A = ℕ} 0 1 = cc in omega arith))
 

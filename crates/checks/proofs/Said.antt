@@ -1,4 +1,4 @@
--- What the checks of packets, of a request, of a plan and of a completion refuse is of the table. Assumes nothing.
+-- Every number that a check of packets, of a request, of a plan or of a completion refuses by is in its list. Assumes nothing.
 use Prim.Native.Nat.{ℕ}
 use mathlib.Core.Bool.{Bool, true}
 use mathlib.Core.List.{List}

@@ -11,6 +11,10 @@ use Rattle.models.specs.Refusals.{rejected}
 use Rattle.models.specs.declared.{TransferType.TransferType, Verdict.Verdict}
 use Rattle.models.specs.declared.Verdict.the-variants.{Pass}
 
+-- the most packets of a request
+abbrev pub packetsMost : ℕ
+packetsMost = 128
+
 -- the sum of the packets, which no width bounds
 abbrev pub total : List ℕ → ℕ
 total packets = sumBy (λ (n : ℕ). n) packets
@@ -20,6 +24,6 @@ unfoldable pub packetsChecked : Bool → List ℕ → TransferType → ℕ → V
 packetsChecked given packets type size =
     Pass if not given else
     rejected 4 if not (isIsochronous type) else
-    rejected 4 if eqb (length packets) 0 || ltb 128 (length packets) else
+    rejected 4 if eqb (length packets) 0 || ltb packetsMost (length packets) else
     rejected 4 if not (eqb (total packets) size) else
     Pass

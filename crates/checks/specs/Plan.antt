@@ -10,6 +10,7 @@ use Rattle.models.specs.declared.ControlProfile.the-variants.{Compliant, Device
 use Rattle.models.specs.declared.Direction.the-variants.{In, Out}
 use Rattle.models.specs.declared.TransferType.the-variants.{Control}
 use Rattle.standards.specs.Setup.{requestDirection, requestKind, recipientOf}
+use Rattle.checks.specs.Prepare.{withinRow, isReserved, isWrongData}
 use Rattle.checks.specs.declared.{plan.PlanFacts.PlanFacts, plan.Planned.Planned, plan.ValidatedControlPlan.ValidatedControlPlan}
 
 abbrev pub hasStatus : OptionDirection → Bool
@@ -34,6 +35,10 @@ abbrev pub stageOf : OptionStage → ℕ → DataStage
 stageOf OptionStage.None type = record { direction = requestDirection type; length = 0 }
 stageOf (OptionStage.Some s) type = s
 
+-- Compliant status is OUT after a non-empty IN stage, else IN
+abbrev pub compliantStatus : DataStage → Direction
+compliantStatus s = cond (isIn (s .direction) && ltb 0 (s .length)) Out In
+
 -- what the checks look at, of the plan q with m bytes of data, where a row of the store has `row` bytes
 abbrev pub planFacts : ControlPlan → ℕ → ℕ → PlanFacts
 planFacts q m row = record {
@@ -46,6 +51,7 @@ planFacts q m row = record {
   «setup_in» = isIn (requestDirection (q .setup .«request_type»));
   «setup_length» = q .setup .length;
   compliant = isCompliant (q .profile);
+  «compliant_in» = isIn (compliantStatus (stageOf (q .«data_stage») (q .setup .«request_type»)));
   «has_stage» = hasStage (q .«data_stage»);
   inward = isIn (stageOf (q .«data_stage») (q .setup .«request_type») .direction);
   length = stageOf (q .«data_stage») (q .setup .«request_type») .length;
@@ -56,31 +62,23 @@ planFacts q m row = record {
 -- all: 24 data; 25 payload without stage
 unfoldable pub payloadChecked : PlanFacts → Verdict
 payloadChecked v =
-    rejected 24 if v .inward && not (eqb (v .«data_length») 0) || not (v .inward) && not (eqb (v .«data_length») (v .length)) else
+    rejected 24 if isWrongData (v .inward) (v .«data_length») (v .length) else
     rejected 25 if not (v .«has_stage») && not (eqb (v .«data_length») 0) else
     Verdict.Pass
-
--- Compliant status is OUT after a non-empty IN stage, else IN
-abbrev pub compliantStatus : PlanFacts → Direction
-compliantStatus v = cond (v .inward && ltb 0 (v .length)) Out In
 
 -- Compliant: 21U as 13; 22 stages; 23 status
 unfoldable pub stagesChecked : PlanFacts → Verdict
 stagesChecked v =
-    rejected 21 if ltb 3 (v .recipient) || eqb (v .kind) 3 else
+    rejected 21 if isReserved (v .recipient) (v .kind) else
     rejected 22
     if not (eqb (v .length) (v .«setup_length»)) || not (Bool·beq (v .«has_stage») (not (eqb (v .«setup_length») 0))) || not (Bool·beq (v .inward) (v .«setup_in»))
     else
-    rejected 23 if not (Bool·beq (v .«status_in») (isIn (compliantStatus v))) else
+    rejected 23 if not (Bool·beq (v .«status_in») (v .«compliant_in»)) else
     payloadChecked v
 
 -- 6; 7
 unfoldable pub sizeChecked : PlanFacts → Verdict
-sizeChecked v =
-    rejected 6 if ltb 65536 (v .length) else
-    rejected 7 if ltb (v .«row_bytes») (v .length) else
-    stagesChecked v if v .compliant else
-    payloadChecked v
+sizeChecked v = withinRow (v .length) (v .«row_bytes») (stagesChecked v if v .compliant else payloadChecked v)
 
 -- 18U no status; 19U type 0 request 5; 20U type 0 request 9 or type 1 request 11
 unfoldable pub planChecked : PlanFacts → Verdict

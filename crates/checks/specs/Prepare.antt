@@ -33,11 +33,24 @@ specFacts q m row = record {
   request = packetOf (q .setup) .request;
 }
 
+-- 6U over 65,536; 7 over the store's row; then the other checks, of a request and of a plan alike
+abbrev pub withinRow : ℕ → ℕ → Verdict → Verdict
+withinRow size row others =
+    rejected 6 if ltb 65536 size else
+    rejected 7 if ltb row size else
+    others
+
+-- the tests of 13 and 21: the recipient is over 3, or the type is 3
+abbrev pub isReserved : ℕ → ℕ → Bool
+isReserved recipient kind = ltb 3 recipient || eqb kind 3
+
+-- the tests of 17 and 24: IN with data, or OUT with data of another length
+abbrev pub isWrongData : Bool → ℕ → ℕ → Bool
+isWrongData inward given size = inward && not (eqb given 0) || not inward && not (eqb given size)
+
 -- all: 17 data
 unfoldable pub dataChecked : SpecFacts → Verdict
-dataChecked v =
-    rejected 17 if v .inward && not (eqb (v .«data_length») 0) || not (v .inward) && not (eqb (v .«data_length») (v .length)) else
-    Verdict.Pass
+dataChecked v = rejected 17 if isWrongData (v .inward) (v .«data_length») (v .length) else Verdict.Pass
 
 -- control: 9 endpoint not 0 or over 65,535; 10 no SETUP; 11U lengths differ; 12 direction; 13U recipient over 3 or type 3;
 -- 14U standard type with request 5, 9, 11
@@ -47,7 +60,7 @@ controlChecked v =
     rejected 10 if not (v .«has_setup») else
     rejected 11 if not (eqb (v .«setup_length») (v .length)) else
     rejected 12 if not (Bool·beq (v .«setup_in») (v .inward)) else
-    rejected 13 if ltb 3 (v .recipient) || eqb (v .kind) 3 else
+    rejected 13 if isReserved (v .recipient) (v .kind) else
     rejected 14 if eqb (v .kind) 0 && (eqb (v .request) 5 || eqb (v .request) 9 || eqb (v .request) 11) else
     dataChecked v
 
@@ -58,14 +71,11 @@ otherChecked v =
     rejected 16 if not (Bool·beq (v .«endpoint_in») (v .inward)) else
     dataChecked v
 
--- 6U over 65,536; 7 over the store's row; 8 endpoint bits 4 to 6
+-- 6, 7; 8 endpoint bits 4 to 6
 unfoldable pub specChecked : SpecFacts → Verdict
 specChecked v =
-    rejected 6 if ltb 65536 (v .length) else
-    rejected 7 if ltb (v .«row_bytes») (v .length) else
-    rejected 8 if not (eqb (v .reserved) 0) else
-    controlChecked v if v .control else
-    otherChecked v
+    withinRow (v .length) (v .«row_bytes»)
+    (rejected 8 if not (eqb (v .reserved) 0) else controlChecked v if v .control else otherChecked v)
 
 -- document 01's prepared request
 abbrev pub metadataOf : RequestSpec → RequestMetadata

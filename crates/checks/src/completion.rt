@@ -58,8 +58,8 @@ pub fn test_completion(
     data_length: u64,
     requested: u64,
 ) -> CompletionTest
-    ensures { λ r. ⌜ (r ≡ testCompletion completion «data_length» requested)
-        × Tabled completionNumbers (testSaid (completion .«completion_code») r) ⌝ }
+    ensures step { λ r. ⌜ r ≡ testCompletion completion «data_length» requested ⌝ }
+    ensures table { λ r. ⌜ Tabled completionNumbers (testSaid (completion .«completion_code») r) ⌝ }
 {
     let optional = completion.actual_length;
     let OptionU64::Some(actual) = optional else {

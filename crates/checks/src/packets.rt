@@ -9,6 +9,9 @@ ghost use Rattle.models.specs.Said.{Tabled, verdictSaid};
 ghost use Rattle.checks.specs.Packets.{total, packetsChecked};
 ghost use Rattle.checks.specs.Said.{packetsNumbers};
 
+// The most packets of a request.
+const PACKETS_MOST: usize = 128;
+
 // The packets sum to the length. A sum that passes the length ends the walk, so it can't wrap.
 fn sums_to(packets: &[u64], length: u64) -> bool
     ensures { λ r. ⌜ r ≡ eqb (total (now (packets .entry))) length ⌝ }
@@ -26,15 +29,15 @@ fn sums_to(packets: &[u64], length: u64) -> bool
     sum == length
 }
 
-// 4: a list is given, and the transfer is not isochronous, or the packets are not 1 to 128, or don't sum to the length.
+// Refuses by 4 packets that are given and not isochronous, not 1 to 128, or not of the length together.
 pub fn check_packets(
     given: bool,
     packets: &[u64],
     transfer_type: TransferType,
     length: u64,
 ) -> Verdict
-    ensures { λ r. ⌜ (r ≡ packetsChecked given (now (packets .entry)) «transfer_type» length)
-        × Tabled packetsNumbers (verdictSaid r) ⌝ }
+    ensures step { λ r. ⌜ r ≡ packetsChecked given (now (packets .entry)) «transfer_type» length ⌝ }
+    ensures table { λ r. ⌜ Tabled packetsNumbers (verdictSaid r) ⌝ }
 {
     if !given {
         return Verdict::Pass;
@@ -44,7 +47,7 @@ pub fn check_packets(
         return reject(4);
     }
     let n = packets.len();
-    if (n == 0) | (n > 128) {
+    if (n == 0) | (n > PACKETS_MOST) {
         return reject(4);
     }
     let whole = sums_to(packets, length);

@@ -1,4 +1,7 @@
 // The place plan of the table: the Rust's `ControlPlan::validate`.
+use crate::prepare::LONGEST;
+use crate::prepare::is_reserved;
+use crate::prepare::is_wrong_data;
 use models::ControlPlan;
 use models::ControlProfile;
 use models::DataStage;
@@ -19,7 +22,7 @@ ghost use Rattle.models.specs.Said.{Tabled};
 ghost use Rattle.checks.specs.Plan.{hasStatus, statusOrIn, isCompliant, hasStage, stageOf, planFacts, payloadChecked, compliantStatus, stagesChecked, sizeChecked, planChecked, planOf, planned};
 ghost use Rattle.checks.specs.Said.{plannedSaid, planNumbers};
 
-// A plan that may go on. Its SETUP bytes are `standards::setup::setup_bytes` of the metadata's packet.
+// A plan that passed. Its SETUP bytes are `standards::setup::setup_bytes` of the metadata's packet.
 pub struct ValidatedControlPlan {
     pub metadata: RequestMetadata,
     pub has_data: bool,
@@ -44,6 +47,7 @@ pub struct PlanFacts {
     pub setup_in: bool,
     pub setup_length: u64,
     pub compliant: bool,
+    pub compliant_in: bool,
     pub has_stage: bool,
     pub inward: bool,
     pub length: u64,
@@ -101,6 +105,15 @@ fn stage_of(s: OptionStage, request_type: u8) -> DataStage
     }
 }
 
+// Whether the status of a Compliant plan is IN: it is OUT after an IN stage that is not empty, else IN.
+fn is_compliant_in(stage: DataStage) -> bool
+    ensures { λ r. ⌜ r ≡ isIn (compliantStatus stage) ⌝ }
+{
+    let direction = stage.direction;
+    let inward = kinds::is_in(direction);
+    !(inward & (stage.length > 0))
+}
+
 fn plan_facts(q: ControlPlan, data_length: u64, row_bytes: u64) -> PlanFacts
     ensures { λ r. ⌜ r ≡ planFacts q «data_length» «row_bytes» ⌝ }
 {
@@ -122,6 +135,7 @@ fn plan_facts(q: ControlPlan, data_length: u64, row_bytes: u64) -> PlanFacts
         setup_in: kinds::is_in(setup_direction),
         setup_length: p.length as u64,
         compliant: is_compliant(profile),
+        compliant_in: is_compliant_in(stage),
         has_stage: has_stage(optional_stage),
         inward: kinds::is_in(data_direction),
         length: stage.length,
@@ -130,11 +144,11 @@ fn plan_facts(q: ControlPlan, data_length: u64, row_bytes: u64) -> PlanFacts
     }
 }
 
-// 24 and 25, of every plan.
+// Refuses any plan by 24 and 25.
 fn check_payload(v: PlanFacts) -> Verdict
     ensures { λ r. ⌜ r ≡ payloadChecked v ⌝ }
 {
-    if (v.inward & (v.data_length != 0)) | (!v.inward & (v.data_length != v.length)) {
+    if is_wrong_data(v.inward, v.data_length, v.length) {
         return reject(24);
     }
     if !v.has_stage & (v.data_length != 0) {
@@ -143,18 +157,11 @@ fn check_payload(v: PlanFacts) -> Verdict
     Verdict::Pass
 }
 
-// Whether the status of a Compliant plan is IN: it is OUT after an IN stage that is not empty, else IN.
-fn is_status_in(v: PlanFacts) -> bool
-    ensures { λ r. ⌜ r ≡ isIn (compliantStatus v) ⌝ }
-{
-    !(v.inward & (v.length > 0))
-}
-
-// 21, 22, 23, of a Compliant plan.
+// Refuses a Compliant plan by 21, 22 and 23, then by its data.
 fn check_stages(v: PlanFacts) -> Verdict
     ensures { λ r. ⌜ r ≡ stagesChecked v ⌝ }
 {
-    if (v.recipient > 3) | (v.kind == 3) {
+    if is_reserved(v.recipient, v.kind) {
         return reject(21);
     }
     if (v.length != v.setup_length)
@@ -163,18 +170,17 @@ fn check_stages(v: PlanFacts) -> Verdict
     {
         return reject(22);
     }
-    let wanted = is_status_in(v);
-    if v.status_in != wanted {
+    if v.status_in != v.compliant_in {
         return reject(23);
     }
     check_payload(v)
 }
 
-// 6, 7, then by the profile.
+// Refuses by 6 and 7, then by the profile's checks.
 fn check_size(v: PlanFacts) -> Verdict
     ensures { λ r. ⌜ r ≡ sizeChecked v ⌝ }
 {
-    if v.length > 65536 {
+    if v.length > LONGEST {
         return reject(6);
     }
     if v.length > v.row_bytes {
@@ -186,7 +192,7 @@ fn check_size(v: PlanFacts) -> Verdict
     check_payload(v)
 }
 
-// 18, 19, 20.
+// Refuses by 18, 19 and 20, then by the size.
 fn check_plan(v: PlanFacts) -> Verdict
     ensures { λ r. ⌜ r ≡ planChecked v ⌝ }
 {
@@ -231,7 +237,8 @@ fn plan_of(q: ControlPlan) -> ValidatedControlPlan
 
 // Checks a plan with `data_length` bytes of data against a store whose rows have `row_bytes`.
 pub fn validate_plan(q: ControlPlan, data_length: u64, row_bytes: u64) -> Planned
-    ensures { λ r. ⌜ (r ≡ planned q «data_length» «row_bytes») × Tabled planNumbers (plannedSaid r) ⌝ }
+    ensures step { λ r. ⌜ r ≡ planned q «data_length» «row_bytes» ⌝ }
+    ensures table { λ r. ⌜ Tabled planNumbers (plannedSaid r) ⌝ }
 {
     let facts = plan_facts(q, data_length, row_bytes);
     let verdict = check_plan(facts);

@@ -9,16 +9,19 @@ use models::reject;
 use standards::setup;
 ghost use mathlib.Core.Path.{_≡_};
 ghost use Rattle.models.specs.Said.{Tabled};
-ghost use Rattle.checks.specs.Prepare.{hasSetup, specFacts, dataChecked, controlChecked, otherChecked, specChecked, metadataOf, prepared};
+ghost use Rattle.checks.specs.Prepare.{hasSetup, specFacts, isReserved, isWrongData, dataChecked, controlChecked, otherChecked, specChecked, metadataOf, prepared};
 ghost use Rattle.checks.specs.Said.{preparedSaid, prepareNumbers};
 
-// A request that may go on, or its refusal. Its buffer is zeros of the length (IN) or the data (OUT).
+// The longest request.
+pub(crate) const LONGEST: u64 = 65536;
+
+// A request that passed, or its refusal. Its buffer is zeros of the length (IN) or the data (OUT).
 pub enum Prepared {
     Refused(Refusal),
     Ready(RequestMetadata),
 }
 
-// What the checks look at: the request's fields, and what the standard says of its bytes.
+// What the checks look at: the request's fields, and the parts of its bytes that the standard names.
 pub struct SpecFacts {
     pub length: u64,
     pub row_bytes: u64,
@@ -74,17 +77,31 @@ fn spec_facts(q: RequestSpec, data_length: u64, row_bytes: u64) -> SpecFacts
     }
 }
 
-// 17, of every request.
+// The standard reserves the recipient or the type: refused by 13, in a plan by 21.
+pub(crate) fn is_reserved(recipient: u8, kind: u8) -> bool
+    ensures { λ r. ⌜ r ≡ isReserved recipient kind ⌝ }
+{
+    (recipient > 3) | (kind == 3)
+}
+
+// IN with data, or OUT with data of another length: refused by 17, in a plan by 24.
+pub(crate) fn is_wrong_data(inward: bool, data_length: u64, length: u64) -> bool
+    ensures { λ r. ⌜ r ≡ isWrongData inward «data_length» length ⌝ }
+{
+    (inward & (data_length != 0)) | (!inward & (data_length != length))
+}
+
+// Refuses by 17, any request.
 fn check_data(v: SpecFacts) -> Verdict
     ensures { λ r. ⌜ r ≡ dataChecked v ⌝ }
 {
-    if (v.inward & (v.data_length != 0)) | (!v.inward & (v.data_length != v.length)) {
+    if is_wrong_data(v.inward, v.data_length, v.length) {
         return reject(17);
     }
     Verdict::Pass
 }
 
-// 9 to 14, of a control request.
+// Refuses a control request by 9 to 14, then by its data.
 fn check_control(v: SpecFacts) -> Verdict
     ensures { λ r. ⌜ r ≡ controlChecked v ⌝ }
 {
@@ -103,7 +120,7 @@ fn check_control(v: SpecFacts) -> Verdict
     if v.setup_in != v.inward {
         return reject(12);
     }
-    if (v.recipient > 3) | (kind == 3) {
+    if is_reserved(v.recipient, kind) {
         return reject(13);
     }
     if (kind == 0) & ((request == 5) | (request == 9) | (request == 11)) {
@@ -112,7 +129,7 @@ fn check_control(v: SpecFacts) -> Verdict
     check_data(v)
 }
 
-// 15 and 16, of a request of another type.
+// Refuses a request of another type by 15 and 16, then by its data.
 fn check_other(v: SpecFacts) -> Verdict
     ensures { λ r. ⌜ r ≡ otherChecked v ⌝ }
 {
@@ -125,11 +142,11 @@ fn check_other(v: SpecFacts) -> Verdict
     check_data(v)
 }
 
-// 6, 7, 8, then by the transfer type.
+// Refuses by 6, 7 and 8, then by the transfer type's checks.
 fn check_spec(v: SpecFacts) -> Verdict
     ensures { λ r. ⌜ r ≡ specChecked v ⌝ }
 {
-    if v.length > 65536 {
+    if v.length > LONGEST {
         return reject(6);
     }
     if v.length > v.row_bytes {
@@ -163,7 +180,8 @@ fn metadata_of(q: RequestSpec) -> RequestMetadata
 
 // Checks a request with `data_length` bytes of data against a store whose rows have `row_bytes`.
 pub fn prepare(q: RequestSpec, data_length: u64, row_bytes: u64) -> Prepared
-    ensures { λ r. ⌜ (r ≡ prepared q «data_length» «row_bytes») × Tabled prepareNumbers (preparedSaid r) ⌝ }
+    ensures step { λ r. ⌜ r ≡ prepared q «data_length» «row_bytes» ⌝ }
+    ensures table { λ r. ⌜ Tabled prepareNumbers (preparedSaid r) ⌝ }
 {
     let facts = spec_facts(q, data_length, row_bytes);
     let verdict = check_spec(facts);

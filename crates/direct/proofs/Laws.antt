@@ -1,20 +1,18 @@
 -- One law for each way out of a call in place: its premises are the facts in hand there. Assumes nothing.
 use Prim.Native.Nat.{ℕ}
-use mathlib.Core.Bool.{Bool, true, false, not, _&&_}
+use mathlib.Core.Bool.{Bool, true, false, not}
 use mathlib.Core.List.{List, _∷_}
 use mathlib.Core.Path.{_≡_, refl, sym, ap, _∙_}
-use lib.Dec.{eqb}
-use lib.ListN.{getD}
 use native.Mathlib.Omega.{arith}
-use borrow.Author.Tests.{ne-eqb, eq-eqb, not-true}
+use borrow.Author.Tests.{not-true}
 use Rattle.chain.specs.After.{After, after}
 use Rattle.chain.specs.Chain.{_if_else_}
 use Rattle.chain.specs.Lists.{foundIn}
 use Rattle.chain.specs.declared.{Found.Found}
-use Rattle.chain.proofs.Chain.{caseB, both, not-through, fits-told}
+use Rattle.chain.proofs.Chain.{both, not-through, fits-told}
 use Rattle.models.specs.Refusals.{refusalOf}
 use Rattle.models.specs.Requests.{sameRequest, isPending}
-use Rattle.models.specs.declared.{Refusal.Refusal, RequestId.RequestId, RequestReport.RequestReport, Verdict.Verdict}
+use Rattle.models.specs.declared.{Refusal.Refusal, RequestId.RequestId, Verdict.Verdict}
 use Rattle.rows.specs.Table.{emptyRow, rowIn, reportOf, isPendingRow}
 use Rattle.rows.specs.Values.{reportValues}
 use Rattle.rows.specs.Store.{Store, putIn}
@@ -23,8 +21,9 @@ use Rattle.rules.specs.declared.{Change.Change}
 use Rattle.ledger.specs.Apply.{applyOf}
 use Rattle.ledger.specs.Search.{isAt}
 use Rattle.ledger.specs.declared.{Applied.Applied, in_place.Placed.Placed}
-use Rattle.ledger.specs.InPlace.{reportedAt, freedAt}
+use Rattle.ledger.specs.InPlace.{applyPlaced, reportedAt, freedAt}
 use Rattle.ledger.proofs.Found.{found-row}
+use Rattle.ledger.proofs.in_place.Laws as places
 use Rattle.session.specs.Lent.{storeFits}
 use Rattle.session.specs.Session.{isBusy, isInitialized, withFlight}
 use Rattle.session.specs.Sizes.{rowsFit}
@@ -41,7 +40,7 @@ use Rattle.reports.specs.declared.{ReportAnswer.ReportAnswer, Reported.Reported
 use Rattle.reports.proofs.change.Laws as change
 use Rattle.reports.proofs.status.Laws as status
 use Rattle.session_words.specs.Fields.{isSubmitFlight, flightId}
-use Rattle.session_words.specs.State.{readSession, isSession, Kept, keptOf, keptAs}
+use Rattle.session_words.specs.State.{readSession, isSession, keptOf, keptAs}
 use Rattle.session_words.proofs.Own.{written-same}
 use Rattle.calls.specs.Answers.{ofReport, ofPoll}
 use Rattle.calls.specs.declared.{Answer.Answer}
@@ -150,19 +149,31 @@ module _ (out after-out : List ℕ) where
         ap (λ (z : List ℕ). after z store) eo
         ∙ ap (λ (z : After Reported Store). reportedTold z out) (change.change-stop id c s store (reportRefused s r) v ev r e refl)
 
-    pub change-on : (a : Applied) (left : Store) → v ≡ Verdict.Pass → after a left ≡ applyOf id c store → after-out ≡ told (ofApplied a) out
+    change-on : (a : Applied) (left : Store) → v ≡ Verdict.Pass → after a left ≡ applyOf id c store → after-out ≡ told (ofApplied a) out
         → after after-out left ≡ reportedTold (changeOf id c s store) out
     change-on a left e ea eo =
         ap (λ (z : List ℕ). after z left) (eo ∙ ap (λ (z : Answer). told z out) (applied-answer a s))
         ∙ ap (λ (z : After Reported Store). reportedTold z out) (change.change-on id c s store (reportedBy a s) v ev a left e ea refl)
 
-    pub reclaim-on : (o : After Applied Store) (left : Store) → v ≡ Verdict.Pass → o ≡ applyOf id c store → after after-out left ≡ appliedTold o out
-        → after after-out left ≡ reportedTold (changeOf id c s store) out
-    reclaim-on o left e eo h =
-        let a = o .result in
+  -- by the row's place
+  module _ (id : RequestId) (s : Session) (store : Store) (v : Verdict) (ev : v ≡ readyOf s (storeFits (s .size) store)) (p : Placed) (left : Store)
+      (e : v ≡ Verdict.Pass) where
+    pub cancel-on : after p left ≡ applyPlaced id Change.LogicalCancel store → after-out ≡ told (ofApplied (reportedAt p (left .rows))) out
+        → after after-out left ≡ reportedTold (changeOf id Change.LogicalCancel s store) out
+    cancel-on ep eo = change-on id Change.LogicalCancel s store v ev (reportedAt p (left .rows)) left e (places.cancel-reports id store p left ep) eo
+
+    pub timeout-on : after p left ≡ applyPlaced id Change.Timeout store → after-out ≡ told (ofApplied (reportedAt p (left .rows))) out
+        → after after-out left ≡ reportedTold (changeOf id Change.Timeout s store) out
+    timeout-on ep eo = change-on id Change.Timeout s store v ev (reportedAt p (left .rows)) left e (places.timeout-reports id store p left ep) eo
+
+    pub reclaim-on : p ≡ applyPlaced id Change.Reclaim store .result → after after-out left ≡ appliedTold (freedAt p store) out
+        → after after-out left ≡ reportedTold (changeOf id Change.Reclaim s store) out
+    reclaim-on ep h =
+        let o = freedAt p store in
         h
-        ∙ ap (λ (z : Answer). after (told z out) (o .lent)) (applied-answer a s)
-        ∙ ap (λ (z : After Reported Store). reportedTold z out) (change.change-on id c s store (reportedBy a s) v ev a (o .lent) e eo refl)
+        ∙ ap (λ (z : Answer). after (told z out) (o .lent)) (applied-answer (o .result) s)
+        ∙ ap (λ (z : After Reported Store). reportedTold z out)
+        (change.change-on id Change.Reclaim s store (reportedBy (o .result) s) v ev (o .result) (o .lent) e (places.reclaim-frees id store p ep) refl)
 
   -- a poll, in the session's words l
   module _ (id : RequestId) (l : List ℕ) where

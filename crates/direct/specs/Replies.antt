@@ -1,5 +1,5 @@
 -- What the replies to a poll and to a submission leave in words, by the definitions of the plain calls. Assumes nothing.
-use Prim.Native.Nat.{ℕ, _*_}
+use Prim.Native.Nat.{ℕ}
 use mathlib.Core.Bool.{true, not}
 use mathlib.Core.List.{List}
 use denote.Ref.{now}
@@ -7,7 +7,6 @@ use Rattle.chain.specs.After.{After, after}
 use Rattle.chain.specs.Chain.{_if_else_}
 use Rattle.chain.specs.Lists.{foundIn}
 use Rattle.chain.specs.declared.{Found.Found}
-use Rattle.words.specs.Records.{spliceCut}
 use Rattle.words.specs.declared.{OptionU32.OptionU32}
 use Rattle.models.specs.Refusals.{refusalOf}
 use Rattle.models.specs.declared.{BackendCompletion.BackendCompletion, OperationError.OperationError, OptionError.OptionError}
@@ -20,7 +19,7 @@ use Rattle.checks.specs.Completion.{testCompletion}
 use Rattle.checks.specs.declared.{completion.CompletionTest.CompletionTest}
 use Rattle.session.specs.Lent.{Slice, Memory, memoryFits}
 use Rattle.session.specs.Session.{withFlight}
-use Rattle.session.specs.declared.{InFlight.InFlight, Session.Session, Size.Size}
+use Rattle.session.specs.declared.{InFlight.InFlight, Session.Session}
 use Rattle.reports.specs.declared.{ReportAnswer.ReportAnswer, Reported.Reported}
 use Rattle.session_words.specs.State.{Kept, keptOf, keptAs}
 use Rattle.calls.specs.Answers.{ofReport}
@@ -46,10 +45,6 @@ reportedRow row s = record { answer = ReportAnswer.Report (reportOf row); sessio
 -- a row that failed and is quiescent
 abbrev pub failedRow : Row → OperationError → OptionU32 → Row
 failedRow r error code = withState r (Failed error code true)
-
--- the data in the bytes of row i
-abbrev pub dataIn : Size → ℕ → List ℕ → List ℕ → List ℕ
-dataIn z i bytes area = spliceCut (i * z .«row_bytes») (z .«row_bytes») bytes area
 
 -- where the row of the poll in flight stands. 2: no poll is in flight; 3; 2: no row has its id
 abbrev pub placedFound : Found → Placed

@@ -33,7 +33,7 @@ ghost use Rattle.calls.specs.Answers.{ofReport};
 ghost use Rattle.calls.specs.declared.Answer.the-variants as Answer;
 ghost use Rattle.direct.specs.Direct.{sessionIn, told, ofApplied, appliedTold, reportedTold, polledTold};
 
-pub mod replies;
+pub mod replies; // replies.rt: the replies to a poll and to a submission
 
 fn refuse(out: &mut [u64], refusal: Refusal)
     ensures { λ _. ⌜ now (out .exit) ≡ told (Answer.Refused refusal) (now (out .entry)) ⌝ }
@@ -63,7 +63,7 @@ fn rows_fit(session: &[u64], words: usize) -> bool
     sizes::rows_fit(size, words)
 }
 
-// 1, 3.
+// Refuses by 1 while an operation waits for its reply, by 3 if the rows have not the session's size.
 fn rows_ready(session: &[u64], words: usize) -> Verdict
     ensures { λ r. ⌜ r ≡ readyOf (sessionIn session) (rowsFit (sessionIn session .size) words) ⌝ }
 {
@@ -197,7 +197,7 @@ fn poll_row(session: &mut [u64], rows: &[u64], i: usize, id: RequestId, out: &mu
     encode::write_answer(out, Answer::Asked(token))
 }
 
-// On a session's own words: those that stay need not be written.
+// Needs canonical session words, so that unchanged ones need not be written.
 pub fn poll_request(session: &mut [u64], rows: &[u64], id: RequestId, out: &mut [u64])
     requires { ⌜ isSession (now session) ≡ true ⌝ }
     ensures { λ _. ⌜ after (now (out .exit)) (keptOf (now (session .exit)))

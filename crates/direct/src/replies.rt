@@ -16,6 +16,7 @@ use models::BackendCompletion;
 use models::OperationError;
 use models::OptionError;
 use models::RequestState;
+use models::values::error_at;
 use polls::PollReply;
 use polls::poll_reply;
 use reports::Reported;
@@ -41,7 +42,7 @@ ghost use Rattle.rows.specs.Table.{readRows, rowAt, isPendingRow};
 ghost use Rattle.ledger.specs.declared.in_place.Placed.the-variants as Placed;
 ghost use Rattle.session.specs.Lent.{memory, storeIn, storeOut, memoryIn, memoryOut};
 ghost use Rattle.session.specs.Session.{withFlight};
-ghost use Rattle.session.specs.Sizes.{memorySizes};
+ghost use Rattle.session.specs.Sizes.{dataAt, memorySizes};
 ghost use Rattle.session.specs.declared.InFlight.the-variants as InFlight;
 ghost use Rattle.reports.specs.Answers.{reportRefused};
 ghost use Rattle.polls.specs.PollReply.{pollReplyOf};
@@ -51,7 +52,7 @@ ghost use Rattle.submissions.specs.declared.SubmitReply.the-variants as SubmitR
 ghost use Rattle.session_words.specs.State.{readSession, isSession};
 ghost use Rattle.call_words.specs.Arguments.{readPollReply, readSubmitReply};
 ghost use Rattle.direct.specs.Direct.{sessionIn};
-ghost use Rattle.direct.specs.Replies.{toldOut, repliedTold, reportedOut, reportedRow, failedRow, dataIn, polledAt, endingTest, endingOf};
+ghost use Rattle.direct.specs.Replies.{toldOut, repliedTold, reportedOut, reportedRow, failedRow, polledAt, endingTest, endingOf};
 
 // What a completion does to a Pending row, where it leaves the session but for the poll; else by value.
 pub enum Ending {
@@ -105,7 +106,7 @@ fn poll_by_value(
     write_reported(session, reported, out)
 }
 
-// 2: no poll is in flight; 3; 2: no row has its id. Else the row of its id.
+// The row of the polled id. Refuses by 2 if no poll is in flight or no row has its id, by 3 if a slice has not the session's size.
 fn polled_row(session: &[u64], rows: &[u64], area: &[u8]) -> Placed
     ensures { λ r. ⌜ r ≡ polledAt (sessionIn session) (memoryIn rows area) ⌝ }
 {
@@ -156,11 +157,10 @@ fn ending_of(completion: BackendCompletion, given: u64, requested: u64) -> Endin
 fn store_data(session: &[u64], area: &mut [u8], i: usize, bytes: &[u8])
     requires { ⌜ i * readSession (now session) .size .«row_bytes» + readSession (now session) .size .«row_bytes» ≤ length (now area) ⌝ }
     ensures { λ _. ⌜ now (area .exit)
-        ≡ dataIn (sessionIn session .size) i (now (bytes .entry)) (now (area .entry)) ⌝ }
+        ≡ dataAt (sessionIn session .size) i (now (bytes .entry)) (now (area .entry)) ⌝ }
 {
     let size = fields::size(session);
-    let n = size.row_bytes as usize;
-    slices::copy_cut(area, i * n, n, bytes);
+    sizes::put_data(area, size, i, bytes);
 }
 
 // Row i, which is Pending, is completed with its data.
@@ -180,7 +180,7 @@ fn complete(
     ensures { λ _. ⌜ after (toldOut session out) (memoryOut rows area)
         ≡ repliedTold (after (reportedRow (completedRow (rowAt (now (rows .entry)) i) actual code) (sessionIn session))
         (memory (putIn (storeIn rows) i (completedRow (rowAt (now (rows .entry)) i) actual code))
-        (dataIn (sessionIn session .size) i (now (bytes .entry)) (now (area .entry)))))
+        (dataAt (sessionIn session .size) i (now (bytes .entry)) (now (area .entry)))))
         (now (session .entry)) (now (out .entry)) ⌝ }
 {
     store_data(session, area, i, bytes);
@@ -285,7 +285,7 @@ fn poll_at(
         return end_flight(session, rows, i, out);
     }
     if kind == 1 {
-        let error = returned::error_at(call, 3);
+        let error = error_at(call, 3);
         let category = error.category;
         if !is_mild(category) {
             return poll_by_value(session, rows, area, PollReply::Error(error), bytes, out);
@@ -306,7 +306,7 @@ fn poll_at(
     poll_completion(session, rows, area, i, completion, bytes, out)
 }
 
-// The reply to a poll that the words of its call say. 2: no poll is in flight; 3; 2: no row has its id. Else the operation ends.
+// The reply to a poll that the words of its call encode. Refuses as `polled_row`; else the operation ends.
 pub fn poll_reply(
     session: &mut [u64],
     rows: &mut [u64],

@@ -8,7 +8,8 @@ use lib.Dec.{eqb, ltb}
 use native.Mathlib.Omega.{arith}
 use borrow.Author.Tests.{ne-eqb, eqb-false, le-ltb, ltb-true, ltb-false}
 use Rattle.chain.specs.After.{After, after}
-use Rattle.chain.proofs.Chain.{chain, caseB, if-all}
+use Rattle.chain.proofs.Chain.{chain, caseB, if-all, or-false}
+use Rattle.models.specs.Values.{readRequestId}
 use Rattle.models.specs.declared.{RequestId.RequestId}
 use Rattle.rows.specs.Store.{Store}
 use Rattle.bus.specs.Tables.{Bus}
@@ -20,7 +21,7 @@ use Rattle.calls.specs.Calls.{Poll, Begin, Change, Withdraw, Call}
 use Rattle.answer_words.specs.Encode.{answerWords, written}
 use Rattle.call_words.specs.Form.{isCall}
 use Rattle.answer_words.specs.Lists.{listsOf}
-use Rattle.session_words.specs.State.{readRequestId, Kept, keptOf, keptAs, readSession, isSession}
+use Rattle.session_words.specs.State.{Kept, keptOf, keptAs, readSession, isSession}
 use Rattle.calls.specs.Step.{World, world, begunOf, stepOf}
 use Rattle.calls.specs.declared.{Outcome.Outcome}
 use Rattle.answer_words.proofs.Room.{lists-put}
@@ -54,10 +55,6 @@ module _ (n : ℕ) (w bytes : List ℕ) (v : World) where
       (if-all (Unlisted v) _ _ _ refl (if-all (Unlisted v) _ _ _ refl (if-all (Unlisted v) _ _ _ refl (if-all (Unlisted v) _ _ _ refl refl))))
 
 -- ---- by value, or in place
-or-false : (a b : Bool) → (a || b) ≡ false → (a ≡ false) × (b ≡ false)
-or-false true b e = let z : _≡_ {A = ℕ} 0 1 = cc in absurd (omega arith)
-or-false false b e = (refl, e)
-
 pub other-is : (n : ℕ) (w : List ℕ) → n ≡ getD w 0 0 → isOther n ≡ true → isOther (getD w 0 0) ≡ true
 other-is n w en v = rw (← en) v
 

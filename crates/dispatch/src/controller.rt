@@ -2,7 +2,7 @@
 use call_words::arguments;
 use calls::Outcome;
 use calls::answers;
-use scope::returned;
+use models::values;
 use session::Session;
 use session::lifecycle;
 use session::place;
@@ -66,10 +66,10 @@ pub(crate) fn move_call(number: u64, session: Session, rows: &mut [u64], call: &
         return answers::of_called(lifecycle::acquire(session, reply));
     }
     if number == 6 {
-        let reply = returned::option_error_at(call, 1);
+        let reply = values::option_error_at(call, 1);
         return answers::of_called(lifecycle::initialize(session, reply));
     }
     let fresh = words::to_option_u64(word_at(call, 1), word_at(call, 2));
-    let reply = returned::option_error_at(call, 3);
+    let reply = values::option_error_at(call, 3);
     answers::of_called(lifecycle::close(session, rows, fresh, reply))
 }

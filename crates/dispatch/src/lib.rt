@@ -4,6 +4,7 @@ use answer_words::lists;
 use call_words::form;
 use calls::Outcome;
 use direct::replies;
+use models::values::id_at;
 use session::Session;
 use session_words::state;
 use words::slices::word_at;
@@ -17,9 +18,9 @@ ghost use Rattle.call_words.specs.Decode.{readCall};
 ghost use Rattle.dispatch.specs.Apply.{isByValue, isOther, ran, runOf, ranOn, dispatchOf};
 ghost use Rattle.dispatch.specs.Slices.{worldIn, buffersIn, buffersOut};
 
-mod controller;
-pub mod read;
-mod requests;
+mod controller; // controller.rt: calls 0 to 7
+pub mod read; // read.rt: reports and questions, which change nothing but the answer
+mod requests; // requests.rt: calls on requests
 
 // The calls that carry the session by value.
 fn step(
@@ -120,7 +121,7 @@ fn answer(
         return answer_other(session, bus, rows, area, call, bytes, out, lists);
     }
     if number == 11 {
-        let id = state::id_at(call, 1);
+        let id = id_at(call, 1);
         return direct::poll_request(session, rows, id, out);
     }
     if number <= 15 {

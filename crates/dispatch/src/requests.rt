@@ -5,6 +5,7 @@ use call_words::arguments;
 use calls::Answer;
 use calls::Outcome;
 use calls::answers;
+use models::values::id_at;
 use recovery::recover;
 use recovery::recovery_reply;
 use reports::change;
@@ -18,8 +19,9 @@ use words::slices::word_at;
 ghost use mathlib.Core.Bool.{true};
 ghost use mathlib.Core.Path.{_≡_};
 ghost use Rattle.chain.specs.After.{after};
+ghost use Rattle.models.specs.Values.{readRequestId};
 ghost use Rattle.session.specs.Lent.{lentOut};
-ghost use Rattle.session_words.specs.State.{readRequestId, isSession};
+ghost use Rattle.session_words.specs.State.{isSession};
 ghost use Rattle.calls.specs.Answers.{outcome};
 ghost use Rattle.calls.specs.Calls.{Change, Withdraw};
 ghost use Rattle.calls.specs.Step.{stepOf};
@@ -72,7 +74,7 @@ pub(crate) fn change_call(
     requires { ⌜ isSession (now session) ≡ true ⌝ }
     ensures { λ _. ⌜ WritesRows (readChanging number (now (call .entry))) session rows out ⌝ }
 {
-    let id = state::id_at(call, 1);
+    let id = id_at(call, 1);
     if number == 13 {
         return direct::logical_cancel_request(session, rows, id, out);
     }
@@ -86,7 +88,7 @@ pub(crate) fn change_call(
 pub(crate) fn withdraw_call(session: Session, rows: &mut [u64], call: &[u64]) -> Outcome
     ensures { λ r. ⌜ StepsRows r (Change (readRequestId (now (call .entry)) 1) Withdraw) session rows ⌝ }
 {
-    let id = state::id_at(call, 1);
+    let id = id_at(call, 1);
     answers::of_reported(change::withdraw_cancel_request(session, rows, id))
 }
 
@@ -103,7 +105,7 @@ pub(crate) fn report_call(
     ensures { λ _. ⌜ WritesAnswer (readReporting number (now (call .entry))) session rows area out ⌝ }
 {
     if number == 16 {
-        let id = state::id_at(call, 1);
+        let id = id_at(call, 1);
         return direct::request_status(session, rows, id, out);
     }
     let before = state::to_session(session);
@@ -123,7 +125,7 @@ fn report_answer(number: u64, session: Session, rows: &[u64], area: &[u8], call:
         return answers::of_tally(status::count_reports(session, rows));
     }
     if number == 19 {
-        let id = state::id_at(call, 1);
+        let id = id_at(call, 1);
         return answers::of_part(status::completed_part(session, rows, area.len(), id));
     }
     if number == 20 {
@@ -146,7 +148,7 @@ pub(crate) fn recover_call(
     ensures { λ r. ⌜ RunsMemory r (readRecovering number (now (call .entry)) (now (bytes .entry)))
         session rows area lists ⌝ }
 {
-    let id = state::id_at(call, 1);
+    let id = id_at(call, 1);
     if number == 22 {
         let begun = recover::abort_request(session, rows, id);
         lists::write_begun(lists, begun);

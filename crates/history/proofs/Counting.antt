@@ -48,7 +48,7 @@ refused-3 (Move (Acquire reply)) j = refl
 refused-3 (Move (Initialize reply)) j = refl
 refused-3 (Move (Close fresh reply)) j = refl
 refused-3 (Begin (Submit packets q)) j = refl
-refused-3 (Begin (SubmitPlan q bytes first)) j = refl
+refused-3 (Begin (SubmitPlan q)) j = refl
 refused-3 (Begin (Poll id)) j = refl
 refused-3 (Begin (Recover id kind)) j = refl
 refused-3 (Reply (ToSubmit reply)) j = refl
@@ -199,9 +199,9 @@ module _ (x : RequestId) where
       verdict-still a _ _ (let c = closed-ids x (j .entries) in caseB (isPass (ofVerdict a)) (λ e. rw e (omega (arith, c))) (λ e. rw e))
   step-ids (Begin (Submit packets q)) w j f =
       begun-ids (begunId (ofSubmit (submitOf packets q (w .session) (w .lent) .result .answer))) (q .spec .device) (q .spec .endpoint) (q .spec .length) j
-  step-ids (Begin (SubmitPlan q bytes one)) w j f =
-      begun-ids (begunId (ofPlan (submitPlanOf q bytes one (w .session) (w .lent) .result .answer))) (q .device) 0
-      (stageOf (q .«data_stage») (q .setup .«request_type») .length) j
+  step-ids (Begin (SubmitPlan q)) w j f =
+      begun-ids (begunId (ofPlan (submitPlanOf (q .plan) (q .bytes) (q .reading) (w .session) (w .lent) .result .answer))) (q .plan .device) 0
+      (stageOf (q .plan .«data_stage») (q .plan .setup .«request_type») .length) j
   step-ids (Begin (Poll id)) w j f =
       let a : PollAnswer = pollOf id (w .session) (worldStore w) .answer in
       poll-still a _ _ (caseB (isAsked (ofPoll a)) (λ e. rw e) (λ e. rw e))

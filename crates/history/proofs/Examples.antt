@@ -10,8 +10,7 @@ use Rattle.chain.specs.Lists.{foundIn, listed}
 use Rattle.words.specs.Records.{splice, part}
 use Rattle.words.specs.declared.{OptionI32.OptionI32, OptionU32.OptionU32, OptionU64.OptionU64}
 use Rattle.models.specs.Requests.{requestBefore}
-use Rattle.models.specs.declared.ControllerState.the-variants.{Closed}
-use Rattle.models.specs.declared.{DeviceId.DeviceId, DeviceSnapshot.DeviceSnapshot, OperationError.OperationError, OptionError.OptionError, OptionPorts.OptionPorts, OptionSetup.OptionSetup, RequestId.RequestId, RequestState.RequestState}
+use Rattle.models.specs.declared.{DeviceId.DeviceId, DeviceSnapshot.DeviceSnapshot, OperationError.OperationError, OptionError.OptionError, OptionSetup.OptionSetup, RequestId.RequestId, RequestState.RequestState}
 use Rattle.models.specs.declared.DeviceState.the-variants.{Configured}
 use Rattle.models.specs.declared.Direction.the-variants.{In}
 use Rattle.models.specs.declared.ErrorCategory.the-variants.{Validation, RecoveryRequired}
@@ -20,9 +19,10 @@ use Rattle.models.specs.declared.RequestState.the-variants.{Pending, Completed,
 use Rattle.models.specs.declared.TransferType.the-variants.{Bulk}
 use Rattle.rows.specs.Codec.{readRow, recordOf}
 use Rattle.rows.specs.Store.{storeOf, putIn, emptied}
+use Rattle.rows.specs.InPlace.{timedOut, completedRow}
 use Rattle.rows.specs.Table.{emptyRow, isHeld, putRow, putWords, rowCount, readRows, isUncertain}
 use Rattle.rows.specs.declared.{Row.Row}
-use Rattle.ledger.specs.Apply.{applyBy, applyAt, applyOf}
+use Rattle.ledger.specs.Apply.{applyBy, changedAt, applyAt, applyOf}
 use Rattle.rules.specs.Rules.{pendingRow, spendSequence, moved, freed, accepted, whilePending, timeOut, completed, failed, abortConfirmed, reclaimed, changeRow}
 use Rattle.ledger.specs.Search.{isAt, isFree}
 use Rattle.ledger.specs.Tally.{saturate, heldCount, heldBytes}
@@ -39,7 +39,7 @@ use Rattle.session.specs.Lifecycle.{openOf, acquiredBy, acquireOf, initializedB
 use Rattle.session.specs.Place.{placed, setDeviceOf, setPortOf, setEndpointsOf}
 use Rattle.session.specs.Start.{guarded}
 use Rattle.session.specs.Sizes.{rowsFit, areaFits}
-use Rattle.session.specs.declared.{InFlight.InFlight, OptionStall.OptionStall, RecoveryKind.RecoveryKind, Session.Session, lifecycle.AcquireReply.AcquireReply, lifecycle.Opening.Opening}
+use Rattle.session.specs.declared.{RecoveryKind.RecoveryKind, lifecycle.AcquireReply.AcquireReply, lifecycle.Opening.Opening}
 use Rattle.reports.specs.Answers.{effect}
 use Rattle.reports.specs.Change.{reportedBy, changeOf}
 use Rattle.reports.specs.Status.{heldCountOf, heldBytesOf}
@@ -54,16 +54,16 @@ use Rattle.submissions.specs.declared.{SubmitReply.SubmitReply}
 use Rattle.scope.specs.Affected.{isAffected, joined, affectedOf}
 use Rattle.scope.specs.Returned.{readBrought, broughtAt, readReturned, listsAgree}
 use Rattle.scope.specs.Scope.{inScope}
-use Rattle.recovery.specs.Entries.{rowCompletedBy, testedBy, completeOne, abortedBy, abortOne, readEntries, applyAll}
+use Rattle.recovery.specs.Entries.{rowCompletedBy, testedBy, completeOne, abortedBy, abortOne}
 use Rattle.recovery.specs.Recover.{recoverBy, beginRow, recoverOf, begunAs}
-use Rattle.recovery.specs.RecoveryReply.{doneOf, replyBy, replySized, replyIn, ReplyLists, replyLists, restoredBy, resetBy, sessionAfter, refusedAfter, concludedBy, settledOf, recoveryReplyOf}
+use Rattle.recovery.specs.RecoveryReply.{applyAll, doneOf, replyBy, replySized, replyIn, ReplyLists, replyLists, restoredBy, resetBy, sessionAfter, refusedAfter, concludedBy, settledOf, recoveryReplyOf}
 use Rattle.recovery.specs.declared.{AbortReport.AbortReport, RecoveryReply.RecoveryReply}
 use Rattle.calls.specs.Calls.{Beginning, Call, Open, Place, Device, Port, Endpoints, Move, Acquire, Initialize, Close, Begin, Submit, Poll, Recover, Reply, ToSubmit, ToPoll, Change, Timeout, Reclaim, Read, HeldCount, HeldBytes}
-use Rattle.calls.specs.Step.{World, placedOf, movedOf, begunOf, repliedOf, readOf, stepOf}
+use Rattle.calls.specs.Step.{World, noSession, placedOf, movedOf, begunOf, repliedOf, readOf, stepOf, next}
 use Rattle.calls.specs.declared.{Answer.Answer}
-use Rattle.runs.specs.Run.{Event, own, other, Answered, next, endOf, historyOf, answerTo}
+use Rattle.runs.specs.Run.{Event, own, other, Answered, endOf, historyOf, answerTo, calls}
 use Rattle.history.specs.Journal.{Entry, journalStep}
-use Rattle.history.specs.Claim.{calls, rowsAfter, entriesAfter, returns, Different, Recovered, Claim}
+use Rattle.history.specs.Claim.{rowsAfter, entriesAfter, returns, Different, Recovered, Claim}
 use Rattle.history.specs.Watcher.{Reads, staleNumbers, Refuses, Noticed, Watched}
 use Rattle.history.proofs.Theorem.{history-claim, worldOf}
 use Rattle.history.proofs.Watcher.{watched}
@@ -79,25 +79,12 @@ opening = record {
   size = record { «row_count» = 2; «row_bytes» = 8 };
 }
 
-abbrev pub closed : Session
-closed = record {
-  number = 0;
-  generation = 0;
-  «next_sequence» = 0;
-  ports = OptionPorts.None;
-  state = Closed;
-  «recovery_revision» = OptionU64.None;
-  «recoverable_stall» = OptionStall.None;
-  «in_flight» = InFlight.Nothing;
-  size = record { «row_count» = 0; «row_bytes» = 0 };
-}
-
 -- the lent slices: a bus, two rows, and their 16 bytes
 abbrev pub busWords : List ℕ
 busWords = cleared .words
 
 abbrev pub before : World
-before = worldOf closed busWords (replicate 52 0) (replicate 16 0)
+before = worldOf noSession busWords (replicate 52 0) (replicate 16 0)
 
 abbrev pub start : World
 start = next (stepOf (Open opening) before)
@@ -329,9 +316,9 @@ two-apart (r ∷ q ∷ []) e = go
 two-apart (r ∷ q ∷ p ∷ l) e = let z : _≡_ {A = ℕ} 2 3 = ap (λ (m : List ℕ). length (take 3 m)) (sym e) ∙ refl in absurd (omega arith)
 
 pub shown : Shown
-unfolding stepOf placedOf movedOf begunOf repliedOf readOf openOf rowsFit areaFits cleared _if_else_ foundIn splice putIn emptied emptyRow isHeld putRow putWords rowCount readRow recordOf applyBy applyAt applyOf pendingRow spendSequence moved freed accepted whilePending timeOut completed failed reclaimed changeRow isAt isFree saturate heldCount heldBytes putDevice putEndpoints putPort codeTested testCode testLength testCompletion packetsChecked marked acquiredBy acquireOf initializedBy initializeOf placed setDeviceOf setPortOf setEndpointsOf effect roomIn writeOf beginOf targetBy targetOf reportedBy changeOf failedAs judgedTest judgedBy judged storedIn settled pollReplyAt pollReplyBy pollReplyFound pollReplyIn pollReplyOf pollRow pollBy pollOf acceptedBy discardedBy submitReplyBy submitReplyIn submitReplyOf heldCountOf heldBytesOf submittedBy placeIn admitPrepared admitRoom admitPackets admitOf submitTarget submitBy guarded submitOf bus.numberChecked bus.setPortBy bus.setPort bus.readingChecked bus.validatedRow bus.validatedBy bus.validated bus.raisedRow bus.observedBy bus.observedRow bus.observePortBy bus.observePort bus.freshObserved bus.freshWord bus.freshReading bus.freshPortBy bus.freshPort endpoints.setEndpoints prepare.dataChecked prepare.otherChecked prepare.specChecked prepare.preparedIf prepare.prepared target.knownBy target.knownDevice target.preparedDevice target.freshDevice target.checkDeviceBy target.checkDevice target.speedChecked target.endpointBy target.checkEndpoint target.checkTargetBy target.checkTarget layout.deviceRecord journalStep closeOf recoverOf recoverBy beginRow begunAs listed isAffected joined affectedOf inScope readBrought broughtAt readReturned listsAgree readEntries rowCompletedBy testedBy completeOne abortedBy abortOne abortConfirmed restoredBy resetBy sessionAfter refusedAfter applyAll concludedBy settledOf doneOf replyBy replySized replyIn recoveryReplyOf part requestBefore storeOf readRows busOf raised stallOf freshBy closedBy isUncertain
+unfolding stepOf placedOf movedOf begunOf repliedOf readOf openOf rowsFit areaFits cleared _if_else_ foundIn splice putIn emptied emptyRow isHeld putRow putWords rowCount readRow recordOf applyBy changedAt applyAt applyOf pendingRow spendSequence moved freed accepted whilePending timeOut timedOut completed completedRow failed reclaimed changeRow isAt isFree saturate heldCount heldBytes putDevice putEndpoints putPort codeTested testCode testLength testCompletion packetsChecked marked acquiredBy acquireOf initializedBy initializeOf placed setDeviceOf setPortOf setEndpointsOf effect roomIn writeOf beginOf targetBy targetOf reportedBy changeOf failedAs judgedTest judgedBy judged storedIn settled pollReplyAt pollReplyBy pollReplyFound pollReplyIn pollReplyOf pollRow pollBy pollOf acceptedBy discardedBy submitReplyBy submitReplyIn submitReplyOf heldCountOf heldBytesOf submittedBy placeIn admitPrepared admitRoom admitPackets admitOf submitTarget submitBy guarded submitOf bus.numberChecked bus.setPortBy bus.setPort bus.readingChecked bus.validatedRow bus.validatedBy bus.validated bus.raisedRow bus.observedBy bus.observedRow bus.observePortBy bus.observePort bus.freshObserved bus.freshWord bus.freshReading bus.freshPortBy bus.freshPort endpoints.setEndpoints prepare.dataChecked prepare.otherChecked prepare.specChecked prepare.preparedIf prepare.prepared target.knownBy target.knownDevice target.preparedDevice target.freshDevice target.checkDeviceBy target.checkDevice target.speedChecked target.endpointBy target.checkEndpoint target.checkTargetBy target.checkTarget layout.deviceRecord journalStep closeOf recoverOf recoverBy beginRow begunAs listed isAffected joined affectedOf inScope readBrought broughtAt readReturned listsAgree rowCompletedBy testedBy completeOne abortedBy abortOne abortConfirmed restoredBy resetBy sessionAfter refusedAfter applyAll concludedBy settledOf doneOf replyBy replySized replyIn recoveryReplyOf part requestBefore storeOf readRows busOf raised stallOf freshBy closedBy isUncertain
 shown =
-    let of-recovery = history-claim opening closed busWords (replicate 52 0) (replicate 16 0) recovery refl
+    let of-recovery = history-claim opening noSession busWords (replicate 52 0) (replicate 16 0) recovery refl
     (refl, (refl, (refl, (refl, (refl, (refl, (refl, (refl, (refl, (refl, (refl, (refl, (refl, (refl, (refl, (refl, (refl, tt)))))))))))))))))
     (refl, (refl, (refl, (refl, (refl, (refl, (refl, (refl, (refl, (refl, (refl, (refl, (refl, (refl, (refl, (refl, (refl, tt))))))))))))))))) in
     record {
@@ -339,7 +326,7 @@ shown =
         answers-are = refl;
         journal-is = refl;
         rows-are = refl;
-        claim = history-claim opening closed busWords (replicate 52 0) (replicate 16 0) script refl
+        claim = history-claim opening noSession busWords (replicate 52 0) (replicate 16 0) script refl
             (refl, (refl, (refl, (refl, (refl, (refl, (refl, (refl, (refl, (refl, (refl, (refl, (refl, (refl, (refl, (refl, (refl, (refl, (refl, (refl, (refl, (refl, (refl, (refl, (refl, tt)))))))))))))))))))))))))
             (refl, (refl, (refl, (refl, (refl, (refl, (refl, (refl, (refl, (refl, (refl, (refl, (refl, (refl, (refl, (refl, (refl, (refl, (refl, (refl, (refl, (refl, (refl, (refl, (refl, tt)))))))))))))))))))))))));
       };
@@ -350,7 +337,7 @@ shown =
         answers-are = refl;
         journal-is = refl;
         rows-are = refl;
-        claim = history-claim opening closed busWords (replicate 52 0) (replicate 16 0) stalled refl
+        claim = history-claim opening noSession busWords (replicate 52 0) (replicate 16 0) stalled refl
             (refl, (refl, (refl, (refl, (refl, (refl, (refl, (refl, (refl, (refl, (refl, (refl, (refl, (refl, (refl, (refl, (refl, (refl, (refl, (refl, (refl, (refl, (refl, tt)))))))))))))))))))))))
             (refl, (refl, (refl, (refl, (refl, (refl, (refl, (refl, (refl, (refl, (refl, (refl, (refl, (refl, (refl, (refl, (refl, (refl, (refl, (refl, (refl, (refl, (refl, tt)))))))))))))))))))))));
       };

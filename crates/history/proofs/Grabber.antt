@@ -21,15 +21,14 @@ use Rattle.reports.specs.Status.{shownAt, completedLength, bytesPart, partBy, c
 use Rattle.reports.specs.declared.{Part.Part, PartAnswer.PartAnswer}
 use Rattle.calls.specs.Answers.{ofPart}
 use Rattle.calls.specs.Calls.{Open, Read, CompletedBytes}
-use Rattle.calls.specs.Step.{World, readOf, stepOf, worldStore}
+use Rattle.calls.specs.Step.{World, readOf, stepOf, worldStore, next}
 use Rattle.calls.specs.declared.{Answer.Answer}
-use Rattle.runs.specs.Run.{Handed, Event, next, answerTo, endOf, historyOf, Follows, Fresh}
+use Rattle.runs.specs.Run.{Handed, Event, answerTo, endOf, historyOf, Follows, Fresh, calls}
 use Rattle.runs.proofs.Handings.{by-handed, follows-at, follows-front, fresh-front}
 use Rattle.runs.proofs.Held.{unheld-row}
 use Rattle.runs.proofs.Run.{Whole, sound-open, fitted-run}
 use Rattle.runs.proofs.Ways.{found-all}
 use Rattle.history.specs.Journal.{blank, journalOf}
-use Rattle.history.specs.Claim.{calls}
 use Rattle.history.specs.Grabber.{Apart, takes, BytesSafe}
 use Rattle.history.proofs.Theorem.{Holds, unheld-once, run-kept, opened-holds}
 use Rattle.history.proofs.Unwritten.{held-same}

@@ -14,7 +14,7 @@ use Rattle.models.specs.declared.{DeviceId.DeviceId}
 use Rattle.rows.specs.Codec.{readRow, recordOf}
 use Rattle.rows.specs.Store.{storeOf, putIn, emptied}
 use Rattle.rows.specs.Table.{emptyRow, isHeld, putRow, putWords, rowCount, readRows}
-use Rattle.ledger.specs.Apply.{applyBy, applyAt, applyOf}
+use Rattle.ledger.specs.Apply.{applyBy, changedAt, applyAt, applyOf}
 use Rattle.rules.specs.Rules.{pendingRow, spendSequence, moved, accepted, abortConfirmed, changeRow}
 use Rattle.ledger.specs.Search.{isAt, isFree}
 use Rattle.bus.specs.Tables.{busOf, cleared, putDevice, putEndpoints, putPort}
@@ -39,18 +39,18 @@ use Rattle.submissions.specs.declared.{SubmitReply.SubmitReply}
 use Rattle.scope.specs.Affected.{isAffected, joined, affectedOf}
 use Rattle.scope.specs.Returned.{readReturned, listsAgree}
 use Rattle.scope.specs.Scope.{inScope}
-use Rattle.recovery.specs.Entries.{abortedBy, abortOne, readEntries, applyAll}
+use Rattle.recovery.specs.Entries.{abortedBy, abortOne}
 use Rattle.recovery.specs.Recover.{recoverBy, beginRow, recoverOf, begunAs}
-use Rattle.recovery.specs.RecoveryReply.{doneOf, replyBy, replySized, replyIn, replyLists, concludedBy, settledOf, recoveryReplyOf}
+use Rattle.recovery.specs.RecoveryReply.{applyAll, doneOf, replyBy, replySized, replyIn, replyLists, concludedBy, settledOf, recoveryReplyOf}
 use Rattle.calls.specs.Calls.{Call, Open, Place, Device, Move, Begin, Recover, Reply, ToSubmit, ToPoll, ToRecovery, Change, Cancel, Timeout, Reclaim, Withdraw, Read, Status, Reports, CountReports, CompletedBytes, HeldCount, HeldBytes}
-use Rattle.calls.specs.Step.{World, placedOf, movedOf, begunOf, repliedOf, stepOf}
+use Rattle.calls.specs.Step.{World, noSession, placedOf, movedOf, begunOf, repliedOf, stepOf, next}
 use Rattle.calls.specs.declared.{Answer.Answer}
-use Rattle.runs.specs.Run.{Event, own, Stepping, next, FollowsBy, Follows, Fresh}
+use Rattle.runs.specs.Run.{Event, own, Stepping, FollowsBy, Follows, Fresh, calls}
 use Rattle.history.specs.Journal.{journalStep}
-use Rattle.history.specs.Claim.{calls, returns, ClaimOf, Claim}
+use Rattle.history.specs.Claim.{returns, ClaimOf, Claim}
 use Rattle.history.specs.Impostors.{stepWith, rightWays, firstOnly, heldInvented, timeoutReleases, slotsCompared}
 use Rattle.history.proofs.Theorem.{history-claim}
-use Rattle.history.proofs.Examples.{opening, closed, busWords, before, start, plugged, id, asking, asks, ready, whole, numberIn}
+use Rattle.history.proofs.Examples.{opening, busWords, before, start, plugged, id, asking, asks, ready, whole, numberIn}
 
 -- ---- the scripts
 
@@ -128,12 +128,12 @@ refutes passes follows same fresh wrong = record {
   passes = passes;
   follows = follows;
   fresh = fresh;
-  right = history-claim opening closed busWords (replicate 52 0) (replicate 16 0) _ refl (same follows) fresh;
+  right = history-claim opening noSession busWords (replicate 52 0) (replicate 16 0) _ refl (same follows) fresh;
   wrong = wrong;
 }
 
 pub refuted : Impostors
-unfolding stepOf placedOf movedOf begunOf repliedOf openOf rowsFit areaFits cleared _if_else_ foundIn splice putIn emptied emptyRow isHeld putRow putWords rowCount readRow recordOf applyBy applyAt applyOf pendingRow spendSequence moved accepted changeRow isAt isFree putDevice putEndpoints putPort packetsChecked acquiredBy acquireOf initializedBy initializeOf placed setDeviceOf setPortOf setEndpointsOf effect roomIn writeOf beginOf targetBy targetOf reportedBy changeOf acceptedBy submitReplyBy submitReplyIn submitReplyOf submittedBy placeIn admitPrepared admitRoom admitPackets admitOf submitTarget submitBy guarded submitOf bus.numberChecked bus.setPortBy bus.setPort bus.readingChecked bus.validatedRow bus.validatedBy bus.validated bus.observedBy bus.observedRow bus.observePortBy bus.observePort bus.freshObserved bus.freshWord bus.freshReading bus.freshPortBy bus.freshPort endpoints.setEndpoints prepare.dataChecked prepare.otherChecked prepare.specChecked prepare.preparedIf prepare.prepared target.knownBy target.knownDevice target.preparedDevice target.freshDevice target.checkDeviceBy target.checkDevice target.speedChecked target.endpointBy target.checkEndpoint target.checkTargetBy target.checkTarget layout.deviceRecord journalStep recoverOf recoverBy beginRow begunAs isAffected joined affectedOf inScope readReturned listsAgree readEntries abortedBy abortOne abortConfirmed applyAll concludedBy settledOf doneOf replyBy replySized replyIn recoveryReplyOf part requestBefore storeOf readRows busOf
+unfolding stepOf placedOf movedOf begunOf repliedOf openOf rowsFit areaFits cleared _if_else_ foundIn splice putIn emptied emptyRow isHeld putRow putWords rowCount readRow recordOf applyBy changedAt applyAt applyOf pendingRow spendSequence moved accepted changeRow isAt isFree putDevice putEndpoints putPort packetsChecked acquiredBy acquireOf initializedBy initializeOf placed setDeviceOf setPortOf setEndpointsOf effect roomIn writeOf beginOf targetBy targetOf reportedBy changeOf acceptedBy submitReplyBy submitReplyIn submitReplyOf submittedBy placeIn admitPrepared admitRoom admitPackets admitOf submitTarget submitBy guarded submitOf bus.numberChecked bus.setPortBy bus.setPort bus.readingChecked bus.validatedRow bus.validatedBy bus.validated bus.observedBy bus.observedRow bus.observePortBy bus.observePort bus.freshObserved bus.freshWord bus.freshReading bus.freshPortBy bus.freshPort endpoints.setEndpoints prepare.dataChecked prepare.otherChecked prepare.specChecked prepare.preparedIf prepare.prepared target.knownBy target.knownDevice target.preparedDevice target.freshDevice target.checkDeviceBy target.checkDevice target.speedChecked target.endpointBy target.checkEndpoint target.checkTargetBy target.checkTarget layout.deviceRecord journalStep recoverOf recoverBy beginRow begunAs isAffected joined affectedOf inScope readReturned listsAgree abortedBy abortOne abortConfirmed applyAll concludedBy settledOf doneOf replyBy replySized replyIn recoveryReplyOf part requestBefore storeOf readRows busOf
 refuted = record {
   ways = only-ways;
   first-entry =

@@ -7,7 +7,7 @@ use native.Mathlib.Omega.{arith}
 use lib.Dec.{eqb}
 use lib.ListN.{length, set, replicate}
 use Rattle.chain.specs.Lists.{count, isAmong}
-use Rattle.chain.proofs.Chain.{caseB, if-all}
+use Rattle.chain.proofs.Chain.{caseB, if-all, or-false}
 use Rattle.chain.proofs.Lists.{sum-none, in-cons, in-head}
 use Rattle.words.specs.declared.{OptionU64.OptionU64}
 use Rattle.models.specs.declared.{OperationError.OperationError, RequestId.RequestId}
@@ -19,7 +19,6 @@ use Rattle.session.specs.Lifecycle.{closedSession}
 use Rattle.session.specs.declared.{InFlight.InFlight, Session.Session}
 use Rattle.reports.specs.Answers.{effect}
 use Rattle.runs.specs.Run.{noted}
-use Rattle.runs.proofs.Held.{or-false}
 use Rattle.history.specs.Journal.{Entry, Journal, isEntry, entryOf, atEntry, atWaiting, endedWith, releasedAll}
 use Rattle.history.specs.Claim.{rowView}
 use Rattle.history.proofs.Led.{Led, Changed, Alike, led-at, led-set, ids-kept}

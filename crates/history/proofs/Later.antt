@@ -1,6 +1,6 @@
 -- A call that places neither the device of a slot nor the row of a port: the device stays, and the port's generation rises, or it stays with the
 -- connected bit of the last reading. Assumes nothing.
-use Prim.Native.Nat.{ℕ, zero, suc, _-_, _≤_}
+use Prim.Native.Nat.{ℕ, zero, suc, _≤_}
 use mathlib.Core.Bool.{Bool, true, false, not, _||_, Bool·beq, true≢false}
 use mathlib.Core.List.{[], _∷_}
 use mathlib.Core.Path.{_≡_, refl, sym, _∙_, subst}
@@ -11,7 +11,7 @@ use lib.ListN.{length, getD, set}
 use lib.Seq.{getD-set-same, getD-set-other, set-out}
 use Rattle.chain.specs.After.{After}
 use Rattle.chain.specs.Lists.{isAmong}
-use Rattle.chain.proofs.Chain.{caseB, if-all, if-by}
+use Rattle.chain.proofs.Chain.{caseB, if-all, if-by, or-false}
 use Rattle.words.specs.declared.{OptionU32.OptionU32}
 use Rattle.models.specs.declared.{OptionPorts.OptionPorts, PortId.PortId, PortReading.PortReading, RequestMetadata.RequestMetadata, Verdict.Verdict}
 use Rattle.models.specs.declared.PortReading.the-variants.{Word, Error}
@@ -31,7 +31,6 @@ use Rattle.submissions.specs.Begin.{Draft, targetBy, targetOf}
 use Rattle.calls.specs.Calls.{Placing, Device, Port, Endpoints, Reconcile, Submit, SubmitPlan, Poll, Recover, ToSubmit, ToPoll, ToRecovery, Call, Open, Place, Move, Begin, Reply, Change, Read}
 use Rattle.calls.specs.Step.{World, placedOf, begunOf, repliedOf, stepOf}
 use Rattle.runs.specs.Run.{isOpening}
-use Rattle.runs.proofs.Held.{or-false}
 use Rattle.runs.proofs.Stages.{submit-all, plan-all}
 use Rattle.history.specs.Watcher.{placesOne, placesAt}
 
@@ -222,8 +221,8 @@ module _ (slot number : ℕ) where
   step-later (Begin (Submit packets q)) w e k =
       submit-all q (w .session) (w .lent) (λ o. Onward (w .lent .bus) (o .lent .bus)) (λ x early. still (w .lent .bus))
       (λ i room size. targeted _ (q .readings) (w .session) (w .lent)) packets
-  step-later (Begin (SubmitPlan q bytes first)) w e k =
-      plan-all q bytes first (w .session) (w .lent) (λ o. Onward (w .lent .bus) (o .lent .bus)) (λ x early. still (w .lent .bus))
+  step-later (Begin (SubmitPlan q)) w e k =
+      plan-all (q .plan) (q .bytes) (q .reading) (w .session) (w .lent) (λ o. Onward (w .lent .bus) (o .lent .bus)) (λ x early. still (w .lent .bus))
       (λ i room size. targeted _ _ (w .session) (w .lent))
   step-later (Begin (Poll id)) w e k = still (w .lent .bus)
   step-later (Begin (Recover id kind)) w e k = still (w .lent .bus)

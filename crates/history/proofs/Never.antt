@@ -17,24 +17,23 @@ use Rattle.session.specs.declared.{InFlight.InFlight, Recovery.Recovery, Recove
 use Rattle.scope.specs.Affected.{affectedOf}
 use Rattle.scope.specs.Scope.{inScope}
 use Rattle.recovery.specs.Recover.{recoverOf, begunAs}
-use Rattle.recovery.specs.RecoveryReply.{ReplyLists, rowsMeant, ended, isWhole, concludedBy, settledOf, recoveryReplyOf}
-use Rattle.recovery.specs.declared.{AbortReport.AbortReport, Begun.Begun, Ids.Ids, Outcome.Outcome, Recovered.Recovered, RecoveryReply.RecoveryReply}
+use Rattle.recovery.specs.RecoveryReply.{ReplyLists, ended, isWhole, concludedBy, settledOf, recoveryReplyOf}
+use Rattle.recovery.specs.declared.{AbortReport.AbortReport, Begun.Begun, Outcome.Outcome, RecoveryReply.RecoveryReply, Replied.Replied}
 use Rattle.calls.specs.Answers.{ofBegin, ofRecovery}
 use Rattle.calls.specs.Calls.{Open, Begin, Recover, Reply, ToRecovery}
-use Rattle.calls.specs.Step.{World, begunOf, repliedOf, stepOf, worldStore}
+use Rattle.calls.specs.Step.{World, begunOf, repliedOf, stepOf, worldStore, next}
 use Rattle.calls.specs.declared.{Answer.Answer}
-use Rattle.runs.specs.Run.{Handed, Event, next, endOf, answerTo, Handing, Follows, Fresh}
+use Rattle.runs.specs.Run.{Handed, Event, endOf, answerTo, Handing, Follows, Fresh}
 use Rattle.runs.specs.Sound.{Sound}
 use Rattle.runs.proofs.Ids.{at-used}
 use Rattle.runs.proofs.Handings.{by-handed}
 use Rattle.runs.proofs.Rows.{full}
 use Rattle.runs.proofs.Ways.{begin-all, recovery-all}
 use Rattle.runs.proofs.Run.{sound-open, sound-run}
-use Rattle.runs.proofs.Affected.{ownTokens, placeMeant}
+use Rattle.runs.proofs.Affected.{allOf, affected-all, ownTokens, placeMeant}
 use Rattle.history.specs.Journal.{Entry, blank, refusalNumber, endsBy}
 use Rattle.history.specs.Claim.{starts, returns}
 use Rattle.history.proofs.Led.{Led}
-use Rattle.history.proofs.Affects.{allOf, affected-all}
 use Rattle.history.proofs.Walks.{LateBy}
 use Rattle.history.proofs.Scoped.{recovered-kept}
 use Rattle.history.proofs.Recovery.{late-numbers, late-43}
@@ -55,27 +54,27 @@ module _ {s : Session} {store : Store} (k : Sound s store) where
 -- ---- 43: a token of a reply in scope means a held row until its own entry
 module _ (s : Session) (m : Memory) (entries : List Entry) (few : count isHeld (m .store .rows) ≤ 128) (k : Led (m .store .rows) entries) (l : ReplyLists) where
   -- past 2, 3 and 49 the reply ends its operation, and is not the ledger's 43
-  abbrev pub Ends : Recovered → Type 0
+  abbrev pub Ends : Replied → Type 0
   Ends o = (endsBy (ofRecovery (o .answer)) ≡ true) × Not 43 (ofRecovery (o .answer))
 
   abbrev quiet : Session
   quiet = withFlight s InFlight.Nothing
 
-  concluded : (v : Verdict) → LateBy v → (y : Recovery) (o : Outcome) (report : AbortReport) (ids : Ids) (rows : List Row) → Ends (concludedBy v (ended quiet y o) report ids rows)
+  concluded : (v : Verdict) → LateBy v → (y : Recovery) (o : Outcome) (report : AbortReport) (places : List ℕ) (rows : List Row) → Ends (concludedBy v (ended quiet y o) report places rows)
   unfolding concludedBy
-  concluded (Verdict.Refused r) late y o report ids rows =
+  concluded (Verdict.Refused r) late y o report places rows =
       let (two, three, lists, error, scope) = late-numbers (r .number) late in
       (rw (two, three, lists), late-43 (r .number) late)
-  concluded Verdict.Pass late y o report ids rows = (refl, refl)
+  concluded Verdict.Pass late y o report places rows = (refl, refl)
 
   pub settled-ends : (y : Recovery) (o : Outcome) → inScope (isWhole o) (ownTokens (y .device) (y .endpoint) (m .store .rows)) (l .tokens ++ l .aborted) ≡ true
-      → Ends (settledOf (ended quiet y o) (rowsMeant (placeMeant (y .device) (y .endpoint) (m .store .rows)) l) m .result)
+      → Ends (settledOf (ended quiet y o) (placeMeant (y .device) (y .endpoint) (m .store .rows)) l m .result)
   unfolding settledOf
   settled-ends y o n = concluded _ (recovered-kept (y .device) (y .endpoint) m entries few k (isWhole o) (s .size) l n .1) y o _ _ _
 
   never-43 : (r : RecoveryReply) → Not 43 (ofRecovery (recoveryReplyOf r l s m .result .answer))
   never-43 r =
-      recovery-all l s m (λ (o : After Recovered Memory). Not 43 (ofRecovery (o .result .answer))) refl refl refl (λ e. refl) refl (λ y own o n. settled-ends y o n .1) r
+      recovery-all l s m (λ (o : After Replied Memory). Not 43 (ofRecovery (o .result .answer))) refl refl refl (λ e. refl) refl (λ y own o n. settled-ends y o n .1) r
 
 -- ---- of lists of calls
 module _ (o : Opening) (w : World) (es : List Event) (pass : stepOf (Open o) w .result .answer ≡ Answer.Pass) (follows : Follows es) where

@@ -29,9 +29,8 @@ use Rattle.reports.specs.Change.{reportedBy, changeOf}
 use Rattle.reports.specs.Status.{shownAt, statusBy, statusOf}
 use Rattle.calls.specs.Answers.{ofReport, outcome}
 use Rattle.calls.specs.Calls.{Changing, Cancel, Withdraw, Change, Read, Status}
-use Rattle.calls.specs.Step.{World, world, worldStore, changeBy, readOf, stepOf}
+use Rattle.calls.specs.Step.{World, world, worldStore, changeBy, readOf, stepOf, next}
 use Rattle.calls.specs.declared.{Answer.Answer}
-use Rattle.runs.specs.Run.{next}
 use Rattle.runs.specs.Sound.{StateSound}
 use Rattle.runs.proofs.Ids.{at-used}
 use Rattle.runs.proofs.Rows.{below-words}

@@ -20,9 +20,8 @@ use Rattle.session.specs.Lent.{Memory}
 use Rattle.session.specs.declared.{InFlight.InFlight, OptionStall.OptionStall, Recovery.Recovery, RecoveryKind.RecoveryKind, Session.Session}
 use Rattle.scope.specs.Scope.{inScope}
 use Rattle.recovery.specs.Recover.{recoverOf, begunAs, recoveryOf}
-use Rattle.recovery.specs.RecoveryReply.{ReplyLists, rowsMeant, ended, isWhole, restoredBy, resetBy, sessionAfter, refusedAfter, concludedBy, settledOf, recoveryReplyOf}
-use Rattle.recovery.specs.Entries.{applyAll}
-use Rattle.recovery.specs.declared.{AbortReport.AbortReport, Begun.Begun, Ids.Ids, Outcome.Outcome, Recovered.Recovered, RecoveryReply.RecoveryReply}
+use Rattle.recovery.specs.RecoveryReply.{ReplyLists, applyAll, ended, isWhole, restoredBy, resetBy, sessionAfter, refusedAfter, concludedBy, settledOf, recoveryReplyOf}
+use Rattle.recovery.specs.declared.{AbortReport.AbortReport, Begun.Begun, Outcome.Outcome, RecoveryReply.RecoveryReply, Replied.Replied}
 use Rattle.calls.specs.Answers.{ofBegin, ofRecovery, isRecovering}
 use Rattle.calls.specs.declared.{Answer.Answer}
 use Rattle.runs.proofs.Ids.{access-held}
@@ -118,7 +117,7 @@ module _ (s : Session) (j : Journal) (seen : List ℕ) (store : Store) (k : Inv 
 
 -- ---- the reply
 module _ (s : Session) (j : Journal) (seen : List ℕ) (m : Memory) (k : Inv s (m .store .rows) j seen) (few : count isHeld (m .store .rows) ≤ 128) (l : ReplyLists) where
-  abbrev Reply-kept : After Recovered Memory → Type 0
+  abbrev Reply-kept : After Replied Memory → Type 0
   Reply-kept o = Inv (o .result .session) (o .lent .store .rows) (recoveredJournal (ofRecovery (o .result .answer)) l j) seen
 
   -- the session without the recovery
@@ -142,20 +141,20 @@ module _ (s : Session) (j : Journal) (seen : List ℕ) (m : Memory) (k : Inv s (
       base : Inv quiet rows′ released seen
       base = ended-kept s (m .store .rows) j seen k rows′ entries′ (kept .led) (kept .ids)
 
-      concluded : (v : Verdict) → LateBy v → (o : Outcome) (report : AbortReport) (ids : Ids)
-          → Inv (concludedBy v (ended quiet x o) report ids rows′ .session) rows′ (recoveredJournal (ofRecovery (concludedBy v (ended quiet x o) report ids rows′ .answer)) l j) seen
+      concluded : (v : Verdict) → LateBy v → (o : Outcome) (report : AbortReport) (places : List ℕ)
+          → Inv (concludedBy v (ended quiet x o) report places rows′ .session) rows′ (recoveredJournal (ofRecovery (concludedBy v (ended quiet x o) report places rows′ .answer)) l j) seen
       unfolding concludedBy refusedAfter
-      concluded (Verdict.Refused r) late o report ids =
+      concluded (Verdict.Refused r) late o report places =
           let (two, three, lists, error, scope) = late-numbers (r .number) late in
           rw (two, three, lists, error, scope, about) (if-all (λ (y : Session). Inv y rows′ released seen) _ _ _ (marks quiet rows′ released seen base) base)
-      concluded Verdict.Pass late o report ids = rw about (after-kept rows′ released seen quiet base x o rows′)
+      concluded Verdict.Pass late o report places = rw about (after-kept rows′ released seen quiet base x o rows′)
 
     settled-kept : (o : Outcome) → inScope (isWhole o) (ownTokens (x .device) (x .endpoint) (m .store .rows)) (l .tokens ++ l .aborted) ≡ true
-        → Reply-kept (settledOf (ended quiet x o) (rowsMeant (placeMeant (x .device) (x .endpoint) (m .store .rows)) l) m)
+        → Reply-kept (settledOf (ended quiet x o) (placeMeant (x .device) (x .endpoint) (m .store .rows)) l m)
     unfolding settledOf
     settled-kept o n =
         let w = recovered-kept (x .device) (x .endpoint) m (j .entries) few (k .led) (isWhole o) (s .size) l n in
-        concluded _ (w .0) (applyAll (s .size) (rowsMeant (placeMeant (x .device) (x .endpoint) (m .store .rows)) l) m .result) (w .1) o _ _
+        concluded _ (w .0) (applyAll (s .size) (placeMeant (x .device) (x .endpoint) (m .store .rows)) l m .result) (w .1) o _ _
 
   pub recovery-kept : (r : RecoveryReply) → Reply-kept (recoveryReplyOf r l s m)
   recovery-kept r = recovery-all l s m Reply-kept k k k (λ e. refused-kept) refused-kept (λ x own o n. settled-kept x own o n) r

@@ -16,9 +16,10 @@ use Rattle.models.proofs.Said.{every, tabled-number, tabled-in}
 use Rattle.rows.specs.Store.{Store}
 use Rattle.rows.specs.Table.{rowIn}
 use Rattle.rows.specs.declared.{Row.Row}
-use Rattle.ledger.specs.Apply.{applyBy}
+use Rattle.ledger.specs.Apply.{applyBy, changedAt}
+use Rattle.ledger.specs.Said.{appliedSaid}
+use Rattle.ledger.specs.declared.{Applied.Applied}
 use Rattle.rules.specs.Rules.{changeRow}
-use Rattle.rules.specs.Said.{stepSaid}
 use Rattle.rules.specs.declared.Change as rules
 use Rattle.rules.specs.declared.Change.the-variants as change
 use Rattle.rules.specs.declared.{Step.Step}
@@ -37,7 +38,6 @@ use Rattle.session.specs.Start.{guarded}
 use Rattle.session.specs.Lent.{Lent, Memory, memory}
 use Rattle.session.specs.Sizes.{placeOf}
 use Rattle.session.specs.declared.{Called.Called, InFlight.InFlight, Recovery.Recovery, RecoveryKind.RecoveryKind, Session.Session, lifecycle.AcquireReply.AcquireReply, lifecycle.Opened.Opened, lifecycle.Opening.Opening}
-use Rattle.session.specs.declared.sizes.Place as sizes
 use Rattle.reports.specs.Change.{reportedBy, changeOf}
 use Rattle.reports.specs.declared.{Reported.Reported}
 use Rattle.polls.specs.Poll.{pollOf}
@@ -52,16 +52,15 @@ use Rattle.submissions.specs.declared.{SubmitReply.SubmitReply, begin.Start.Sta
 use Rattle.submissions.specs.Said.{startSaid}
 use Rattle.submissions.proofs.Said.{target-of}
 use Rattle.recovery.specs.Recover.{begunAs, recoverOf}
-use Rattle.recovery.specs.RecoveryReply.{ReplyLists, rowsMeant, ended, concludedBy, settledOf, recoveryReplyOf}
-use Rattle.recovery.specs.declared.{AbortReport.AbortReport, Ids.Ids, RecoveryReply.RecoveryReply}
+use Rattle.recovery.specs.RecoveryReply.{ReplyLists, ended, concludedBy, settledOf, recoveryReplyOf}
+use Rattle.recovery.specs.declared.{AbortReport.AbortReport, RecoveryReply.RecoveryReply}
 use Rattle.recovery.specs.declared.Outcome as recovery
 use Rattle.recovery.specs.Said.{entryNumbers}
 use Rattle.recovery.proofs.Said.{entries-tabled}
 use Rattle.calls.specs.Answers.{ofSubmit, ofPlan, ofRecovery}
 use Rattle.calls.specs.Calls.{Placing, Moving, Device, Port, Endpoints, Reconcile, Call, Open, Place, Move, Acquire, Initialize, Close, Begin, Submit, SubmitPlan, Poll, Recover, Reply, ToSubmit, ToPoll, ToRecovery, Change, Read}
-use Rattle.calls.specs.Step.{World, stepOf, opens, places, moves, submits, plans, reports, polls, finishes, begins, recovers, placedOf, movedOf, begunOf, repliedOf, changeBy, worldStore}
+use Rattle.calls.specs.Step.{World, stepOf, opens, places, moves, submits, plans, reports, polls, finishes, begins, recovers, placedOf, movedOf, begunOf, repliedOf, changeBy, worldStore, next}
 use Rattle.calls.specs.declared.{Answer.Answer, Outcome.Outcome}
-use Rattle.runs.specs.Run.{next}
 use Rattle.runs.proofs.Ways.{apply-all, change-all, poll-all, begin-all, reply-all, finish-all, recovery-all}
 use Rattle.runs.proofs.Stages.{submit-all, plan-all}
 use Rattle.runs.proofs.Affected.{placeMeant}
@@ -209,18 +208,21 @@ module _ (w : World) where
 
   finish-stays : (x : PollReply) (bytes : List ℕ) → Finishes (pollReplyOf x bytes (w .session) (w .lent .memory))
   unfolding pollReplyAt judged settled
-  finish-stays x bytes = finish-all x bytes (w .session) (w .lent .memory) Finishes (λ e. refl) (λ e. refl) (λ id own i lt hit. by-reply x (rowIn (worldStore w .rows) i) _)
+  finish-stays x bytes = finish-all x bytes (w .session) (w .lent .memory) Finishes (λ e. refl) (λ e. refl) (λ id own i lt hit. by-reply x i)
     where
-      by-step : (m : Step) → Tabled (41 ∷ []) (stepSaid m) → (j : Judgement) (p : sizes.Place) → Finishes (settled m j p bytes quiet (w .lent .memory))
-      by-step (Step.Refused r) h j p = λ e. absurd (no (Answer.Refused r) (other (41 ∷ []) refl r h) e)
-      by-step (Step.To q y) h j p = λ e. absurd (no _ refl e)
+      by-answer : (a : Applied) (left : Store) → Tabled (41 ∷ []) (appliedSaid a) → (j : Judgement) (i : ℕ)
+          → Finishes (settled (after a left) j i bytes quiet (w .lent .memory .area))
+      by-answer (Applied.Refused r) left h j i = λ e. absurd (no (Answer.Refused r) (other (41 ∷ []) refl r h) e)
+      by-answer (Applied.Done y) left h j i = λ e. absurd (no _ refl e)
 
-      by-reply : (x : PollReply) (r : Row) (p : sizes.Place) → Finishes (pollReplyAt x r p bytes quiet (w .lent .memory))
-      by-reply PollReply.Nothing r p = λ e. absurd (no _ refl e)
-      by-reply (PollReply.Error y) r p = λ e. absurd (no _ refl e)
-      by-reply (PollReply.Completion c) r p =
+      by-reply : (x : PollReply) (i : ℕ) → Finishes (pollReplyAt x i bytes quiet (w .lent .memory))
+      by-reply PollReply.Nothing i = λ e. absurd (no _ refl e)
+      by-reply (PollReply.Error y) i = λ e. absurd (no _ refl e)
+      by-reply (PollReply.Completion c) i =
+          let r = rowIn (worldStore w .rows) i in
           let j = judged quiet r c (length bytes) in
-          by-step (changeRow r (j .change)) (judged-by quiet r c (c .error) (length bytes)) j p
+          let o = changedAt i (j .change) (worldStore w) in
+          by-answer (o .result) (o .lent) (judged-by quiet (worldStore w) i c r (c .error) (length bytes)) j i
 
   -- ---- recoveries
   begin-stays : (id : RequestId) (q : RecoveryKind) → Stays (begins (recoverOf id q (w .session) (worldStore w)) w)
@@ -228,17 +230,17 @@ module _ (w : World) where
   begin-stays id q =
       begin-all id q (w .session) (worldStore w) (λ o. Stays (begins o w)) (λ n z e. refl) (λ i lt hit m e. refl) (λ i lt hit a m e. absurd (no _ refl e))
 
-  concluded : (v : Verdict) → Tabled entryNumbers (verdictSaid v) → (y : Recovery) (o : recovery.Outcome) (report : AbortReport) (ids : Ids) (rows : List Row) (left : World)
-      → ofRecovery (concludedBy v (ended quiet y o) report ids rows .answer) ≡ Answer.Refused (refusalOf 3) → left ≡ w
+  concluded : (v : Verdict) → Tabled entryNumbers (verdictSaid v) → (y : Recovery) (o : recovery.Outcome) (report : AbortReport) (places : List ℕ) (rows : List Row) (left : World)
+      → ofRecovery (concludedBy v (ended quiet y o) report places rows .answer) ≡ Answer.Refused (refusalOf 3) → left ≡ w
   unfolding concludedBy
-  concluded (Verdict.Refused x) h y o report ids rows left e = absurd (no (Answer.Refused x) (other entryNumbers refl x h) e)
-  concluded Verdict.Pass h y o report ids rows left e = absurd (no _ refl e)
+  concluded (Verdict.Refused x) h y o report places rows left e = absurd (no (Answer.Refused x) (other entryNumbers refl x h) e)
+  concluded Verdict.Pass h y o report places rows left e = absurd (no _ refl e)
 
   recovery-stays : (r : RecoveryReply) (l : ReplyLists) → Stays (recovers (recoveryReplyOf r l (w .session) (w .lent .memory)) w)
   unfolding settledOf
   recovery-stays r l =
       recovery-all l (w .session) (w .lent .memory) (λ o. Stays (recovers o w)) (λ e. refl) (λ e. refl) (λ e. refl) (λ x e. absurd (no _ refl e)) (λ e. absurd (no _ refl e))
-      (λ y own o n. concluded _ (entries-tabled (w .session .size) (rowsMeant (placeMeant (y .device) (y .endpoint) (worldStore w .rows)) l) (w .lent .memory)) y o _ _ _ _) r
+      (λ y own o n. concluded _ (entries-tabled (w .session .size) (placeMeant (y .device) (y .endpoint) (worldStore w .rows)) l (w .lent .memory)) y o _ _ _ _) r
 
 pub refused-untouched : (c : Call) (w : World) → stepOf c w .result .answer ≡ Answer.Refused (refusalOf 3) → next (stepOf c w) ≡ w
 unfolding stepOf begunOf repliedOf
@@ -246,7 +248,7 @@ refused-untouched (Open o) w = open-stays w o
 refused-untouched (Place p) w = place-stays w p
 refused-untouched (Move m) w = move-stays w m
 refused-untouched (Begin (Submit packets q)) w = submit-stays w packets q
-refused-untouched (Begin (SubmitPlan q bytes one)) w = plan-stays w q bytes one
+refused-untouched (Begin (SubmitPlan q)) w = plan-stays w (q .plan) (q .bytes) (q .reading)
 refused-untouched (Begin (Poll id)) w = poll-stays w id
 refused-untouched (Begin (Recover id kind)) w = begin-stays w id kind
 refused-untouched (Reply (ToSubmit reply)) w = reply-stays w reply

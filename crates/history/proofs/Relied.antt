@@ -5,9 +5,9 @@ use mathlib.Core.List.{List, [], _∷_}
 use mathlib.Core.Path.{_≡_}
 use Rattle.session.specs.declared.{Session.Session, lifecycle.Opening.Opening}
 use Rattle.calls.specs.Calls.{Open}
-use Rattle.calls.specs.Step.{World, stepOf}
+use Rattle.calls.specs.Step.{World, stepOf, next}
 use Rattle.calls.specs.declared.{Answer.Answer}
-use Rattle.runs.specs.Run.{Event, next, endOf, Follows, Fresh}
+use Rattle.runs.specs.Run.{Event, endOf, Follows, Fresh}
 use Rattle.runs.proofs.Run.{lent-rows, sound-run, fitted-run}
 use Rattle.history.specs.Watcher.{Watched}
 use Rattle.history.specs.Grabber.{BytesSafe}

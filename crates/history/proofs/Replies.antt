@@ -12,9 +12,10 @@ use Rattle.models.specs.Requests.{isPending}
 use Rattle.models.specs.declared.{BackendCompletion.BackendCompletion, OperationError.OperationError, OptionError.OptionError, RequestId.RequestId}
 use Rattle.models.specs.declared.RequestState.the-variants.{Completed, Failed}
 use Rattle.rows.specs.Store.{Store, putIn}
+use Rattle.rows.specs.InPlace.{cancelIn, completedRow}
 use Rattle.rows.specs.Table.{emptyRow, isHeld, rowIn}
 use Rattle.rows.specs.declared.{Row.Row}
-use Rattle.ledger.specs.Apply.{applyBy}
+use Rattle.ledger.specs.Apply.{applyBy, changedAt}
 use Rattle.rules.specs.Rules.{moved, freed, withState, accepted, completed, failed, changeRow}
 use Rattle.ledger.specs.Search.{isAt}
 use Rattle.rules.specs.declared.{Change.Change, Step.Step}
@@ -22,7 +23,6 @@ use Rattle.checks.specs.Completion.{testCompletion}
 use Rattle.checks.specs.declared.{completion.CompletionTest.CompletionTest}
 use Rattle.session.specs.Session.{marked, withFlight}
 use Rattle.session.specs.Lent.{Memory, memory}
-use Rattle.session.specs.Sizes.{placeOf}
 use Rattle.session.specs.declared.{InFlight.InFlight, Session.Session}
 use Rattle.reports.specs.Answers.{effect}
 use Rattle.reports.specs.declared.{Reported.Reported}
@@ -44,15 +44,15 @@ use Rattle.history.proofs.Inv.{Inv, marks, effects, waits-for, ends-at}
 
 -- ---- what a completion makes of a Pending row
 complete-to : (r : Row) (actual code : ℕ) → isPending (r .state) ≡ true → (c : Bool) × (changeRow r (Change.Complete actual code) ≡ moved (withState r (Completed actual code c)))
-unfolding changeRow completed
+unfolding changeRow completed completedRow
 complete-to r actual code p =
-    while-all (r .state) _ (λ (x : Step). (c : Bool) × (x ≡ moved (withState r (Completed actual code c)))) (λ e. absurd (false≢true (sym e ∙ p))) (λ cancel late e. (cancel, refl))
+    while-all (r .state) _ (λ (x : Step). (c : Bool) × (x ≡ moved (withState r (Completed actual code c)))) (λ e. absurd (false≢true (sym e ∙ p))) (λ e. (cancelIn (r .state), refl))
 
 fail-to : (r : Row) (x : OperationError) (code : OptionU32) (quiescent : Bool) → isPending (r .state) ≡ true
     → changeRow r (Change.Fail x code quiescent) ≡ moved (withState r (Failed x code quiescent))
 unfolding changeRow failed
 fail-to r x code quiescent p =
-    while-all (r .state) _ (λ (y : Step). y ≡ moved (withState r (Failed x code quiescent))) (λ e. absurd (false≢true (sym e ∙ p))) (λ cancel late e. refl)
+    while-all (r .state) _ (λ (y : Step). y ≡ moved (withState r (Failed x code quiescent))) (λ e. absurd (false≢true (sym e ∙ p))) (λ e. refl)
 
 module _ (s : Session) (store : Store) (sound : Sound s store) (j : Journal) (seen : List ℕ) (k : Inv s (store .rows) j seen) where
   -- ---- the reply to a submission
@@ -129,14 +129,14 @@ module _ (s : Session) (store : Store) (sound : Sound s store) (j : Journal) (se
     is = entry-is (store .rows) (j .entries) (k .led) id i lt hit
 
     abbrev To : Step → Judgement → After Reported Memory
-    To t x = settled t x (placeOf (s .size) i) bytes quiet (memory store area)
+    To t x = settled (applyBy t i store) x i bytes quiet area
 
     -- a change of the row with that of its entry; the session is the one without the poll, or that one marked
     settles : (g : Entry → Entry) (x : Judgement) (r′ : Row) → changeRow row (x .change) ≡ moved r′
         → Changed row r′ entry (g entry)
         → ((rows′ : List Row) (j′ : Journal) → Inv quiet rows′ j′ seen → Inv (x .session) rows′ j′ seen)
         → Finish-kept (endedWith g j) (To (changeRow row (x .change)) x)
-    unfolding settled moved putIn
+    unfolding settled applyBy moved putIn
     settles g x r′ e c m =
         subst (λ (t : Step). Finish-kept (endedWith g j) (To t x)) (sym e)
         (m (set (store .rows) i r′) (endedWith g j)
@@ -188,8 +188,8 @@ module _ (s : Session) (store : Store) (sound : Sound s store) (j : Journal) (se
         (ap (λ (n : ℕ). testedAs (testCompletion c given n) entry)
         (view-is row entry held is lengthOf))
 
-    finish-at : (x : PollReply) → Finish-kept (polledBy x (length bytes) j) (pollReplyAt x row (placeOf (s .size) i) bytes quiet (memory store area))
-    unfolding pollReplyAt judged
+    finish-at : (x : PollReply) → Finish-kept (polledBy x (length bytes) j) (pollReplyAt x i bytes quiet (memory store area))
+    unfolding pollReplyAt changedAt judged
     finish-at PollReply.Nothing = waits-for s (store .rows) j seen k InFlight.Nothing
     finish-at (PollReply.Error e) = effects quiet (store .rows) (idle j) seen (waits-for s (store .rows) j seen k InFlight.Nothing) e
     finish-at (PollReply.Completion c) = judged-kept (c .error) c (length bytes)

@@ -1,5 +1,5 @@
 -- A recovery's reply keeps rows and journal in step, and the invariant. Assumes nothing.
-use Prim.Native.Nat.{ℕ, _+_, _≤_}
+use Prim.Native.Nat.{ℕ, _≤_}
 use mathlib.Core.Path.{_≡_, sym, ap, _∙_}
 use mathlib.Core.Bool.{Bool, true}
 use mathlib.Core.List.{List, _++_, map, map-map}
@@ -16,8 +16,7 @@ use Rattle.scope.specs.Affected.{affectedOf}
 use Rattle.scope.specs.Scope.{slotOf, inScope}
 use Rattle.session.specs.Lent.{Memory}
 use Rattle.session.specs.declared.{Size.Size}
-use Rattle.recovery.specs.RecoveryReply.{ReplyLists, rowsMeant}
-use Rattle.recovery.specs.Entries.{applyAll}
+use Rattle.recovery.specs.RecoveryReply.{ReplyLists, applyAll}
 use Rattle.runs.proofs.Affected.{affected-is-held, meant-affected, meant-below, slot-in, ownTokens, placeMeant}
 use Rattle.runs.proofs.Tokens.{scope-each, scope-distinct}
 use Rattle.history.specs.Journal.{Entry, noEntry, affectedViews, meantView, releasesAll, View}
@@ -67,8 +66,8 @@ module _ (d : DeviceId) (endpoint : ℕ) (m : Memory) (entries : List Entry) (fe
   rows = m .store .rows
 
   pub recovered-kept : (whole : Bool) (z : Size) (l : ReplyLists) → inScope whole (ownTokens d endpoint rows) (l .tokens ++ l .aborted) ≡ true
-      → Kept rows entries (applyAll z (rowsMeant (placeMeant d endpoint rows) l) m .lent .store .rows) (releasesAll (meantView (affectedViews d endpoint entries)) l entries)
-      × LateBy (applyAll z (rowsMeant (placeMeant d endpoint rows) l) m .result)
+      → Kept rows entries (applyAll z (placeMeant d endpoint rows) l m .lent .store .rows) (releasesAll (meantView (affectedViews d endpoint entries)) l entries)
+      × LateBy (applyAll z (placeMeant d endpoint rows) l m .result)
   recovered-kept whole z l s =
       let v : ℕ → View = view d endpoint rows entries few k in
       apply-kept (placeMeant d endpoint rows) v z l m entries k

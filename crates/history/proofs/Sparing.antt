@@ -19,9 +19,10 @@ use Rattle.session.specs.declared.{InFlight.InFlight, Session.Session, Size.Siz
 use Rattle.scope.specs.Affected.{isAffected}
 use Rattle.scope.specs.Scope.{inScope}
 use Rattle.scope.specs.Returned.{Returned}
-use Rattle.recovery.specs.Entries.{rowCompletedBy, testedBy, completeOne, abortedBy, abortOne, applyAll}
-use Rattle.recovery.specs.RecoveryReply.{ReplyLists, rowsMeant, isWhole, settledOf, recoveryReplyOf}
-use Rattle.recovery.specs.declared.{Recovered.Recovered, RecoveryReply.RecoveryReply}
+use Rattle.ledger.specs.Apply.{applyBy, changedAt}
+use Rattle.recovery.specs.Entries.{rowCompletedBy, testedBy, completeOne, abortedBy, abortOne}
+use Rattle.recovery.specs.RecoveryReply.{ReplyLists, applyAll, isWhole, settledOf, recoveryReplyOf}
+use Rattle.recovery.specs.declared.{RecoveryReply.RecoveryReply, Replied.Replied}
 use Rattle.runs.proofs.Affected.{meant-affected, ownTokens, placeMeant}
 use Rattle.runs.proofs.Ways.{recovery-all}
 use Rattle.runs.proofs.Entries.{Onward, entries-all}
@@ -47,19 +48,19 @@ module _ (marks : ℕ → Bool) where
       row = λ i e. getD-set-other (store .rows) p i r emptyRow (λ z. true≢false (sym on ∙ ap marks (sym z) ∙ e));
     }
 
-    completed-row : (n : Step) (z : Size) (bytes area : List ℕ) → Spares (store .rows) (rowCompletedBy n z p bytes (memory store area) .lent .store .rows)
-    unfolding rowCompletedBy putIn
+    completed-row : (n : Step) (z : Size) (bytes area : List ℕ) → Spares (store .rows) (rowCompletedBy (applyBy n p store) z p bytes area .lent .store .rows)
+    unfolding rowCompletedBy applyBy putIn
     completed-row (Step.Refused r) z bytes area = none (store .rows)
     completed-row (Step.To next report) z bytes area = one-put next
 
     tested-row : (t : CompletionTest) (code : OptionU32) (z : Size) (bytes area : List ℕ) → Spares (store .rows) (testedBy t code z p bytes (memory store area) .lent .store .rows)
-    unfolding testedBy
+    unfolding testedBy changedAt
     tested-row CompletionTest.MissingLength code z bytes area = none (store .rows)
     tested-row CompletionTest.Invalid code z bytes area = none (store .rows)
     tested-row (CompletionTest.Valid actual n) code z bytes area = completed-row (changeRow (rowIn (store .rows) p) (Change.Complete actual n)) z bytes area
 
-    aborted-row : (n : Step) → Spares (store .rows) (abortedBy n p store .lent .rows)
-    unfolding abortedBy putIn
+    aborted-row : (n : Step) → Spares (store .rows) (abortedBy (applyBy n p store) .lent .rows)
+    unfolding abortedBy applyBy putIn
     aborted-row (Step.Refused r) = none (store .rows)
     aborted-row (Step.To next report) = one-put next
 
@@ -69,8 +70,8 @@ module _ (marks : ℕ → Bool) where
     Marked t = marks (place t) ≡ true
 
     apply-spares : (z : Size) (l : ReplyLists) (m : Memory) → Each Marked (replyTokens l)
-        → Spares (m .store .rows) (applyAll z (rowsMeant place l) m .lent .store .rows)
-    unfolding completeOne abortOne
+        → Spares (m .store .rows) (applyAll z place l m .lent .store .rows)
+    unfolding completeOne abortOne changedAt
     apply-spares z l m a =
         entries-all place z J P (λ bytes n h. h .0)
         (λ e es ts bytes n h.
@@ -97,7 +98,7 @@ module _ (d : DeviceId) (endpoint : ℕ) (m : Memory) where
   affects i = isAffected d endpoint (rowIn (m .store .rows) i)
 
   pub scope-spares : (whole : Bool) (z : Size) (l : ReplyLists) → inScope whole (ownTokens d endpoint (m .store .rows)) (l .tokens ++ l .aborted) ≡ true
-      → Spares affects (m .store .rows) (applyAll z (rowsMeant (placeMeant d endpoint (m .store .rows)) l) m .lent .store .rows)
+      → Spares affects (m .store .rows) (applyAll z (placeMeant d endpoint (m .store .rows)) l m .lent .store .rows)
   scope-spares whole z l s =
       let place : ℕ → ℕ = placeMeant d endpoint (m .store .rows) in
       apply-spares affects place z l m (scope-each (ownTokens d endpoint (m .store .rows)) whole l s (Marked affects place) (meant-affected d endpoint (m .store .rows)))
@@ -114,9 +115,9 @@ pub reply-spares : (r : RecoveryReply) (l : ReplyLists) (s : Session) (m : Memor
 unfolding settledOf
 reply-spares r l s m =
     let same = all-spared (s .«in_flight») (m .store .rows) in
-    recovery-all l s m (λ (o : After Recovered Memory). Spared (s .«in_flight») (m .store .rows) (o .lent .store .rows)) same same same (λ e. same) same
+    recovery-all l s m (λ (o : After Replied Memory). Spared (s .«in_flight») (m .store .rows) (o .lent .store .rows)) same same same (λ e. same) same
     (λ x own o n.
     let k = scope-spares (x .device) (x .endpoint) m (isWhole o) (s .size) l n in
-    subst (λ (f : InFlight). Spared f (m .store .rows) (applyAll (s .size) (rowsMeant (placeMeant (x .device) (x .endpoint) (m .store .rows)) l) m .lent .store .rows)) (sym own)
+    subst (λ (f : InFlight). Spared f (m .store .rows) (applyAll (s .size) (placeMeant (x .device) (x .endpoint) (m .store .rows)) l m .lent .store .rows)) (sym own)
     (record { number = k .size; equal = λ i h e. k .row i e }))
     r

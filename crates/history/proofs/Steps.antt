@@ -1,18 +1,18 @@
 -- Every call keeps the invariant. Assumes nothing.
 use Prim.Native.Nat.{ℕ, _<_}
-use mathlib.Core.Path.{_≡_, ap}
+use mathlib.Core.Path.{_≡_}
 use mathlib.Core.Bool.{true, false, not, cond, true≢false}
 use mathlib.Core.List.{List}
-use borrow.Author.Tests.{not-true, not-false}
+use borrow.Author.Tests.{not-true}
 use lib.ListN.{length}
 use Rattle.chain.specs.Lists.{count, isAmong}
 use Rattle.chain.specs.After.{After, after}
 use Rattle.chain.proofs.Chain.{if-all, if-by}
 use Rattle.words.specs.declared.{OptionU64.OptionU64}
-use Rattle.models.specs.Requests.{deviceMayAccess, isPending}
+use Rattle.models.specs.Requests.{deviceMayAccess}
 use Rattle.models.specs.declared.{OptionError.OptionError, RequestId.RequestId}
 use Rattle.rows.specs.Store.{Store, putIn, emptied}
-use Rattle.rows.specs.InPlace.{lateIn}
+use Rattle.rows.specs.InPlace.{cancelIn, lateIn, cancelled, timedOut}
 use Rattle.rows.specs.Table.{isHeld, rowIn}
 use Rattle.rows.specs.declared.{Row.Row}
 use Rattle.ledger.specs.Apply.{applyBy}
@@ -50,14 +50,13 @@ Stays r (Step.Refused x) = Unit {0}
 Stays r (Step.To next x) = Alike r next
 
 change-stays : (c : Changing) (r : Row) → Stays r (changeRow r (changeBy c))
-unfolding changeRow logicalCancel cancelWithdrawn timeOut reclaimed freed moved
-change-stays Cancel r = while-all (r .state) _ (Stays r) (λ e. tt) (λ cancel late e. flag-alike r true late true (r .«timed_out») (ap isPending e))
-change-stays Timeout r = while-all (r .state) _ (Stays r) (λ e. tt) (λ cancel late e. flag-alike r cancel true (r .«logical_cancel») true (ap isPending e))
+unfolding changeRow logicalCancel cancelled cancelWithdrawn timeOut timedOut reclaimed freed moved
+change-stays Cancel r = while-all (r .state) _ (Stays r) (λ e. tt) (λ e. flag-alike r true (lateIn (r .state)) true (r .«timed_out») e)
+change-stays Timeout r = while-all (r .state) _ (Stays r) (λ e. tt) (λ e. flag-alike r (cancelIn (r .state)) true (r .«logical_cancel») true e)
 -- 42: what is reclaimed is not held
 change-stays Reclaim r = if-by (Stays r) _ (deviceMayAccess (r .state)) _ (λ e. tt) (λ e. empty-alike r (unheld-row r e))
 change-stays Withdraw r =
-    if-by (Stays r) _ (not (isPending (r .state))) _ (λ e. tt)
-    (λ e. if-all (Stays r) _ _ _ tt (flag-alike r false (lateIn (r .state)) false (r .«timed_out») (not-false _ e)))
+    while-all (r .state) _ (Stays r) (λ e. tt) (λ e. if-all (Stays r) _ _ _ tt (flag-alike r false (lateIn (r .state)) false (r .«timed_out») e))
 
 module _ (s : Session) (j : Journal) (seen : List ℕ) (store : Store) (k : Inv s (store .rows) j seen) where
   abbrev Change-kept : After Reported Store → Type 0
@@ -124,7 +123,7 @@ module _ (w : World) (sound : Sound (w .session) (worldStore w)) (j : Journal) (
   step-kept (Move (Initialize reply)) first new = initialize-kept (w .session) j seen (worldStore w) k reply
   step-kept (Move (Close fresh reply)) first new = close-kept (w .session) j seen (worldStore w) k (closed-unheld sound) fresh reply new
   step-kept (Begin (Submit packets q)) first new = submit-kept (w .session) j seen (w .lent) k packets q
-  step-kept (Begin (SubmitPlan q bytes one)) first new = plan-kept (w .session) j seen (w .lent) k q bytes one
+  step-kept (Begin (SubmitPlan q)) first new = plan-kept (w .session) j seen (w .lent) k (q .plan) (q .bytes) (q .reading)
   step-kept (Begin (Poll id)) first new = poll-kept (w .session) (worldStore w) sound j seen k id
   step-kept (Begin (Recover id kind)) first new = begin-kept (w .session) j seen (worldStore w) k id kind
   step-kept (Reply (ToSubmit reply)) first new = reply-kept (w .session) (worldStore w) sound j seen k reply

@@ -33,9 +33,9 @@ use Rattle.recovery.specs.RecoveryReply.{ReplyLists}
 use Rattle.recovery.specs.declared.{AbortReport.AbortReport, RecoveryReply.RecoveryReply}
 use Rattle.calls.specs.Answers.{ofReport, ofTally}
 use Rattle.calls.specs.Calls.{Call, Open, Begin, Recover, Change, Reclaim}
-use Rattle.calls.specs.Step.{World, world, begunOf, repliedOf, stepOf, opens, readOf, worldStore}
+use Rattle.calls.specs.Step.{World, world, begunOf, repliedOf, stepOf, opens, readOf, worldStore, next}
 use Rattle.calls.specs.declared.{Answer.Answer}
-use Rattle.runs.specs.Run.{Handed, Event, next, answerTo, leftBy, endOf, historyOf, Handing, Follows, numberOf, isNew, noted, Fresh, beside}
+use Rattle.runs.specs.Run.{Handed, Event, answerTo, leftBy, endOf, historyOf, Handing, Follows, numberOf, isNew, noted, Fresh, beside}
 use Rattle.runs.proofs.Held.{and-less, any-count, unheld-row}
 use Rattle.runs.proofs.Handings.{by-handed, follows-at, follows-front, fresh-front}
 use Rattle.runs.proofs.Ways.{change-all}

@@ -15,13 +15,15 @@ use Rattle.words.specs.Records.{splice, spliceCut}
 use Rattle.words.specs.declared.{OptionU32.OptionU32}
 use Rattle.words.proofs.Records.{splice-length, part-splice-apart, record-in, record-apart}
 use Rattle.models.specs.declared.{BackendCompletion.BackendCompletion, ControlPlan.ControlPlan, DeviceId.DeviceId, OptionError.OptionError, PortReading.PortReading, RequestMetadata.RequestMetadata, Verdict.Verdict}
-use Rattle.models.specs.declared.RequestState.the-variants.{Completed, Aborted}
+use Rattle.models.specs.declared.RequestState.the-variants.{Aborted}
 use Rattle.rows.specs.Store.{Store, putIn}
+use Rattle.rows.specs.InPlace.{completedRow}
 use Rattle.rows.specs.Table.{emptyRow, isHeld, rowIn}
 use Rattle.rows.specs.declared.{Row.Row}
 use Rattle.rules.specs.Rules.{moved, completed, abortConfirmed, changeRow, withState}
 use Rattle.rules.specs.declared.Change.the-variants as change
 use Rattle.rules.specs.declared.{Step.Step}
+use Rattle.ledger.specs.Apply.{applyBy, changedAt}
 use Rattle.checks.specs.Completion.{testCompletion}
 use Rattle.checks.specs.Plan.{planOf}
 use Rattle.checks.specs.Prepare.{metadataOf}
@@ -39,9 +41,9 @@ use Rattle.submissions.specs.Submit.{Request, submitTarget, submitBy, submitOf}
 use Rattle.submissions.specs.Plan.{planTarget, submitPlanBy, submitPlanOf}
 use Rattle.scope.specs.Returned.{Returned}
 use Rattle.scope.specs.Scope.{inScope}
-use Rattle.recovery.specs.Entries.{rowCompletedBy, testedBy, completeOne, abortedBy, abortOne, applyAll}
-use Rattle.recovery.specs.RecoveryReply.{ReplyLists, rowsMeant, isWhole, settledOf, replySized, replyIn, recoveryReplyOf}
-use Rattle.recovery.specs.declared.{Recovered.Recovered, RecoveryReply.RecoveryReply}
+use Rattle.recovery.specs.Entries.{rowCompletedBy, testedBy, completeOne, abortedBy, abortOne}
+use Rattle.recovery.specs.RecoveryReply.{ReplyLists, applyAll, isWhole, settledOf, replySized, replyIn, recoveryReplyOf}
+use Rattle.recovery.specs.declared.{RecoveryReply.RecoveryReply, Replied.Replied}
 use Rattle.calls.specs.Calls.{Submit, SubmitPlan, Poll, Recover, ToSubmit, ToPoll, ToRecovery, Call, Open, Place, Move, Begin, Reply, Change, Read}
 use Rattle.calls.specs.Step.{World, begunOf, repliedOf, stepOf}
 use Rattle.runs.specs.Run.{isOpening}
@@ -62,9 +64,8 @@ Frees (Step.Refused r) = Unit {0}
 Frees (Step.To next x) = isHeld next ≡ false
 
 complete-frees : (r : Row) (actual code : ℕ) → Frees (changeRow r (change.Complete actual code))
-unfolding changeRow completed moved
-complete-frees r actual code =
-    while-all (r .state) _ Frees (λ e. tt) (λ cancel late e. unheld-row (withState r (Completed actual code cancel)) refl)
+unfolding changeRow completed completedRow moved
+complete-frees r actual code = while-all (r .state) _ Frees (λ e. tt) (λ e. unheld-row (completedRow r actual code) refl)
 
 abort-frees : (r : Row) → Frees (changeRow r change.ConfirmAbort)
 unfolding changeRow abortConfirmed moved
@@ -145,35 +146,36 @@ module _ (z : Size) where
       by-error OptionError.None = by-test (testCompletion c given (r .metadata .«requested_length»))
 
   module _ (m : Memory) (i : ℕ) (h : Inside (length (m .area)) i) (bytes : List ℕ) (idle : Session) (same : idle .size ≡ z) where
-    settled-safe : (t : Step) (j : Judgement) → (j .stored ≡ true → Frees t) → Safe m (settled t j (placeOf z i) bytes idle m .lent)
-    unfolding settled storedIn
+    settled-safe : (t : Step) (j : Judgement) → (j .stored ≡ true → Frees t) → Safe m (settled (applyBy t i (m .store)) j i bytes idle (m .area) .lent)
+    unfolding settled applyBy storedIn
     settled-safe (Step.Refused r) j off = unwritten m (m .store)
     settled-safe (Step.To next x) j off =
         rw same
         (if-by (λ (area : List ℕ). Safe m (memory (putIn (m .store) i next) area)) _ _ _
         (λ e. write-safe m m (unwritten m (m .store)) i next (off e) bytes h) (λ e. unwritten m (putIn (m .store) i next)))
 
-    polled-safe : (x : PollReply) (r : Row) → Safe m (pollReplyAt x r (placeOf z i) bytes idle m .lent)
-    unfolding pollReplyAt
-    polled-safe PollReply.Nothing r = unwritten m (m .store)
-    polled-safe (PollReply.Error e) r = unwritten m (m .store)
-    polled-safe (PollReply.Completion c) r = settled-safe _ (judged idle r c (length bytes)) (judged-stores idle r c (length bytes))
+    polled-safe : (x : PollReply) → Safe m (pollReplyAt x i bytes idle m .lent)
+    unfolding pollReplyAt changedAt
+    polled-safe PollReply.Nothing = unwritten m (m .store)
+    polled-safe (PollReply.Error e) = unwritten m (m .store)
+    polled-safe (PollReply.Completion c) =
+        let r = rowIn (m .store .rows) i in settled-safe _ (judged idle r c (length bytes)) (judged-stores idle r c (length bytes))
 
   -- an entry of a recovery's reply
   module _ (m n : Memory) (k : Safe m n) (p : ℕ) (h : Inside (length (m .area)) p) where
-    completed-safe : (t : Step) → Frees t → (bytes : List ℕ) → Safe m (rowCompletedBy t z p bytes n .lent)
-    unfolding rowCompletedBy
+    completed-safe : (t : Step) → Frees t → (bytes : List ℕ) → Safe m (rowCompletedBy (applyBy t p (n .store)) z p bytes (n .area) .lent)
+    unfolding rowCompletedBy applyBy
     completed-safe (Step.Refused r) off bytes = k
     completed-safe (Step.To next x) off bytes = write-safe m n k p next off bytes h
 
     tested-safe : (t : CompletionTest) (code : OptionU32) (bytes : List ℕ) → Safe m (testedBy t code z p bytes n .lent)
-    unfolding testedBy
+    unfolding testedBy changedAt
     tested-safe CompletionTest.MissingLength code bytes = k
     tested-safe CompletionTest.Invalid code bytes = k
     tested-safe (CompletionTest.Valid actual a) code bytes = completed-safe _ (complete-frees (rowIn (n .store .rows) p) actual a) bytes
 
-    aborted-safe : (t : Step) → Frees t → Safe m (memory (abortedBy t p (n .store) .lent) (n .area))
-    unfolding abortedBy
+    aborted-safe : (t : Step) → Frees t → Safe m (memory (abortedBy (applyBy t p (n .store)) .lent) (n .area))
+    unfolding abortedBy applyBy
     aborted-safe (Step.Refused r) off = k
     aborted-safe (Step.To next x) off = put-safe m n k p next off
 
@@ -191,8 +193,8 @@ module _ (z : Size) where
     on (Verdict.Refused r) es ts bytes n h = h .0
     on Verdict.Pass es ts bytes n h = h
 
-    apply-safe : Each Means (replyTokens l) → Safe m (applyAll z (rowsMeant place l) m .lent)
-    unfolding completeOne abortOne
+    apply-safe : Each Means (replyTokens l) → Safe m (applyAll z place l m .lent)
+    unfolding completeOne abortOne changedAt
     apply-safe a =
         entries-all place z J P (λ bytes n h. h .0)
         (λ e es ts bytes n h.
@@ -235,7 +237,7 @@ module _ (s : Session) (m : Memory) (whole : length (m .store .rows) ≡ s .size
   finish-safe x bytes =
       caseB (memoryFits (s .size) m)
       (λ fits. finish-all x bytes s m (λ (o : After Reported Memory). Leaves (o .lent)) same same
-      (λ id own i h hit. polled-safe (s .size) m i (row-inside fits i h) bytes (withFlight s InFlight.Nothing) refl x (rowIn (m .store .rows) i)))
+      (λ id own i h hit. polled-safe (s .size) m i (row-inside fits i h) bytes (withFlight s InFlight.Nothing) refl x))
       (λ e. finish-unfit x bytes e)
 
   recovery-unfit : (r : RecoveryReply) (l : ReplyLists) → memoryFits (s .size) m ≡ false → Leaves (recoveryReplyOf r l s m .lent)
@@ -246,11 +248,11 @@ module _ (s : Session) (m : Memory) (whole : length (m .store .rows) ≡ s .size
       by-flight InFlight.Nothing = same
       by-flight (InFlight.Submission id) = same
       by-flight (InFlight.Poll id) = same
-      by-flight (InFlight.Recovery x) = unfit (λ (o : After Recovered Memory). Leaves (o .lent)) _ _ e same
+      by-flight (InFlight.Recovery x) = unfit (λ (o : After Replied Memory). Leaves (o .lent)) _ _ e same
 
   scope-safe : memoryFits (s .size) m ≡ true → (d : DeviceId) (endpoint : ℕ) (whole : Bool) (l : ReplyLists)
       → inScope whole (ownTokens d endpoint (m .store .rows)) (l .tokens ++ l .aborted) ≡ true
-      → Leaves (applyAll (s .size) (rowsMeant (placeMeant d endpoint (m .store .rows)) l) m .lent)
+      → Leaves (applyAll (s .size) (placeMeant d endpoint (m .store .rows)) l m .lent)
   scope-safe fits d endpoint all l n =
       let place : ℕ → ℕ = placeMeant d endpoint (m .store .rows) in
       apply-safe (s .size) place l m
@@ -261,7 +263,7 @@ module _ (s : Session) (m : Memory) (whole : length (m .store .rows) ≡ s .size
   unfolding settledOf
   recovery-safe r l =
       caseB (memoryFits (s .size) m)
-      (λ fits. recovery-all l s m (λ (o : After Recovered Memory). Leaves (o .lent)) same same same (λ e. same) same
+      (λ fits. recovery-all l s m (λ (o : After Replied Memory). Leaves (o .lent)) same same same (λ e. same) same
       (λ x own o n. scope-safe fits (x .device) (x .endpoint) (isWhole o) l n) r)
       (λ e. recovery-unfit r l e)
 
@@ -308,7 +310,7 @@ held-same (Open o) w k e = absurd (true≢false e)
 held-same (Place p) w k e = λ i was is. refl
 held-same (Move m) w k e = λ i was is. refl
 held-same (Begin (Submit packets q)) w k e = submit-keeps (w .session) (w .lent) (k .whole) packets q
-held-same (Begin (SubmitPlan q bytes first)) w k e = plan-keeps (w .session) (w .lent) (k .whole) q bytes first
+held-same (Begin (SubmitPlan q)) w k e = plan-keeps (w .session) (w .lent) (k .whole) (q .plan) (q .bytes) (q .reading)
 held-same (Begin (Poll id)) w k e = λ i was is. refl
 held-same (Begin (Recover id kind)) w k e = λ i was is. refl
 held-same (Reply (ToSubmit reply)) w k e = λ i was is. refl

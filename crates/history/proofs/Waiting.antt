@@ -26,15 +26,15 @@ use Rattle.submissions.specs.SubmitReply.{submitReplyIn, submitReplyOf}
 use Rattle.submissions.specs.Plan.{submitPlanBy, submitPlanOf}
 use Rattle.recovery.specs.Recover.{recoverOf}
 use Rattle.recovery.specs.RecoveryReply.{ReplyLists, recoveryReplyOf}
-use Rattle.recovery.specs.declared.{Recovered.Recovered, RecoveryReply.RecoveryReply}
+use Rattle.recovery.specs.declared.{RecoveryReply.RecoveryReply, Replied.Replied}
 use Rattle.calls.specs.Answers.{ofRecovery, isRecovering}
 use Rattle.calls.specs.Calls.{Call, Open, Place, Device, Port, Endpoints, Reconcile, Move, Acquire, Initialize, Close, Begin, Submit, SubmitPlan, Poll, Recover, Reply, ToSubmit, ToPoll, ToRecovery, Change, Read}
-use Rattle.calls.specs.Step.{World, stepOf, places, moves, submits, plans, reports, polls, finishes, begins, recovers, placedOf, movedOf, begunOf, repliedOf, worldStore}
+use Rattle.calls.specs.Step.{World, stepOf, places, moves, submits, plans, reports, polls, finishes, begins, recovers, placedOf, movedOf, begunOf, repliedOf, worldStore, next}
 use Rattle.calls.specs.declared.{Answer.Answer, Outcome.Outcome}
-use Rattle.runs.specs.Run.{Handed, Event, next, leftBy, endOf, answerTo, historyOf, isOpening, Handing, Follows, Fresh, beside}
+use Rattle.runs.specs.Run.{Handed, Event, leftBy, endOf, answerTo, historyOf, isOpening, Handing, Follows, Fresh, beside}
 use Rattle.runs.proofs.Ways.{recovery-all}
 use Rattle.runs.proofs.Run.{sound-open, sound-run}
-use Rattle.runs.proofs.Handings.{by-handed, follows-at, follows-front, follows-on, fresh-front}
+use Rattle.runs.proofs.Handings.{by-handed, follows-at, follows-front, follows-on, fresh-front, end-append}
 use Rattle.history.specs.Journal.{Entry, Journal, endsBy, recoveryWaits, journalOf, blank}
 use Rattle.history.specs.Claim.{returns, rowsAfter, starts}
 use Rattle.history.proofs.Led.{Led}
@@ -56,7 +56,7 @@ module _ (w : World) (entries : List Entry) (few : count isHeld (worldStore w .r
   reply-same : (r : RecoveryReply) (l : ReplyLists) → endsBy (ofRecovery (recoveryReplyOf r l (w .session) (w .lent .memory) .result .answer)) ≡ false
       → Same (recovers (recoveryReplyOf r l (w .session) (w .lent .memory)) w)
   reply-same r l =
-      recovery-all l (w .session) (w .lent .memory) (λ (o : After Recovered Memory). endsBy (ofRecovery (o .result .answer)) ≡ false → Same (recovers o w))
+      recovery-all l (w .session) (w .lent .memory) (λ (o : After Replied Memory). endsBy (ofRecovery (o .result .answer)) ≡ false → Same (recovers o w))
       (λ e. refl) (λ e. refl) (λ e. refl) (λ y e. absurd (true≢false e)) (λ e. absurd (true≢false e))
       (λ y on o n e. absurd (true≢false (sym (settled-ends (w .session) (w .lent .memory) entries few k l y o n .0) ∙ e))) r
 
@@ -72,7 +72,7 @@ module _ (w : World) (entries : List Entry) (few : count isHeld (worldStore w .r
   stays (Move (Initialize reply)) f n = refused-1 (λ o. Same (moves (after o (worldStore w)) w)) _ _ refl
   stays (Move (Close fresh reply)) f n = refused-1 (λ o. Same (moves o w)) _ _ refl
   stays (Begin (Submit packets q)) f n = refused-1 (λ a. Same (submits (submitBy a q (w .session) (w .lent)))) _ _ refl
-  stays (Begin (SubmitPlan q bytes first)) f n = refused-1 (λ a. Same (plans (submitPlanBy a bytes first (w .session) (w .lent)))) _ _ refl
+  stays (Begin (SubmitPlan q)) f n = refused-1 (λ a. Same (plans (submitPlanBy a (q .bytes) (q .reading) (w .session) (w .lent)))) _ _ refl
   stays (Begin (Poll id)) f n = refused-1 (λ o. Same (polls o w)) _ _ refl
   stays (Begin (Recover id kind)) f n = refused-1 (λ o. Same (begins o w)) _ _ refl
   stays (Reply (ToSubmit reply)) f n = subst (λ (g : InFlight). Same (reports (submitReplyIn g reply (w .session) (worldStore w)) w)) (sym own) refl
@@ -116,10 +116,6 @@ waits-on (e ∷ es) w entries few k x own f n =
     (rest .0 ∙ one .0, rest .1 ∙ one .1)
 
 -- ---- from the start on
-end-append : (w : World) (a b : List Event) → endOf w (a ++ b) ≡ endOf (endOf w a) b
-end-append w [] b = refl
-end-append w (e ∷ a) b = end-append (leftBy (e .handed) (e .call) w) a b
-
 module _ (o : Opening) (w : World) (pass : stepOf (Open o) w .result .answer ≡ Answer.Pass) (before more : List Event) (q : RecoveryKind) (id : RequestId)
     (h : Handed) (x : Recovery) where
   abbrev start : World

@@ -1,5 +1,5 @@
 -- A reply's entries, applied to rows and to entries of the journal alike: by induction over them. Assumes nothing.
-use Prim.Native.Nat.{ℕ, _+_, _<_}
+use Prim.Native.Nat.{ℕ, _<_}
 use mathlib.Core.Path.{_≡_, refl, sym, ap, _∙_, subst}
 use mathlib.Core.Bool.{Bool, true, false, cond, not, _&&_, _||_, true≢false, false≢true}
 use mathlib.Core.List.{List, [], _∷_, _++_}
@@ -11,12 +11,13 @@ use lib.Seq.{getD-set-other}
 use Rattle.chain.specs.Chain.{_if_else_}
 use Rattle.chain.specs.Lists.{count, isAmong}
 use Rattle.chain.specs.After.{After}
-use Rattle.chain.proofs.Chain.{both}
+use Rattle.chain.proofs.Chain.{both, or-false}
 use Rattle.chain.proofs.Lists.{in-cons}
 use Rattle.models.specs.Requests.{deviceMayAccess, isUncertainFailure}
 use Rattle.models.specs.declared.{BackendCompletion.BackendCompletion, RequestId.RequestId, RequestState.RequestState, Verdict.Verdict}
 use Rattle.models.specs.declared.RequestState.the-variants.{Pending, Completed, Failed, Aborted}
 use Rattle.rows.specs.Store.{putIn}
+use Rattle.rows.specs.InPlace.{cancelIn, completedRow}
 use Rattle.rows.specs.Table.{emptyRow, isHeld, rowIn}
 use Rattle.rows.specs.declared.{Row.Row}
 use Rattle.ledger.specs.Search.{isAt}
@@ -26,9 +27,9 @@ use Rattle.checks.specs.declared.{completion.CompletionTest.CompletionTest}
 use Rattle.scope.specs.Returned.{Returned}
 use Rattle.session.specs.Lent.{Memory, memory}
 use Rattle.session.specs.declared.{Size.Size}
-use Rattle.recovery.specs.Entries.{rowCompletedBy, testedBy, completeOne, abortedBy, abortOne, applyAll}
-use Rattle.recovery.specs.RecoveryReply.{ReplyLists, rowsMeant}
-use Rattle.runs.proofs.Held.{or-false}
+use Rattle.ledger.specs.Apply.{applyBy, changedAt}
+use Rattle.recovery.specs.Entries.{rowCompletedBy, testedBy, completeOne, abortedBy, abortOne}
+use Rattle.recovery.specs.RecoveryReply.{ReplyLists, applyAll}
 use Rattle.runs.proofs.Ids.{same-self}
 use Rattle.runs.proofs.Entries.{Onward, entries-all}
 use Rattle.runs.proofs.Tokens.{tokensIn, Each, Distinct, replyTokens}
@@ -120,9 +121,9 @@ module _ (place : ℕ → ℕ) (view : ℕ → View) where
     Both o q = Together (m .store .rows) entries t (o .result) (o .lent .store .rows) q
 
     valid-both : (actual n : ℕ) (st : RequestState) → deviceMayAccess st ≡ true
-        → Both (rowCompletedBy (whilePending st (λ cancel late. withState row (Completed actual n cancel))) z (place t) bytes m)
+        → Both (rowCompletedBy (applyBy (whilePending st (moved (withState row (Completed actual n (cancelIn st))))) (place t) (m .store)) z (place t) bytes (m .area))
         (cond (isUncertainFailure st) (releasedTo true entries) (releasedTo false (atEntry (view t .id) release entries)))
-    unfolding rowCompletedBy whilePending moved putIn
+    unfolding rowCompletedBy applyBy whilePending moved putIn
     valid-both actual n (Pending cancel late) h = (Completed actual n cancel, refl, refl, refl)
     valid-both actual n (Completed x y c) h = absurd (false≢true h)
     valid-both actual n (Failed x y true) h = absurd (false≢true h)
@@ -130,7 +131,7 @@ module _ (place : ℕ → ℕ) (view : ℕ → View) where
     valid-both actual n Aborted h = absurd (false≢true h)
 
     tested-both : (c : BackendCompletion) (p : CompletionTest) → Both (testedBy p (c .«completion_code») z (place t) bytes m) (completesBy p (view t) entries)
-    unfolding testedBy changeRow completed isHeld
+    unfolding testedBy changedAt changeRow completed completedRow isHeld
     tested-both c CompletionTest.MissingLength = (refl, refl, refl)
     tested-both c CompletionTest.Invalid = (refl, refl, refl)
     tested-both c (CompletionTest.Valid actual n) =
@@ -189,7 +190,7 @@ module _ (place : ℕ → ℕ) (view : ℕ → View) where
 
     aborts : (t : ℕ) (ts bytes : List ℕ) (m : Memory) → To [] (t ∷ ts) bytes m
         → Onward place z To End (abortOne (place t) (m .store) .result) [] ts bytes (memory (abortOne (place t) (m .store) .lent) (m .area))
-    unfolding abortOne abortedBy changeRow abortConfirmed moved putIn _if_else_ isHeld
+    unfolding abortOne changedAt abortedBy applyBy changeRow abortConfirmed moved putIn _if_else_ isHeld
     aborts t ts bytes m k =
         let row : Row = rowIn (m .store .rows) (place t) in
         let h : deviceMayAccess (row .state) ≡ true = both (row .used) (deviceMayAccess (row .state)) (k .ready .0 .held) .1 in
@@ -204,7 +205,7 @@ module _ (place : ℕ → ℕ) (view : ℕ → View) where
   -- the lemma: every list of entries keeps rows and journal in step
   pub apply-kept : (z : Size) (l : ReplyLists) (m : Memory) (entries : List Entry) → Led (m .store .rows) entries
       → Distinct (replyTokens l) → AllReady (m .store .rows) (replyTokens l)
-      → Kept (m .store .rows) entries (applyAll z (rowsMeant place l) m .lent .store .rows) (releasesAll view l entries) × LateBy (applyAll z (rowsMeant place l) m .result)
+      → Kept (m .store .rows) entries (applyAll z place l m .lent .store .rows) (releasesAll view l entries) × LateBy (applyAll z place l m .result)
   apply-kept z l m entries k d a =
       let whole : List Entry = releasesAll view l entries in
       entries-all place z (To z (m .store .rows) entries whole) (End z (m .store .rows) entries whole) (ends z (m .store .rows) entries whole)

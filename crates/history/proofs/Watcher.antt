@@ -36,12 +36,11 @@ use Rattle.submissions.specs.Plan.{planStarted, plannedTo}
 use Rattle.submissions.specs.declared.{begin.Started.Started}
 use Rattle.calls.specs.Answers.{ofSubmit, ofPlan}
 use Rattle.calls.specs.Calls.{Beginning, Submit, SubmitPlan, Poll, Recover, Call, Begin, Read}
-use Rattle.calls.specs.Step.{World, begunOf, stepOf}
+use Rattle.calls.specs.Step.{World, begunOf, stepOf, next}
 use Rattle.calls.specs.declared.{Answer.Answer}
-use Rattle.runs.specs.Run.{Handed, own, rowsOnly, other, Event, next, leftBy, endOf, Handing, Follows}
+use Rattle.runs.specs.Run.{Handed, own, rowsOnly, other, Event, leftBy, endOf, Handing, Follows, calls}
 use Rattle.runs.proofs.Handings.{follows-at, follows-on, follows-front}
 use Rattle.runs.proofs.Stages.{submit-all, plan-all}
-use Rattle.history.specs.Claim.{calls}
 use Rattle.history.specs.Watcher.{Turned, LeavesBy, Leaves, Asks, Second, Reads, foundBy, unreadNumbers, staleNumbers, Refuses, Noticed, unread, full, turned, Watched}
 use Rattle.history.proofs.Later.{SameBit, beq-same, Numbered, number-said, same-generation, Onward, step-later}
 
@@ -66,7 +65,7 @@ module _ (slot : ℕ) (d : DeviceSnapshot) (w : World) (stands : deviceAt (w .le
 
   abbrev BeginStops : Beginning → Type 0
   BeginStops (Submit packets q) = ReadStops (metadataOf (q .spec)) (q .readings)
-  BeginStops (SubmitPlan q bytes first) = ReadStops (planOf q .metadata) (record { first = first; second = first })
+  BeginStops (SubmitPlan q) = ReadStops (planOf (q .plan) .metadata) (record { first = q .reading; second = q .reading })
   BeginStops (Poll id) = Unit {0}
   BeginStops (Recover id kind) = Unit {0}
 
@@ -128,11 +127,11 @@ module _ (slot : ℕ) (d : DeviceSnapshot) (w : World) (stands : deviceAt (w .le
       start-stops (draft (placeOf (w .session .size) i) (metadataOf (q .spec)) (q .bytes)) (q .readings) e k
       (λ o. R (ofSubmit (submittedTo o (metadataOf (q .spec)) (q .given) .result .answer)) (o .lent .bus)) (λ y b n. n))
       packets
-  asked (SubmitPlan q bytes first) e k =
-      plan-all q bytes first (w .session) (w .lent) (λ o. R (ofPlan (o .result .answer)) (o .lent .bus)) (λ x n. early x (all-in earlyNumbers unreadNumbers (x .number) refl n))
+  asked (SubmitPlan q) e k =
+      plan-all (q .plan) (q .bytes) (q .reading) (w .session) (w .lent) (λ o. R (ofPlan (o .result .answer)) (o .lent .bus)) (λ x n. early x (all-in earlyNumbers unreadNumbers (x .number) refl n))
       (λ i room size.
-      start-stops (draft (placeOf (w .session .size) i) (planOf q .metadata) bytes) (record { first = first; second = first }) e k
-      (λ o. R (ofPlan (plannedTo o (planOf q) .result .answer)) (o .lent .bus)) (λ y b n. n))
+      start-stops (draft (placeOf (w .session .size) i) (planOf (q .plan) .metadata) (q .bytes)) (record { first = q .reading; second = q .reading }) e k
+      (λ o. R (ofPlan (plannedTo o (planOf (q .plan)) .result .answer)) (o .lent .bus)) (λ y b n. n))
   asked (Poll id) e k = absurd e
   asked (Recover id kind) e k = absurd e
 
@@ -284,8 +283,8 @@ module _ (slot : ℕ) (d : DeviceSnapshot) (w : World) (stands : deviceAt (w .le
   read-stops : (f : Beginning) (earlier : OptionU32) → Reads d old earlier raw f → BeginStops slot d w stands (Notes earlier) (notes-early earlier) f
   read-stops (Submit packets q) OptionU32.None k = notes-first (metadataOf (q .spec)) (q .readings) k
   read-stops (Submit packets q) (OptionU32.Some first) k = notes-second first q k
-  read-stops (SubmitPlan q bytes first) OptionU32.None k = notes-first (planOf q .metadata) (record { first = first; second = first }) k
-  read-stops (SubmitPlan q bytes first) (OptionU32.Some x) k = absurd k
+  read-stops (SubmitPlan q) OptionU32.None k = notes-first (planOf (q .plan) .metadata) (record { first = q .reading; second = q .reading }) k
+  read-stops (SubmitPlan q) (OptionU32.Some first) k = absurd k
   read-stops (Poll id) earlier k = tt
   read-stops (Recover id kind) earlier k = tt
 
@@ -360,7 +359,7 @@ module _ (slot : ℕ) (d : DeviceSnapshot) where
 
       stops : (f : Beginning) → BeginStops slot d w (k .stands) Low early f
       stops (Submit packets q) = reads (metadataOf (q .spec)) (q .readings)
-      stops (SubmitPlan q bytes first) = reads (planOf q .metadata) (record { first = first; second = first })
+      stops (SubmitPlan q) = reads (planOf (q .plan) .metadata) (record { first = q .reading; second = q .reading })
       stops (Poll id) = tt
       stops (Recover id kind) = tt
 

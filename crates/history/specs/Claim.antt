@@ -6,12 +6,10 @@ use mathlib.Core.Path.{_≡_}
 use lib.Dec.{eqb}
 use lib.ListN.{length}
 use Rattle.chain.specs.Lists.{sumBy, only, count, anyIn, isAmong}
-use Rattle.words.specs.declared.{OptionU32.OptionU32, OptionU64.OptionU64}
 use Rattle.models.specs.Refusals.{refusalOf}
-use Rattle.models.specs.Requests.{isUncertainFailure, sameRequest}
+use Rattle.models.specs.Requests.{heldMost, isUncertainFailure, sameRequest}
 use Rattle.models.specs.declared.{DeviceId.DeviceId, RequestId.RequestId, RequestReport.RequestReport, RequestState.RequestState}
 use Rattle.models.specs.declared.RequestState.the-variants.{Pending, Completed, Failed, Aborted}
-use Rattle.rows.specs.InPlace.{cancelIn}
 use Rattle.rows.specs.Table.{isHeld, rowIn, tokenIn}
 use Rattle.rows.specs.declared.{Row.Row}
 use Rattle.rules.specs.Rules.{withState}
@@ -24,10 +22,11 @@ use Rattle.scope.specs.Returned.{Returned, readReturned}
 use Rattle.recovery.specs.RecoveryReply.{ReplyLists}
 use Rattle.recovery.specs.declared.{AbortReport.AbortReport, RecoveryReply.RecoveryReply}
 use Rattle.calls.specs.Calls.{Call, Begin, Recover, Reply, ToRecovery, Change, Reclaim, Read, HeldCount, HeldBytes}
-use Rattle.calls.specs.Step.{World, stepOf, worldStore}
+use Rattle.calls.specs.Step.{World, stepOf, worldStore, next}
 use Rattle.calls.specs.Answers.{begunId}
 use Rattle.calls.specs.declared.{Answer.Answer}
-use Rattle.runs.specs.Run.{Handed, own, Event, Answered, Stepping, next, worldBy, endBy, historyBy, answerBy}
+use Rattle.runs.specs.Completed.{completedAs}
+use Rattle.runs.specs.Run.{Handed, Event, calls, Answered, Stepping, worldBy, endBy, historyBy, answerBy}
 use Rattle.history.specs.Journal.{Entry, View, blank, isOpen, isEntry, recoveryWaits, journalOf}
 
 -- what a row has in common with an entry
@@ -56,7 +55,7 @@ pub record Agrees (p : View → Bool) (rows : List Row) (entries : List Entry) :
   pub ids : (x : RequestId) → anyIn (λ r. isAt x r && heldAs p r) rows ≡ anyIn (λ e. isEntry x e && openAs p e) entries
   pub number : count (heldAs p) rows ≡ count (openAs p) entries
   pub lengths : sumBy (only (heldAs p) rowLength) rows ≡ sumBy (only (openAs p) (λ e. e .view .requested)) entries
-  pub bound : count (heldAs p) rows ≤ 128
+  pub bound : count (heldAs p) rows ≤ heldMost
 
 -- how many releases an id has
 abbrev pub releasesOf : RequestId → List Entry → ℕ
@@ -82,10 +81,6 @@ entriesAfter w es = entriesEnd stepOf w es
 abbrev pub rowsBy : World → Event → List Row
 rowsBy w e = rowsLeft stepOf w e
 
--- a call that is handed what the calls before it left
-abbrev pub calls : Call → Event
-calls c = record { call = c; handed = own }
-
 abbrev pub reclaims : RequestId → Handed → Event
 reclaims x h = record { call = Change x Reclaim; handed = h }
 
@@ -98,21 +93,6 @@ abbrev pub handsOver : RequestId → Answered → Bool
 handsOver x h = isBegun x (begunId (h .answer))
 
 -- ---- what a recovery that succeeded leaves
-
--- what a completion says, and the flag of a Pending state; a completion that lacks a part is refused, and so is one of a request that is
--- not Pending, with no release: `agrees` would not hold
-abbrev pub lengthIn : OptionU64 → ℕ
-lengthIn OptionU64.None = 0
-lengthIn (OptionU64.Some n) = n
-
-abbrev pub codeIn : OptionU32 → ℕ
-codeIn OptionU32.None = 0
-codeIn (OptionU32.Some n) = n
-
--- the row with the completion's length and code
-abbrev pub completedAs : Returned → Row → Row
-completedAs c r =
-    withState r (Completed (lengthIn (c .brought .completion .«actual_length»)) (codeIn (c .brought .completion .«completion_code»)) (cancelIn (r .state)))
 
 -- as the reply names the row's token: by a completion, as aborted, or not at all
 abbrev pub namedAs : List Returned → List ℕ → Row → Row

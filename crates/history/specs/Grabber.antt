@@ -14,8 +14,8 @@ use Rattle.reports.specs.declared.{Part.Part}
 use Rattle.calls.specs.Calls.{Call, Read, CompletedBytes}
 use Rattle.calls.specs.Step.{World, stepOf}
 use Rattle.calls.specs.declared.{Answer.Answer}
-use Rattle.runs.specs.Run.{Handed, Event, answerTo, endOf}
-use Rattle.history.specs.Claim.{calls, releasesOf, rowsAfter, entriesAfter}
+use Rattle.runs.specs.Run.{Handed, Event, answerTo, endOf, calls}
+use Rattle.history.specs.Claim.{releasesOf, rowsAfter, entriesAfter}
 
 -- the bytes of row i in an area
 abbrev pub rowBytes : Size → ℕ → List ℕ → List ℕ

@@ -5,7 +5,7 @@ use mathlib.Core.List.{List, [], _∷_, map}
 use lib.Dec.{eqb}
 use lib.ListN.{length, getD, set, take, drop}
 use Rattle.chain.specs.Lists.{find, mapAt}
-use Rattle.models.specs.Requests.{sameRequest, sameDevice, requestBefore}
+use Rattle.models.specs.Requests.{noId, sameRequest, sameDevice, requestBefore}
 use Rattle.models.specs.declared.{BackendCompletion.BackendCompletion, DeviceId.DeviceId, OptionError.OptionError, RequestId.RequestId}
 use Rattle.checks.specs.Completion.{testCompletion}
 use Rattle.checks.specs.Plan.{stageOf}
@@ -62,7 +62,7 @@ viewOf id device endpoint requested = record { id = id; device = device; endpoin
 
 -- stands for no entry at all
 abbrev pub noEntry : Entry
-noEntry = record { view = viewOf (record { session = 0; generation = 0; sequence = 0 }) (record { session = 0; generation = 0; slot = 0 }) 0 0; releases = 1 }
+noEntry = record { view = viewOf noId (record { session = 0; generation = 0; slot = 0 }) 0 0; releases = 1 }
 
 -- the entry of an id is the latest of that id
 abbrev pub entryOf : RequestId → List Entry → Entry
@@ -238,7 +238,7 @@ journalStep (Move (Initialize reply)) a j = j
 journalStep (Move (Close fresh reply)) a j = cond (isPass a) (releasedAll j) j
 journalStep (Begin (Submit packets q)) a j = begunBy (begunId a) (q .spec .device) (q .spec .endpoint) (q .spec .length) j
 -- a plan is for endpoint 0, its length that of its data stage
-journalStep (Begin (SubmitPlan q bytes first)) a j = begunBy (begunId a) (q .device) 0 (stageOf (q .«data_stage») (q .setup .«request_type») .length) j
+journalStep (Begin (SubmitPlan q)) a j = begunBy (begunId a) (q .plan .device) 0 (stageOf (q .plan .«data_stage») (q .plan .setup .«request_type») .length) j
 journalStep (Begin (Poll id)) a j = cond (isAsked a) (pollWaits id j) j
 journalStep (Begin (Recover id kind)) a j = cond (isRecovering a) (recoveryWaits id kind j) j
 journalStep (Reply (ToSubmit reply)) a j = cond (endsBy a) (endedWith (acceptedAs reply) j) j

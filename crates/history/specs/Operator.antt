@@ -5,9 +5,8 @@ use Rattle.models.specs.declared.{RequestId.RequestId, RequestReport.RequestRep
 use Rattle.models.specs.declared.RequestState.the-variants.{Pending}
 use Rattle.session.specs.Session.{isBusy}
 use Rattle.calls.specs.Calls.{Changing, Cancel, Withdraw, Change, Read, Status}
-use Rattle.calls.specs.Step.{World, stepOf}
+use Rattle.calls.specs.Step.{World, stepOf, next}
 use Rattle.calls.specs.declared.{Answer.Answer}
-use Rattle.runs.specs.Run.{next}
 
 -- nothing is in flight, and the id's report says Pending, with that cancel flag
 pub record Shows (w : World) (id : RequestId) (cancel : Bool) : Type 0 where

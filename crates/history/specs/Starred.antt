@@ -7,7 +7,7 @@ use mathlib.Core.Path.{_≡_}
 use lib.ListN.{length, replicate}
 use Rattle.chain.specs.After.{After}
 use Rattle.words.specs.declared.{OptionI32.OptionI32, OptionU32.OptionU32, OptionU64.OptionU64}
-use Rattle.models.specs.declared.{BackendCompletion.BackendCompletion, ControllerState.ControllerState, DeviceId.DeviceId, Direction.Direction, ErrorCategory.ErrorCategory, OperationError.OperationError, OptionDirection.OptionDirection, OptionError.OptionError, OptionPorts.OptionPorts, OptionSetup.OptionSetup, OptionStage.OptionStage, Refusal.Refusal, RequestId.RequestId, RequestMetadata.RequestMetadata, RequestState.RequestState, SetupPacket.SetupPacket, TransferType.TransferType, Verdict.Verdict}
+use Rattle.models.specs.declared.{BackendCompletion.BackendCompletion, ControllerState.ControllerState, DeviceId.DeviceId, Direction.Direction, ErrorCategory.ErrorCategory, OptionDirection.OptionDirection, OptionError.OptionError, OptionPorts.OptionPorts, OptionSetup.OptionSetup, OptionStage.OptionStage, Refusal.Refusal, RequestId.RequestId, RequestMetadata.RequestMetadata, RequestState.RequestState, SetupPacket.SetupPacket, TransferType.TransferType, Verdict.Verdict}
 use Rattle.models.specs.declared.ControllerState.the-variants.{Initialized, RecoveryRequired}
 use Rattle.models.specs.declared.ControlProfile.the-variants.{Compliant}
 use Rattle.models.specs.declared.Direction.the-variants.{In, Out}
@@ -25,7 +25,7 @@ use Rattle.session.specs.declared.{InFlight.InFlight, OptionStall.OptionStall, 
 use Rattle.polls.specs.PollReply.{pollReplyOf}
 use Rattle.polls.specs.declared.{PollReply.PollReply}
 use Rattle.recovery.specs.RecoveryReply.{replyLists, recoveryReplyOf}
-use Rattle.recovery.specs.declared.{Recovered.Recovered, RecoveryAnswer.RecoveryAnswer, RecoveryReply.RecoveryReply}
+use Rattle.recovery.specs.declared.{RecoveryAnswer.RecoveryAnswer, RecoveryReply.RecoveryReply, Replied.Replied}
 
 -- what an example is about
 pub data Subject : Type 0 where
@@ -149,7 +149,7 @@ polled k bytes =
 abbrev recovering : InFlight
 recovering = InFlight.Recovery (record { target = id 1; device = device; endpoint = 0x81; kind = RecoveryKind.Abort })
 
-abbrev recovered : After Recovered Memory → Subject
+abbrev recovered : After Replied Memory → Subject
 recovered o = Recovers (o .result .answer) (o .result .session .state) (states (o .lent))
 
 abbrev aborted : Bool → List ℕ → Subject

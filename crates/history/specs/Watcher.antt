@@ -20,10 +20,9 @@ use Rattle.bus.specs.declared.{ports.PortChecked.PortChecked}
 use Rattle.submissions.specs.Said.{earlyNumbers}
 use Rattle.submissions.specs.Submit.{Request}
 use Rattle.calls.specs.Calls.{Placing, Device, Port, Endpoints, Reconcile, Beginning, Submit, SubmitPlan, Poll, Recover, Call, Open, Place, Move, Begin, Reply, Change, Read}
-use Rattle.calls.specs.Step.{World, stepOf}
+use Rattle.calls.specs.Step.{World, stepOf, next}
 use Rattle.calls.specs.declared.{Answer.Answer}
-use Rattle.runs.specs.Run.{Handed, own, rowsOnly, other, Event, next, answerTo, endOf}
-use Rattle.history.specs.Claim.{calls}
+use Rattle.runs.specs.Run.{Handed, own, rowsOnly, other, Event, answerTo, endOf, calls}
 
 -- between two states of the bus the port's last reading has changed its connected bit, and the id was the port's before
 pub record Turned (id : PortId) (b b′ : Bus) : Type 0 where
@@ -63,7 +62,7 @@ Leaves slot number (e ∷ es) = LeavesBy slot number (e .handed) (e .call) × Le
 -- a submission to a device of that slot
 abbrev pub Asks : ℕ → Beginning → Type 0
 Asks slot (Submit packets q) = q .spec .device .slot ≡ slot
-Asks slot (SubmitPlan q bytes first) = q .device .slot ≡ slot
+Asks slot (SubmitPlan q) = q .plan .device .slot ≡ slot
 Asks slot (Poll id) = ⊥
 Asks slot (Recover id kind) = ⊥
 
@@ -78,8 +77,8 @@ pub record Second (d : DeviceSnapshot) (old first raw : ℕ) (q : Request) : Typ
 abbrev pub Reads : DeviceSnapshot → ℕ → OptionU32 → ℕ → Beginning → Type 0
 Reads d old OptionU32.None raw (Submit packets q) = q .readings .first ≡ Word raw
 Reads d old (OptionU32.Some first) raw (Submit packets q) = Second d old first raw q
-Reads d old OptionU32.None raw (SubmitPlan q bytes first) = first ≡ Word raw
-Reads d old (OptionU32.Some x) raw (SubmitPlan q bytes first) = ⊥
+Reads d old OptionU32.None raw (SubmitPlan q) = q .reading ≡ Word raw
+Reads d old (OptionU32.Some first) raw (SubmitPlan q) = ⊥
 Reads d old earlier raw (Poll id) = ⊥
 Reads d old earlier raw (Recover id kind) = ⊥
 

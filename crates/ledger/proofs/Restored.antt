@@ -14,7 +14,7 @@ use Rattle.rows.specs.declared.{Row.Row}
 use Rattle.rows.proofs.Own.{put-again}
 use Rattle.rules.specs.Rules.{moved, changeRow}
 use Rattle.rules.specs.declared.{Change.Change}
-use Rattle.ledger.specs.Apply.{applyBy, applyAt, applyOf}
+use Rattle.ledger.specs.Apply.{applyBy, changedAt, applyAt, applyOf}
 use Rattle.ledger.specs.Search.{isAt}
 use Rattle.ledger.specs.declared.{Applied.Applied}
 use Rattle.ledger.proofs.Found.{found-in}
@@ -22,7 +22,7 @@ use Rattle.ledger.proofs.Found.{found-in}
 -- the row of the id is q after the change
 pub apply-moved : (id : RequestId) (s : Store) (i : ℕ) (q : Row) (c : Change) → foundIn (isAt id) (s .rows) ≡ At i → changeRow (rowIn (s .rows) i) c ≡ moved q
     → applyOf id c s ≡ after (Applied.Done (reportOf q)) (putIn s i q)
-unfolding applyOf applyAt applyBy moved
+unfolding applyOf applyAt changedAt applyBy moved
 apply-moved id s i q c at there = rw (at, there)
 
 -- and what it was after one that takes it back

@@ -1,5 +1,5 @@
-// Changes on the words of a row, each what `apply` does. The answer is where the row stands, so that its report's words
-// can be read there.
+// Changes of a row in its encoding, each what `apply` does. The answer is the row's index, so that its report can be encoded from
+// there.
 use crate::search;
 use chain::Found;
 use models::Refusal;
@@ -9,11 +9,11 @@ use rows::columns;
 use rows::in_place;
 ghost use mathlib.Core.Path.{_≡_};
 ghost use Rattle.chain.specs.After.{after};
+ghost use Rattle.models.specs.Said.{Tabled};
 ghost use Rattle.rows.specs.Store.{storeOf};
-ghost use Rattle.rows.specs.Table.{readRows};
 ghost use Rattle.rules.specs.declared.Change.the-variants as Change;
-ghost use Rattle.ledger.specs.Apply.{applyOf};
-ghost use Rattle.ledger.specs.InPlace.{reportedAt, freedAt, PlacedIn};
+ghost use Rattle.ledger.specs.InPlace.{applyPlaced, placedSaid};
+ghost use Rattle.ledger.specs.Said.{applyNumbers};
 
 // Where the row of a change stands.
 pub enum Placed {
@@ -23,8 +23,8 @@ pub enum Placed {
 
 // The backend took the submission. Its row is Pending; one that is not is changed by its value.
 pub fn accept(rows: &mut [u64], id: RequestId, token: u64) -> Placed
-    ensures { λ r. ⌜ (after (reportedAt r (readRows (now (rows .exit)))) (storeOf (now (rows .exit)))
-        ≡ applyOf id (Change.Accept token) (storeOf (now (rows .entry)))) × PlacedIn r (readRows (now (rows .exit))) ⌝ }
+    ensures step { λ r. ⌜ after r (storeOf (now (rows .exit))) ≡ applyPlaced id (Change.Accept token) (storeOf (now (rows .entry))) ⌝ }
+    ensures table { λ r. ⌜ Tabled (applyNumbers (Change.Accept token)) (placedSaid r) ⌝ }
 {
     let found = search::find(rows, id);
     let Found::At(i) = found else {
@@ -40,8 +40,8 @@ pub fn accept(rows: &mut [u64], id: RequestId, token: u64) -> Placed
 }
 
 pub fn logical_cancel(rows: &mut [u64], id: RequestId) -> Placed
-    ensures { λ r. ⌜ (after (reportedAt r (readRows (now (rows .exit)))) (storeOf (now (rows .exit)))
-        ≡ applyOf id Change.LogicalCancel (storeOf (now (rows .entry)))) × PlacedIn r (readRows (now (rows .exit))) ⌝ }
+    ensures step { λ r. ⌜ after r (storeOf (now (rows .exit))) ≡ applyPlaced id Change.LogicalCancel (storeOf (now (rows .entry))) ⌝ }
+    ensures table { λ r. ⌜ Tabled (applyNumbers Change.LogicalCancel) (placedSaid r) ⌝ }
 {
     let found = search::find(rows, id);
     let Found::At(i) = found else {
@@ -55,8 +55,8 @@ pub fn logical_cancel(rows: &mut [u64], id: RequestId) -> Placed
 }
 
 pub fn timeout(rows: &mut [u64], id: RequestId) -> Placed
-    ensures { λ r. ⌜ (after (reportedAt r (readRows (now (rows .exit)))) (storeOf (now (rows .exit)))
-        ≡ applyOf id Change.Timeout (storeOf (now (rows .entry)))) × PlacedIn r (readRows (now (rows .exit))) ⌝ }
+    ensures step { λ r. ⌜ after r (storeOf (now (rows .exit))) ≡ applyPlaced id Change.Timeout (storeOf (now (rows .entry))) ⌝ }
+    ensures table { λ r. ⌜ Tabled (applyNumbers Change.Timeout) (placedSaid r) ⌝ }
 {
     let found = search::find(rows, id);
     let Found::At(i) = found else {
@@ -65,14 +65,14 @@ pub fn timeout(rows: &mut [u64], id: RequestId) -> Placed
     if !columns::pending_at(rows, i) {
         return Placed::Refused(models::refuse(41));
     }
-    in_place::late_row(rows, i);
+    in_place::time_out_row(rows, i);
     Placed::At(i)
 }
 
 // Where the row stands that a reclaim frees. It is not freed yet: its report is read first.
 pub fn reclaimable(rows: &[u64], id: RequestId) -> Placed
-    ensures { λ r. ⌜ (freedAt r (storeOf (now (rows .entry))) ≡ applyOf id Change.Reclaim (storeOf (now (rows .entry))))
-        × PlacedIn r (readRows (now (rows .entry))) ⌝ }
+    ensures step { λ r. ⌜ r ≡ applyPlaced id Change.Reclaim (storeOf (now (rows .entry))) .result ⌝ }
+    ensures table { λ r. ⌜ Tabled (applyNumbers Change.Reclaim) (placedSaid r) ⌝ }
 {
     let found = search::find(rows, id);
     let Found::At(i) = found else {

@@ -2,6 +2,7 @@
 use chain::Found;
 use models::RequestId;
 use rows::columns;
+use rows::columns::BLOCK;
 use words::slices;
 ghost use mathlib.Core.Path.{_≡_};
 ghost use Prim.Native.Nat.{_<_, _≤_};
@@ -10,12 +11,10 @@ ghost use Rattle.chain.specs.Lists.{find, count, foundIn, anyIn};
 ghost use Rattle.rows.specs.Table.{readRows, rowAt, isUncertain};
 ghost use Rattle.ledger.specs.Search.{isAt, isFree, hasSequence, foundBefore, blockStart};
 
-// How many rows are read one by one before any block, and how many are a block.
+// How many rows are read one by one before any block.
 const NEAR: usize = 8;
 
-const BLOCK: usize = 64;
-
-// Row i has the id. Of a row with another sequence no other word is read.
+// Whether row i has this id. Compares the sequence first and stops there if it differs.
 fn holds(rows: &[u64], i: usize, id: RequestId) -> bool
     requires { ⌜ i < length (readRows (now rows)) ⌝ }
     ensures { λ r. ⌜ r ≡ isAt id (rowAt (now (rows .entry)) i) ⌝ }

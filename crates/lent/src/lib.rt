@@ -19,8 +19,8 @@ ghost use Rattle.lent.specs.Lent.{polledAs, reportedAs};
 
 // The rows are lent again, as the others lend theirs: one proof serves all five.
 pub fn poll_request(session: &mut Session, rows: &[u64], id: RequestId) -> PollAnswer
-    ensures { λ r. ⌜ (polledAs r (now (session .exit)) ≡ pollOf id (now (session .entry)) (storeIn rows))
-        × Tabled pollNumbers (pollSaid r) ⌝ }
+    ensures step { λ r. ⌜ polledAs r (now (session .exit)) ≡ pollOf id (now (session .entry)) (storeIn rows) ⌝ }
+    ensures table { λ r. ⌜ Tabled pollNumbers (pollSaid r) ⌝ }
 {
     let done = poll::poll_request(*session, &*rows, id);
     *session = done.session;
@@ -32,9 +32,9 @@ pub fn logical_cancel_request(
     rows: &mut [u64],
     id: RequestId,
 ) -> ReportAnswer
-    ensures { λ r. ⌜ (after (reportedAs r (now (session .exit))) (storeOut rows)
-        ≡ changeOf id Change.LogicalCancel (now (session .entry)) (storeIn rows))
-        × Tabled cancelNumbers (reportSaid r) ⌝ }
+    ensures step { λ r. ⌜ after (reportedAs r (now (session .exit))) (storeOut rows)
+        ≡ changeOf id Change.LogicalCancel (now (session .entry)) (storeIn rows) ⌝ }
+    ensures table { λ r. ⌜ Tabled cancelNumbers (reportSaid r) ⌝ }
 {
     let done = change::logical_cancel_request(*session, rows, id);
     *session = done.session;
@@ -46,9 +46,9 @@ pub fn withdraw_cancel_request(
     rows: &mut [u64],
     id: RequestId,
 ) -> ReportAnswer
-    ensures { λ r. ⌜ (after (reportedAs r (now (session .exit))) (storeOut rows)
-        ≡ changeOf id Change.WithdrawCancel (now (session .entry)) (storeIn rows))
-        × Tabled withdrawNumbers (reportSaid r) ⌝ }
+    ensures step { λ r. ⌜ after (reportedAs r (now (session .exit))) (storeOut rows)
+        ≡ changeOf id Change.WithdrawCancel (now (session .entry)) (storeIn rows) ⌝ }
+    ensures table { λ r. ⌜ Tabled withdrawNumbers (reportSaid r) ⌝ }
 {
     let done = change::withdraw_cancel_request(*session, rows, id);
     *session = done.session;
@@ -56,9 +56,9 @@ pub fn withdraw_cancel_request(
 }
 
 pub fn timeout_request(session: &mut Session, rows: &mut [u64], id: RequestId) -> ReportAnswer
-    ensures { λ r. ⌜ (after (reportedAs r (now (session .exit))) (storeOut rows)
-        ≡ changeOf id Change.Timeout (now (session .entry)) (storeIn rows))
-        × Tabled cancelNumbers (reportSaid r) ⌝ }
+    ensures step { λ r. ⌜ after (reportedAs r (now (session .exit))) (storeOut rows)
+        ≡ changeOf id Change.Timeout (now (session .entry)) (storeIn rows) ⌝ }
+    ensures table { λ r. ⌜ Tabled cancelNumbers (reportSaid r) ⌝ }
 {
     let done = change::timeout_request(*session, rows, id);
     *session = done.session;
@@ -66,9 +66,9 @@ pub fn timeout_request(session: &mut Session, rows: &mut [u64], id: RequestId) -
 }
 
 pub fn reclaim_request(session: &mut Session, rows: &mut [u64], id: RequestId) -> ReportAnswer
-    ensures { λ r. ⌜ (after (reportedAs r (now (session .exit))) (storeOut rows)
-        ≡ changeOf id Change.Reclaim (now (session .entry)) (storeIn rows))
-        × Tabled reclaimNumbers (reportSaid r) ⌝ }
+    ensures step { λ r. ⌜ after (reportedAs r (now (session .exit))) (storeOut rows)
+        ≡ changeOf id Change.Reclaim (now (session .entry)) (storeIn rows) ⌝ }
+    ensures table { λ r. ⌜ Tabled reclaimNumbers (reportSaid r) ⌝ }
 {
     let done = change::reclaim_request(*session, rows, id);
     *session = done.session;

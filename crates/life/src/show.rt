@@ -138,7 +138,7 @@ pub fn tally(name: &[u8], a: Tally) {
     }
 }
 
-// A refusal of which only the number is told.
+// A refusal by its number alone.
 pub fn refusal(name: &[u8], n: u16) {
     text(name);
     refused_by(n);

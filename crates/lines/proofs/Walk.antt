@@ -1,8 +1,8 @@
 -- The walk over a paper's events: what is left of it leads to the whole. Assumes nothing.
 use Prim.Native.Nat.{ℕ, suc, _+_, _*_, _/_, _^_, _≤_, _<_}
-use mathlib.Core.Bool.{Bool, true, false, not, _||_}
+use mathlib.Core.Bool.{Bool, true, false}
 use mathlib.Core.Path.{_≡_, refl, sym, ap, _∙_}
-use mathlib.Core.List.{List, [], _∷_, _++_, append-nil}
+use mathlib.Core.List.{List, _∷_, _++_, append-nil}
 use native.Mathlib.Omega.{arith}
 use native.Mathlib.Nat.{zero-add}
 use native.Mathlib.Numerals.{add-one}
@@ -12,66 +12,72 @@ use borrow.Author.Tests.{ltb-false}
 use Rattle.io.specs.Counts.{Counts}
 use Rattle.io.proofs.Counting.{counts}
 use Rattle.chain.specs.After.{After, after}
-use Rattle.chain.proofs.Chain.{takes, passes}
+use Rattle.chain.proofs.Chain.{takes, passes, or-false}
 use Rattle.words.specs.Records.{splice}
-use Rattle.rows.specs.Store.{storeOf}
-use Rattle.bus.specs.Tables.{busOf}
-use Rattle.session.specs.Lent.{Lent, memory, lent}
-use Rattle.session.specs.declared.{Session.Session}
-use Rattle.calls.specs.Step.{World, world, worldStore}
+use Rattle.session.specs.Lent.{Lent}
+use Rattle.calls.specs.Step.{World, world, madeOn}
 use Rattle.paper.specs.Events.{eventCount, eventsOf, eventAt}
 use Rattle.paper.specs.Form.{isRefusedSize, isDamaged}
 use Rattle.paper.specs.declared.{OptionEvent.OptionEvent, PaperEvent.PaperEvent}
-use Rattle.paper.proofs.Papers.{events-end, event-some, event-none}
+use Rattle.paper.proofs.Papers.{events-end, event-some}
 use Rattle.paper_session.specs.Start.{blankLent, startOn}
-use Rattle.line_text.specs.Text.{decimal, newline, lineText, appended}
-use Rattle.marking.specs.Marking.{eventMarked}
-use Rattle.lines.specs.Lines.{damagedLine, eventLine, markedLine, markedWorld, linesFrom, linesText, textFrom, keyText}
-use Rattle.line_text.specs.declared.{Line.Line}
+use Rattle.decimal.specs.Text.{appended}
+use Rattle.decimal.proofs.Appended.{appended-none, appended-again, appended-end}
+use Rattle.marking.specs.Marking.{eventCalls, eventMarked}
 use Rattle.marking.specs.declared.{Marked.Marked}
-use Rattle.line_text.proofs.Appended.{appended-none, appended-again}
-use Rattle.line_text.proofs.Decimal.{line-text-length}
-
--- neither of two tests holds
-or-left : (a b : Bool) → (a || b) ≡ false → a ≡ false
-or-left true b h = h
-or-left false b h = refl
+use Rattle.marking.proofs.Laws.{marked-made}
+use Rattle.lines.specs.Lines.{eventLine, markedLine, linesFrom, lineText, linesText, lineRoom, textRoom, refusedText, keyText, Walk, walk, eventWalked, textFrom}
+use Rattle.lines.specs.declared.{Line.Line}
+use Rattle.lines.proofs.text.Laws.{line-text-length}
 
 -- a paper of no refused size has at most 8,192 events, and there is room for the line of each
-module _ (size at i n : ℕ) (fits : isRefusedSize size ≡ false) (few : at ≤ i * 65) (big : n ≡ 532480) where
+module _ (size at i n : ℕ) (fits : isRefusedSize size ≡ false) (few : at ≤ i * lineRoom) (big : n ≡ textRoom) where
   events-few : size ≤ 65536
   unfolding isRefusedSize
-  events-few = ltb-false 65536 size (or-left (ltb 65536 size) _ fits)
+  events-few = ltb-false 65536 size (or-false (ltb 65536 size) _ fits .0)
 
   pub index-next : i < size / 8 → i + 1 < 2 ^ 64
   index-next h = omega (arith, events-few)
 
-  pub room-next : i < size / 8 → at + 65 ≤ n
+  pub room-next : i < size / 8 → at + lineRoom ≤ n
   room-next h = omega (arith, events-few)
 
--- the lines of events by their first one: it is damaged, or not
-module _ (i : ℕ) (e : PaperEvent) (es : List PaperEvent) (w : World) where
-  lines-last : isDamaged e ≡ true → damagedLine i (w .session) (worldStore w) ∷ [] ≡ linesFrom i (e ∷ es) w
-  lines-last d = takes _ _ _ _ _ d refl
+module _ (i : ℕ) (e : PaperEvent) (w : World) (at : ℕ) (out : List ℕ) where
+  abbrev wantedLine : Line
+  wantedLine = markedLine i (eventMarked e w)
 
-  lines-next : isDamaged e ≡ false → markedLine i (eventMarked e w) ∷ linesFrom (suc i) es (markedWorld (eventMarked e w)) ≡ linesFrom i (e ∷ es) w
-  lines-next d = passes _ _ _ _ _ d refl
+  -- an event's calls, and its line
+  pub event-walked : (m : Marked) (l : Lent) (line : Line) (r : ℕ) (left : List ℕ) → after m l ≡ eventMarked e w → line ≡ eventLine i m (l .memory .store)
+      → after r left ≡ appended (lineText line) at out → walk (world (m .session) l) (after r left) ≡ eventWalked i e w at out
+  unfolding eventWalked
+  event-walked m l line r left o x put =
+      let made : world (m .session) l ≡ madeOn (eventCalls e w) w = ap (λ (z : After Marked Lent). world (z .result .session) (z .lent)) o ∙ marked-made e w in
+      rw (← made, ← o, ← x) (ap (walk (world (m .session) l)) put)
 
-module _ (i : ℕ) (e : PaperEvent) (w : World) (at : ℕ) (out : List ℕ) (line : Line) (r : ℕ) (next : List ℕ) (room : at + 65 ≤ length out)
-    (put : after r next ≡ appended (lineText line) at out) where
-  -- after an event's line come those of the rest
-  pub text-next : (m : Marked) (l : Lent) → isDamaged e ≡ false → after m l ≡ eventMarked e w → line ≡ eventLine i m (l .memory .store)
-      → (es : List PaperEvent) → textFrom (suc i) es (world (m .session) l) r next ≡ textFrom i (e ∷ es) w at out
-  text-next m l d o x es =
-      let rest : List ℕ = linesText (linesFrom (suc i) es (world (m .session) l)) in
-      let start : r ≡ at + length (lineText line) = ap (λ (o : After ℕ (List ℕ)). o .result) put in
-      let text : next ≡ splice at (lineText line) out = ap (λ (o : After ℕ (List ℕ)). o .lent) put in
-      let whole : lineText line ++ rest ≡ linesText (linesFrom i (e ∷ es) w) = rw (← lines-next i e es w d, ← o, ← x) in
-      rw (start, text, ← whole) (appended-again at out (lineText line) rest (omega (arith, line-text-length line)))
+  module _ (v : World) (r : ℕ) (left : List ℕ) (done : walk v (after r left) ≡ eventWalked i e w at out) where
+    walked-at : v ≡ madeOn (eventCalls e w) w
+    unfolding eventWalked
+    walked-at = ap (λ (x : Walk). x .at) done
 
--- the line that was put is the one that was wanted
-pub wanted-put : (line wanted : Line) (at : ℕ) (out : List ℕ) (x : After ℕ (List ℕ)) → line ≡ wanted → x ≡ appended (lineText line) at out → x ≡ appended (lineText wanted) at out
-wanted-put line wanted at out x e put = rw (← e) put
+    walked-text : after r left ≡ appended (lineText wantedLine) at out
+    unfolding eventWalked
+    walked-text = ap (λ (x : Walk). x .text) done
+
+    -- the text stays within the room of the events so far
+    pub few-next : at ≤ i * lineRoom → r ≤ (i + 1) * lineRoom
+    few-next few = omega (arith, appended-end r at left (lineText wantedLine) out walked-text, line-text-length wantedLine)
+
+    -- a damaged event's line is the last
+    text-last : isDamaged e ≡ true → (es : List PaperEvent) → after r left ≡ textFrom i (e ∷ es) w at out
+    text-last d es = rw (d, append-nil (lineText wantedLine)) walked-text
+
+    -- after any other come those of the rest
+    text-next : isDamaged e ≡ false → at + lineRoom ≤ length out → (es : List PaperEvent) → textFrom (suc i) es v r left ≡ textFrom i (e ∷ es) w at out
+    text-next d room es =
+        let rest : List ℕ = linesText (linesFrom (suc i) es v) in
+        let start : r ≡ at + length (lineText wantedLine) = ap (λ (o : After ℕ (List ℕ)). o .result) walked-text in
+        let text : left ≡ splice at (lineText wantedLine) out = ap (λ (o : After ℕ (List ℕ)). o .lent) walked-text in
+        rw (start, text, d, ← walked-at) (appended-again at out (lineText wantedLine) rest (omega (arith, line-text-length wantedLine)))
 
 -- a walk at event i of a paper: x is what is put in all
 module _ (paper : List ℕ) (i : ℕ) (w : World) (at : ℕ) (out : List ℕ) (x : After ℕ (List ℕ)) (whole : textFrom i (drop i (eventsOf paper)) w at out ≡ x) where
@@ -79,20 +85,18 @@ module _ (paper : List ℕ) (i : ℕ) (w : World) (at : ℕ) (out : List ℕ) (x
   pub walk-done : eventCount paper ≤ i → after at out ≡ x
   walk-done h = sym (appended-none at out) ∙ rw (events-end paper i h) at whole
 
-  module _ (o : OptionEvent) (e : PaperEvent) (read : o ≡ eventAt paper i) (some : o ≡ OptionEvent.Some e) where
+  module _ (o : OptionEvent) (e : PaperEvent) (read : o ≡ eventAt paper i) (some : o ≡ OptionEvent.Some e)
+      (v : World) (r : ℕ) (left : List ℕ) (done : walk v (after r left) ≡ eventWalked i e w at out) (b : Bool) (test : b ≡ isDamaged e) where
     next-event : drop i (eventsOf paper) ≡ e ∷ drop (suc i) (eventsOf paper)
     next-event = event-some paper i e (sym read ∙ some) .1
 
-    -- a damaged event's line is the last
-    pub walk-last : (r : ℕ) (next : List ℕ) → isDamaged e ≡ true
-        → after r next ≡ appended (lineText (damagedLine i (w .session) (worldStore w))) at out → after r next ≡ x
-    walk-last r next d put =
-        put ∙ rw (next-event, ← lines-last i e (drop (suc i) (eventsOf paper)) w d, append-nil (lineText (damagedLine i (w .session) (worldStore w)))) at whole
+    -- a damaged event ends it
+    pub walk-last : b ≡ true → after r left ≡ x
+    walk-last t = text-last i e w at out v r left done (sym test ∙ t) (drop (suc i) (eventsOf paper)) ∙ rw next-event at whole
 
-    -- an event's line, and the rest
-    pub walk-on : (v : World) (r : ℕ) (next : List ℕ) → ((es : List PaperEvent) → textFrom (suc i) es v r next ≡ textFrom i (e ∷ es) w at out)
-        → textFrom (i + 1) (drop (i + 1) (eventsOf paper)) v r next ≡ x
-    walk-on v r next on = rw add-one (on (drop (suc i) (eventsOf paper)) ∙ rw next-event at whole)
+    -- and after any other it goes on
+    pub walk-on : b ≡ false → at + lineRoom ≤ length out → textFrom (i + 1) (drop (i + 1) (eventsOf paper)) v r left ≡ x
+    walk-on t room = rw add-one (text-next i e w at out v r left done (sym test ∙ t) room (drop (suc i) (eventsOf paper)) ∙ rw next-event at whole)
 
 -- the whole paper, from where its session starts
 pub from-start : (paper : List ℕ) (w v : World) (out : List ℕ) (x : After ℕ (List ℕ)) → w ≡ v → x ≡ textFrom 0 (eventsOf paper) w 0 out → x ≡ textFrom 0 (eventsOf paper) v 0 out
@@ -108,7 +112,7 @@ text-counts text l v r e =
 
 module _ (paper out : List ℕ) (b : Bool) (x : After ℕ (List ℕ)) (test : b ≡ isRefusedSize (length paper)) where
   -- 56 alone
-  pub key-refused : b ≡ true → x ≡ appended (decimal 56 ++ (newline ∷ [])) 0 out → x ≡ appended (keyText paper) 0 out
+  pub key-refused : b ≡ true → x ≡ appended refusedText 0 out → x ≡ appended (keyText paper) 0 out
   unfolding keyText
   key-refused t put = put ∙ ap (λ (l : List ℕ). appended l 0 out) (takes _ _ _ _ _ (sym test ∙ t) refl)
 

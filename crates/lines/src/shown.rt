@@ -1,5 +1,5 @@
 // What a line shows after an event: the state's letter and the held count.
-use line_text::Line;
+use crate::Line;
 use marking::Marked;
 use models::RequestState;
 use reports::HeldAnswer;
@@ -9,7 +9,7 @@ use reports::status;
 use session::Session;
 ghost use mathlib.Core.Path.{_≡_};
 ghost use Rattle.session.specs.Lent.{storeIn};
-ghost use Rattle.lines.specs.Lines.{stateLetter, letterBy, letterOf, heldNumber, heldIn, damagedLine, eventLine};
+ghost use Rattle.lines.specs.Lines.{stateLetter, letterBy, letterOf, heldNumber, heldIn, eventLine};
 
 fn state_letter(s: RequestState) -> u8
     ensures { λ r. ⌜ r ≡ stateLetter s ⌝ }
@@ -67,17 +67,6 @@ fn held_in(session: Session, rows: &[u64]) -> u8
     ensures { λ r. ⌜ r ≡ heldIn session (storeIn rows) ⌝ }
 {
     held_number(status::held_count(session, rows))
-}
-
-pub(crate) fn damaged_line(index: u64, session: Session, rows: &[u64]) -> Line
-    ensures { λ r. ⌜ r ≡ damagedLine index session (storeIn rows) ⌝ }
-{
-    Line {
-        index,
-        refusal: 57,
-        letter: b'-',
-        held: held_in(session, rows),
-    }
 }
 
 pub(crate) fn event_line(index: u64, marked: Marked, rows: &[u64]) -> Line

@@ -30,11 +30,12 @@ use Rattle.recovery.specs.declared.{RecoveryReply.RecoveryReply}
 use Rattle.recovery.specs.declared.RecoveryReply.the-variants.{Done}
 use Rattle.calls.specs.Calls.{Call, Begin, Submit, Poll, Recover, Reply, ToSubmit, ToPoll, ToRecovery, Change, Cancel, Timeout, Reclaim}
 use Rattle.calls.specs.Said.{answerSaid}
-use Rattle.calls.specs.Step.{World, world, worldStore, stepOf}
+use Rattle.calls.specs.Step.{World, world, worldStore, stepOf, madeAfter}
 use Rattle.calls.specs.Answers.{begunId}
 use Rattle.calls.specs.declared.{Answer.Answer, Outcome.Outcome}
+use Rattle.paper.specs.Form.{isDamaged}
 use Rattle.paper.specs.declared.{PaperEvent.PaperEvent}
-use Rattle.paper_session.specs.Start.{slotDevice, paperReading, handedOn}
+use Rattle.paper_session.specs.Start.{slotDevice, paperReading}
 use Rattle.marking.specs.declared.{Marked.Marked}
 
 -- ---- the first call
@@ -117,10 +118,11 @@ replyCalls (Answer.Bytes p) e rows = []
 replyCalls (Answer.Recovering x) e rows = Reply (ToRecovery readyReply (replyLists [] [] (affectedTokens x rows) [])) ∷ []
 replyCalls (Answer.Recovered x) e rows = []
 
--- calls after an outcome
-abbrev pub madeAfter : List Call → After Outcome Lent → After Outcome Lent
-madeAfter [] o = o
-madeAfter (c ∷ cs) o = madeAfter cs (stepOf c (handedOn o))
+-- an event's calls: the first, and the reply to what it opened; none of a damaged event
+unfoldable pub eventCalls : PaperEvent → World → List Call
+eventCalls e w =
+    [] if isDamaged e else
+    eventCall e ∷ replyCalls (stepOf (eventCall e) w .result .answer) e (worldStore w .rows)
 
 -- ---- what the line shows
 
@@ -139,14 +141,18 @@ markedAs id o = after (leaves (answerSaid (o .result .answer) .number) id (o .re
 unfoldable pub markedBy : After Outcome Lent → PaperEvent → List Row → After Marked Lent
 markedBy o e rows = markedAs (shownId (o .result .answer) e) (madeAfter (replyCalls (o .result .answer) e rows) o)
 
-unfoldable pub eventMarked : PaperEvent → World → After Marked Lent
-eventMarked e w = markedBy (stepOf (eventCall e) w) e (worldStore w .rows)
+unfoldable pub callsMarked : PaperEvent → World → After Marked Lent
+callsMarked e w = markedBy (stepOf (eventCall e) w) e (worldStore w .rows)
 
--- ---- of lent slices: marked as the event, whatever the bus, and whatever the bus and the area
+-- 57: a damaged event changes nothing and shows no id
+unfoldable pub eventMarked : PaperEvent → World → After Marked Lent
+eventMarked e w = after (leaves 57 OptionId.None (w .session)) (w .lent) if isDamaged e else callsMarked e w
+
+-- ---- of lent slices: marked as the event's calls, whatever the bus, and whatever the bus and the area
 
 abbrev pub MarksMemory : Marked → PaperEvent → Session → Slice → Slice → Type 0
-MarksMemory r e s rows area = (b : Bus) → after r (lent b (memoryOut rows area)) ≡ eventMarked e (world s (lent b (memoryIn rows area)))
+MarksMemory r e s rows area = (b : Bus) → after r (lent b (memoryOut rows area)) ≡ callsMarked e (world s (lent b (memoryIn rows area)))
 
 abbrev pub MarksRows : Marked → PaperEvent → Session → Slice → Type 0
 MarksRows r e s rows =
-    (b : Bus) (area : List ℕ) → after r (lent b (memory (storeOut rows) area)) ≡ eventMarked e (world s (lent b (memory (storeIn rows) area)))
+    (b : Bus) (area : List ℕ) → after r (lent b (memory (storeOut rows) area)) ≡ callsMarked e (world s (lent b (memory (storeIn rows) area)))

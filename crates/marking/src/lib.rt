@@ -1,16 +1,17 @@
 // The calls of an event, made one by one, each with the backend's reply that the event brings.
-use models::RequestId;
+use calls::Answer;
+use calls::Outcome;
+use calls::answers;
 use paper::PaperEvent;
+use paper::form;
 use polls::PollAnswer;
 use polls::poll;
 use polls::poll_reply;
 use recovery::BeginAnswer;
-use recovery::Recovered;
-use recovery::RecoveryAnswer;
+use recovery::Replied;
 use recovery::recover;
 use recovery::recovery_reply;
 use reports::OptionId;
-use reports::ReportAnswer;
 use reports::Reported;
 use reports::change;
 use session::Session;
@@ -26,16 +27,14 @@ ghost use mathlib.Core.List.{[]};
 ghost use lib.ListN.{take};
 ghost use Rattle.chain.specs.After.{after};
 ghost use Rattle.session.specs.Lent.{memoryIn, memoryOut, lentIn, lentOut};
-ghost use Rattle.reports.specs.Said.{reportSaid};
-ghost use Rattle.reports.specs.declared.OptionId.the-variants.{Some};
 ghost use Rattle.submissions.specs.Submit.{submitOf};
 ghost use Rattle.polls.specs.PollReply.{pollReplyOf};
 ghost use Rattle.recovery.specs.RecoveryReply.{replyLists, recoveryReplyOf};
-ghost use Rattle.recovery.specs.Said.{recoverySaid};
+ghost use Rattle.calls.specs.Said.{answerSaid};
 ghost use Rattle.calls.specs.Step.{world};
-ghost use Rattle.marking.specs.Marking.{eventRequest, eventReply, eventBytes, readyReply, leaves, eventMarked, MarksMemory, MarksRows};
+ghost use Rattle.marking.specs.Marking.{eventRequest, eventReply, eventBytes, readyReply, leaves, callsMarked, eventMarked, MarksMemory, MarksRows};
 
-mod said;
+mod said; // said.rt: what an event's fields say
 
 // What an event's calls leave: the refusal's number or 0, the id whose state is shown, and the session.
 pub struct Marked {
@@ -44,44 +43,34 @@ pub struct Marked {
     pub session: Session,
 }
 
-fn report_number(a: ReportAnswer) -> u16
-    ensures { λ r. ⌜ r ≡ reportSaid a .number ⌝ }
+// The number of a refusal; 0 of any other answer.
+fn refusal_number(a: Answer) -> u16
+    ensures { λ r. ⌜ r ≡ answerSaid a .number ⌝ }
 {
     match a {
-        ReportAnswer::Refused(refusal) => refusal.number,
-        ReportAnswer::Report(_) => 0,
+        Answer::Refused(refusal) => refusal.number,
+        Answer::Pass => 0,
+        Answer::Begun(_) => 0,
+        Answer::PlanBegun(_) => 0,
+        Answer::Report(_) => 0,
+        Answer::NoReport => 0,
+        Answer::Asked(_) => 0,
+        Answer::Number(_) => 0,
+        Answer::Bytes(_) => 0,
+        Answer::Recovering(_) => 0,
+        Answer::Recovered(_) => 0,
     }
 }
 
-fn recovery_number(a: RecoveryAnswer) -> u16
-    ensures { λ r. ⌜ r ≡ recoverySaid a .number ⌝ }
+// What the last of an event's calls leaves.
+fn marked_as(last: Outcome, id: OptionId) -> Marked
+    ensures { λ r. ⌜ r ≡ leaves (answerSaid (last .answer) .number) id (last .session) ⌝ }
 {
-    match a {
-        RecoveryAnswer::Refused(refusal) => refusal.number,
-        RecoveryAnswer::Report(_) => 0,
-    }
-}
-
-fn reported(done: Reported, id: RequestId) -> Marked
-    ensures { λ r. ⌜ r ≡ leaves (reportSaid (done .answer) .number) (Some id) (done .session) ⌝ }
-{
-    let answer = done.answer;
-    let session = done.session;
+    let answer = last.answer;
+    let session = last.session;
     Marked {
-        refusal: report_number(answer),
-        id: OptionId::Some(id),
-        session,
-    }
-}
-
-fn recovered(done: Recovered, id: RequestId) -> Marked
-    ensures { λ r. ⌜ r ≡ leaves (recoverySaid (done .answer) .number) (Some id) (done .session) ⌝ }
-{
-    let answer = done.answer;
-    let session = done.session;
-    Marked {
-        refusal: recovery_number(answer),
-        id: OptionId::Some(id),
+        refusal: refusal_number(answer),
+        id,
         session,
     }
 }
@@ -111,7 +100,7 @@ fn submit_event(
     e: PaperEvent,
 ) -> Marked
     requires { ⌜ e .kind ≡ 0 ⌝ }
-    ensures { λ r. ⌜ after r (lentOut bus rows area) ≡ eventMarked e (world session (lentIn bus rows area)) ⌝ }
+    ensures { λ r. ⌜ after r (lentOut bus rows area) ≡ callsMarked e (world session (lentIn bus rows area)) ⌝ }
 {
     let done = begin_submission(session, bus, rows, area, e);
     let answer = done.answer;
@@ -125,7 +114,8 @@ fn submit_event(
         SubmitAnswer::Begun(x) => {
             let id = x.id;
             let reply = SubmitReply::Token(id.sequence);
-            reported(submit_reply::submit_reply(next, rows, reply), id)
+            let last = answers::of_reported(submit_reply::submit_reply(next, rows, reply));
+            marked_as(last, OptionId::Some(id))
         }
     }
 }
@@ -159,7 +149,10 @@ fn poll_event(session: Session, rows: &mut [u64], area: &mut [u8], e: PaperEvent
             id: OptionId::Some(id),
             session: next,
         },
-        PollAnswer::Asked(_) => reported(reply_to_poll(next, rows, area, e), id),
+        PollAnswer::Asked(_) => {
+            let last = answers::of_reported(reply_to_poll(next, rows, area, e));
+            marked_as(last, OptionId::Some(id))
+        }
     }
 }
 
@@ -170,12 +163,15 @@ fn change_event(session: Session, rows: &mut [u64], e: PaperEvent) -> Marked
 {
     let id = said::id_of(e);
     if e.kind == 2 {
-        return reported(change::logical_cancel_request(session, rows, id), id);
+        let last = answers::of_reported(change::logical_cancel_request(session, rows, id));
+        return marked_as(last, OptionId::Some(id));
     }
     if e.kind == 3 {
-        return reported(change::timeout_request(session, rows, id), id);
+        let last = answers::of_reported(change::timeout_request(session, rows, id));
+        return marked_as(last, OptionId::Some(id));
     }
-    reported(change::reclaim_request(session, rows, id), id)
+    let last = answers::of_reported(change::reclaim_request(session, rows, id));
+    marked_as(last, OptionId::Some(id))
 }
 
 // The reply to an abort that began: every affected token aborted, ready.
@@ -185,14 +181,14 @@ fn reply_to_abort(
     area: &mut [u8],
     tokens: [u64; 128],
     count: u64,
-) -> Recovered
+) -> Replied
     ensures { λ r. ⌜ after r (memoryOut rows area) ≡ recoveryReplyOf readyReply
         (replyLists [] [] (take count tokens) []) session (memoryIn rows area) ⌝ }
 {
     let none: [u64; 0] = [];
     let n = slices::least(count as usize, 128);
     let reply = said::ready_reply();
-    recovery_reply::recovery_reply(session, rows, area, reply, &none, &none, &tokens[..n], b"")
+    recovery_reply::reply_by_places(session, rows, area, reply, &none, &none, &tokens[..n], b"")
 }
 
 fn abort_event(session: Session, rows: &mut [u64], area: &mut [u8], e: PaperEvent) -> Marked
@@ -210,22 +206,22 @@ fn abort_event(session: Session, rows: &mut [u64], area: &mut [u8], e: PaperEven
             id: OptionId::Some(id),
             session: next,
         },
-        BeginAnswer::Recover(_) => recovered(
-            reply_to_abort(next, rows, area, tokens, begun.count),
-            id,
-        ),
+        BeginAnswer::Recover(_) => {
+            let replied = reply_to_abort(next, rows, area, tokens, begun.count);
+            marked_as(answers::of_replied(replied), OptionId::Some(id))
+        }
     }
 }
 
 // The calls of an event that is not damaged.
-pub fn mark(
+fn mark_calls(
     session: Session,
     bus: &mut [u64],
     rows: &mut [u64],
     area: &mut [u8],
     e: PaperEvent,
 ) -> Marked
-    ensures { λ r. ⌜ after r (lentOut bus rows area) ≡ eventMarked e (world session (lentIn bus rows area)) ⌝ }
+    ensures { λ r. ⌜ after r (lentOut bus rows area) ≡ callsMarked e (world session (lentIn bus rows area)) ⌝ }
 {
     if e.kind == 0 {
         return submit_event(session, bus, rows, area, e);
@@ -237,4 +233,24 @@ pub fn mark(
         return abort_event(session, rows, area, e);
     }
     change_event(session, rows, e)
+}
+
+// Refuses a damaged event by 57, which makes no call.
+pub fn mark(
+    session: Session,
+    bus: &mut [u64],
+    rows: &mut [u64],
+    area: &mut [u8],
+    e: PaperEvent,
+) -> Marked
+    ensures { λ r. ⌜ after r (lentOut bus rows area) ≡ eventMarked e (world session (lentIn bus rows area)) ⌝ }
+{
+    if form::is_damaged(e) {
+        return Marked {
+            refusal: 57,
+            id: OptionId::None,
+            session,
+        };
+    }
+    mark_calls(session, bus, rows, area, e)
 }

@@ -1,4 +1,4 @@
--- An enum of no data is what its word says. Assumes nothing.
+-- A fieldless enum is what its code decodes to. Assumes nothing.
 use mathlib.Core.Path.{_≡_, refl}
 use Rattle.models.specs.Codes.{readCategory, categoryWord, readTransfer, transferWord, readDirection, directionWord, readProfile, profileWord, readDeviceState, deviceStateWord}
 use Rattle.models.specs.declared.{ControlProfile.ControlProfile, DeviceState.DeviceState, Direction.Direction, ErrorCategory.ErrorCategory, TransferType.TransferType}

@@ -58,7 +58,7 @@ pub tabled-in : (ms ns : List ℕ) → allIn ns ms ≡ true → (x : Said) → T
 unfolding Tabled
 tabled-in ms ns a x h = within ms ns a (x .isRefused) (x .number) (isTableError (x .number) (x .values)) h
 
--- what a definition says is what equals it says
+-- what holds of a definition holds of what equals it
 pub said-of : {A : Type 0} (P : A → Type 0) (x y : A) → x ≡ y → P y → (x ≡ y) × P x
 said-of P x y e h = (e, subst P (sym e) h)
 

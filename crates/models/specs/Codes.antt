@@ -1,4 +1,5 @@
--- The enums of no data as words, in the order of their declaration; a word past the last one says the last. Assumes nothing.
+-- Codes of the fieldless enums, in the order of their declaration. Decoding is total: a code out of range decodes to the last variant.
+-- Assumes nothing.
 use Prim.Native.Nat.{ℕ}
 use mathlib.Core.List.{List, [], _∷_}
 use lib.ListN.{getD}

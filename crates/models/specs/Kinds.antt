@@ -1,4 +1,4 @@
--- Tests on the enums of no data. Assumes nothing.
+-- Tests on the fieldless enums. Assumes nothing.
 use mathlib.Core.Bool.{Bool, true, false}
 use Rattle.models.specs.declared.{DeviceState.DeviceState, Direction.Direction, TransferType.TransferType}
 

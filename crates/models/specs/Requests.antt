@@ -1,9 +1,14 @@
--- The tests on a request's state, and on ids. Assumes nothing.
+-- How many requests may be held, the tests on a request's state, and ids. Assumes nothing.
+use Prim.Native.Nat.{ℕ}
 use mathlib.Core.Bool.{Bool, true, false, not, _&&_}
 use lib.Dec.{eqb, ltb}
 use Rattle.chain.specs.Chain.{_if_else_}
 use Rattle.models.specs.declared.{DeviceId.DeviceId, RequestId.RequestId, RequestState.RequestState}
 use Rattle.models.specs.declared.RequestState.the-variants.{Pending, Completed, Failed, Aborted}
+
+-- so many requests are held at most, and a list of requests has so many places
+abbrev pub heldMost : ℕ
+heldMost = 128
 
 -- document 01's "held": Pending, or Failed and not quiescent
 abbrev pub deviceMayAccess : RequestState → Bool
@@ -24,6 +29,10 @@ isUncertainFailure (Pending cancel late) = false
 isUncertainFailure (Completed actual code cancel) = false
 isUncertainFailure (Failed error code quiescent) = not quiescent
 isUncertainFailure Aborted = false
+
+-- the id of the places that a list of ids leaves
+abbrev pub noId : RequestId
+noId = record { session = 0; generation = 0; sequence = 0 }
 
 -- ids are the same where every field is
 abbrev pub sameRequest : RequestId → RequestId → Bool

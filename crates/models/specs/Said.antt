@@ -1,4 +1,4 @@
--- What an answer says, whatever its enum: its number in document 01's table and its values as words. Assumes nothing.
+-- An answer of any enum as its number in document 01's table and its values as words. Assumes nothing.
 use Prim.Native.Nat.{ℕ}
 use mathlib.Core.Bool.{Bool, true, false, not, _&&_, _||_}
 use mathlib.Core.List.{List, [], _∷_}

@@ -1,4 +1,4 @@
-// The enums of no data as words, in the order of their declaration. A word past the last one says the last.
+// Codes of the fieldless enums, in the order of their declaration. Decoding is total: a code out of range decodes to the last variant.
 use crate::ControlProfile;
 use crate::ControllerState;
 use crate::DeviceState;

@@ -1,4 +1,4 @@
-// Tests on the enums of no data.
+// Tests on the fieldless enums.
 use crate::DeviceState;
 use crate::Direction;
 use crate::TransferType;

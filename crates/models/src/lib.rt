@@ -4,11 +4,15 @@ use words::OptionI32;
 use words::OptionU32;
 use words::OptionU64;
 ghost use mathlib.Core.Path.{_≡_};
-ghost use Rattle.models.specs.Requests.{deviceMayAccess, isPending, sameRequest, sameDevice, requestBefore};
+ghost use Rattle.models.specs.Requests.{deviceMayAccess, isPending, noId, sameRequest, sameDevice, requestBefore};
 ghost use Rattle.models.specs.Refusals.{ownError, tableCategory, refusalOf, rejected, fromBackend, invalidCompletion};
 
-pub mod codes;
-pub mod kinds;
+pub mod codes; // codes.rt: the fieldless enums as words
+pub mod kinds; // kinds.rt: tests on the fieldless enums
+pub mod values; // values.rt: ids and errors, read from words
+
+// So many requests are held at most, and a list of requests has so many places.
+pub const HELD_MOST: usize = 128;
 
 pub enum ControllerState {
     Closed,
@@ -136,7 +140,7 @@ pub struct RequestMetadata {
     pub setup: OptionSetup,
 }
 
-// What a call says of a request. The Rust's `data` comes back as a part of the lent area, from a call of its own.
+// A call's report of a request. The Rust's `data` comes back as a part of the lent area, from a call of its own.
 pub struct RequestReport {
     pub id: RequestId,
     pub metadata: RequestMetadata,
@@ -269,6 +273,17 @@ pub fn is_pending(state: RequestState) -> bool
             quiescent: _,
         } => false,
         RequestState::Aborted => false,
+    }
+}
+
+// The id of the places that a list of ids leaves.
+pub fn no_id() -> RequestId
+    ensures { λ r. ⌜ r ≡ noId ⌝ }
+{
+    RequestId {
+        session: 0,
+        generation: 0,
+        sequence: 0,
     }
 }
 

@@ -1,7 +1,7 @@
 // A paper of the examination board: events of 64 bits, most significant bit first (document 02, M-100).
-pub mod events;
-pub mod form;
-pub mod reader;
+pub mod events; // events.rt: an event's word, and the events of a paper
+pub mod form; // form.rt: 56 and 57, and an event's flags
+pub mod reader; // reader.rt: a paper with a position in it
 
 // One event by its fields. Kinds: 0 submit, 1 poll with its reply, 2 cancel, 3 timeout, 4 reclaim, 5 abort.
 pub struct PaperEvent {

@@ -12,7 +12,7 @@ use Rattle.chain.specs.After.{After, after}
 use Rattle.chain.specs.Chain.{_if_else_}
 use Rattle.chain.proofs.Chain.{passes, both}
 use Rattle.words.proofs.Records.{splice-length, le-or-lt}
-use Rattle.models.specs.declared.{DeviceSnapshot.DeviceSnapshot, OptionDevice.OptionDevice, OptionError.OptionError, Verdict.Verdict}
+use Rattle.models.specs.declared.{DeviceSnapshot.DeviceSnapshot, OptionDevice.OptionDevice, Verdict.Verdict}
 use Rattle.rows.specs.Store.{storeOf, emptied}
 use Rattle.bus.specs.Endpoints.{setEndpoints}
 use Rattle.bus.specs.Ports.{numberChecked, setPortBy, setPort}
@@ -26,10 +26,10 @@ use Rattle.session.specs.Session.{isBusy}
 use Rattle.session.specs.Sizes.{rowsFit, areaFits, memorySizes, lentSizes}
 use Rattle.session.specs.Start.{guarded}
 use Rattle.session.specs.declared.{Session.Session, Size.Size, lifecycle.Opened.Opened}
-use Rattle.session.specs.declared.lifecycle.AcquireReply.the-variants.{Acquired}
-use Rattle.calls.specs.Calls.{Placing, Device, Port, Endpoints, Acquire, Initialize, Open, Place, Move}
-use Rattle.calls.specs.Step.{World, world, opens, places, placedOf, stepOf}
-use Rattle.paper_session.specs.Start.{paperSize, paperOpening, noSession, paperPort, slotSnapshot, bulkEndpoints, handedOn, readied, madeOn, openingCalls, slotCalls, placedTo, startOn, paperSession, slotsOn, portedBus, startedOn, Started, blankLent}
+use Rattle.calls.specs.Calls.{Placing, Device, Port, Endpoints, Open, Place}
+use Rattle.calls.specs.Step.{World, world, opens, places, placedOf, stepOf, next, madeOn, noSession}
+use Rattle.calls.proofs.Made.{made-append}
+use Rattle.paper_session.specs.Start.{paperSize, paperOpening, paperPort, slotSnapshot, bulkEndpoints, readied, readyCalls, openingCalls, slotCalls, slotsCalls, startOn, paperWords, paperBytes, paperSession, slotsOn, portedBus, startedOn, Started, blankLent}
 use Rattle.paper_session.proofs.Laws.{ready-to}
 
 -- a placing call where nothing is in flight and the bus has its size
@@ -38,19 +38,19 @@ unfolding placed guarded
 placed-on done s b free sized =
     sym (passes (After Verdict Bus) _ _ _ done free (passes (After Verdict Bus) _ _ _ done (ap not (eq-eqb (length (b .words)) busWords sized)) refl))
 
--- hands on the bus that it leaves
-handed : (p : Placing) (w : World) (next : Bus) → placedOf p w ≡ after Verdict.Pass next
-    → handedOn (stepOf (Place p) w) ≡ world (w .session) (lent next (w .lent .memory))
+-- leaves the session and the memory as they are
+handed : (p : Placing) (w : World) (left : Bus) → placedOf p w ≡ after Verdict.Pass left
+    → next (stepOf (Place p) w) ≡ world (w .session) (lent left (w .lent .memory))
 unfolding stepOf
-handed p w next h = ap (λ (z : After Verdict Bus). handedOn (places z w)) h
+handed p w left h = ap (λ (z : After Verdict Bus). next (places z w)) h
 
 module _ (s : Session) (b : Bus) (m : Memory) (free : isBusy (s .«in_flight») ≡ false) (sized : length (b .words) ≡ busWords) where
-  device-on : (d : DeviceSnapshot) → handedOn (stepOf (Place (Device d)) (world s (lent b m))) ≡ world s (lent (putDevice b d) m)
+  device-on : (d : DeviceSnapshot) → next (stepOf (Place (Device d)) (world s (lent b m))) ≡ world s (lent (putDevice b d) m)
   unfolding placedOf setDeviceOf
   device-on d = handed (Device d) (world s (lent b m)) (putDevice b d) (placed-on _ s b free sized)
 
   -- a list of bulk endpoints is not too long
-  bulk-on : (slot : ℕ) → handedOn (stepOf (Place (Endpoints slot bulkEndpoints)) (world s (lent b m))) ≡ world s (lent (putEndpoints b slot bulkEndpoints) m)
+  bulk-on : (slot : ℕ) → next (stepOf (Place (Endpoints slot bulkEndpoints)) (world s (lent b m))) ≡ world s (lent (putEndpoints b slot bulkEndpoints) m)
   unfolding placedOf setEndpointsOf setEndpoints
   bulk-on slot =
       handed (Endpoints slot bulkEndpoints) (world s (lent b m)) (putEndpoints b slot bulkEndpoints)
@@ -73,14 +73,15 @@ slots-sized (suc n) b h sized =
 
 -- the calls of the first n slots leave the devices and the endpoints there
 slots-on : (n : ℕ) (s : Session) (b : Bus) (m : Memory) → isBusy (s .«in_flight») ≡ false → n ≤ 256 → length (b .words) ≡ busWords
-    → placedTo n (world s (lent b m)) ≡ world s (lent (slotsOn n b) m)
-unfolding placedTo slotsOn
+    → madeOn (slotsCalls n) (world s (lent b m)) ≡ world s (lent (slotsOn n b) m)
+unfolding slotsCalls slotsOn
 slots-on zero s b m free h sized = refl
 slots-on (suc n) s b m free h sized =
     let c : Bus = slotsOn n b in
     let k : length (c .words) ≡ busWords = slots-sized n b (omega arith) sized in
-    ap (madeOn (slotCalls n)) (slots-on n s b m free (omega arith) sized)
-    ∙ ap (λ (w : World). handedOn (stepOf (Place (Endpoints n bulkEndpoints)) w)) (device-on s c m free k (slotSnapshot n))
+    made-append (slotsCalls n) (slotCalls n) (world s (lent b m))
+    ∙ ap (madeOn (slotCalls n)) (slots-on n s b m free (omega arith) sized)
+    ∙ ap (λ (w : World). next (stepOf (Place (Endpoints n bulkEndpoints)) w)) (device-on s c m free k (slotSnapshot n))
     ∙ bulk-on s (putDevice c (slotSnapshot n)) m free (device-sized c (slotSnapshot n) h k) n
 
 cleared-sized : length (cleared .words) ≡ busWords
@@ -89,16 +90,16 @@ cleared-sized = length-append (newPorts 255) (replicate 10240 0) ∙ ap (λ (n :
 
 -- opened where the sizes are right, then acquired and Initialized, then with port 1
 opened-on : (l : Lent) → lentFits paperSize l ≡ true
-    → handedOn (stepOf (Open paperOpening) (world noSession l))
+    → next (stepOf (Open paperOpening) (world noSession l))
     ≡ world (newSession paperOpening) (lent cleared (memory (emptied (l .memory .store)) (l .memory .area)))
 unfolding stepOf openOf
-opened-on l fits = ap (λ (z : After Opened Lent). handedOn (opens z (world noSession l))) (sym (passes (After Opened Lent) _ _ _ _ (ap not fits) refl))
+opened-on l fits = ap (λ (z : After Opened Lent). next (opens z (world noSession l))) (sym (passes (After Opened Lent) _ _ _ _ (ap not fits) refl))
 
 readied-on : readied (newSession paperOpening) ≡ paperSession
 unfolding readied acquireOf acquiredBy initializeOf initializedBy _if_else_
 readied-on = refl
 
-port-on : (m : Memory) → handedOn (stepOf (Place (Port 1 paperPort)) (world paperSession (lent cleared m))) ≡ world paperSession (lent portedBus m)
+port-on : (m : Memory) → next (stepOf (Place (Port 1 paperPort)) (world paperSession (lent cleared m))) ≡ world paperSession (lent portedBus m)
 unfolding placedOf setPortOf setPort setPortBy numberChecked _if_else_ portedBus
 port-on m = handed (Port 1 paperPort) (world paperSession (lent cleared m)) portedBus (placed-on _ paperSession cleared refl cleared-sized)
 
@@ -106,8 +107,8 @@ opening-on : (l : Lent) → lentFits paperSize l ≡ true
     → madeOn openingCalls (world noSession l) ≡ world paperSession (lent portedBus (memory (emptied (l .memory .store)) (l .memory .area)))
 opening-on l fits =
     let m : Memory = memory (emptied (l .memory .store)) (l .memory .area) in
-    ap (madeOn (Move (Acquire Acquired) ∷ Move (Initialize OptionError.None) ∷ Place (Port 1 paperPort) ∷ [])) (opened-on l fits)
-    ∙ ap (λ (w : World). handedOn (stepOf (Place (Port 1 paperPort)) w))
+    ap (madeOn readyCalls) (opened-on l fits)
+    ∙ ap (λ (w : World). next (stepOf (Place (Port 1 paperPort)) w))
     (sym (ready-to (newSession paperOpening) (lent cleared m)) ∙ ap (λ (z : Session). world z (lent cleared m)) readied-on)
     ∙ port-on m
 
@@ -120,7 +121,10 @@ ported-sized =
 -- the start is the session Initialized, the bus at opening with port 1 and every slot, every row free, and the area as it was
 pub start-is : (l : Lent) → lentFits paperSize l ≡ true → startOn l ≡ startedOn l
 unfolding startOn startedOn
-start-is l fits = ap (placedTo 256) (opening-on l fits) ∙ slots-on 256 paperSession portedBus _ refl (omega arith) ported-sized
+start-is l fits =
+    made-append openingCalls (slotsCalls 256) (world noSession l)
+    ∙ ap (madeOn (slotsCalls 256)) (opening-on l fits)
+    ∙ slots-on 256 paperSession portedBus _ refl (omega arith) ported-sized
 
 -- ---- what stands at each slot
 
@@ -207,8 +211,8 @@ start-placed l fits =
       area = refl;
     })
 
--- 64 rows of 26 words and 256 bytes, and a bus
-fits-by : (words area bus : ℕ) → words ≡ 1664 → area ≡ 16384 → bus ≡ 10750 → lentSizes paperSize words area bus ≡ true
+-- 64 rows of 256 bytes, and a bus
+fits-by : (words area bus : ℕ) → words ≡ paperWords → area ≡ paperBytes → bus ≡ busWords → lentSizes paperSize words area bus ≡ true
 unfolding rowsFit areaFits
 fits-by words area bus ew ea eb = rw (ew, ea, eb)
 
@@ -216,4 +220,4 @@ fits-by words area bus ew ea eb = rw (ew, ea, eb)
 pub blank-fits : lentFits paperSize blankLent ≡ true
 unfolding busOf storeOf
 blank-fits =
-    fits-by _ _ _ (length-replicate {0} {A = ℕ} 1664 0) (length-replicate {0} {A = ℕ} 16384 0) (length-replicate {0} {A = ℕ} 10750 0)
+    fits-by _ _ _ (length-replicate {0} {A = ℕ} paperWords 0) (length-replicate {0} {A = ℕ} paperBytes 0) (length-replicate {0} {A = ℕ} busWords 0)

@@ -1,16 +1,16 @@
 -- The session that a paper's events are put to (document 02, M-100). Assumes nothing.
-use Prim.Native.Nat.{ℕ, zero, suc, _+_, _<_}
+use Prim.Native.Nat.{ℕ, zero, suc, _+_, _*_, _<_}
 use mathlib.Core.Bool.{true, false}
 use mathlib.Core.Path.{_≡_}
-use mathlib.Core.List.{List, [], _∷_}
+use mathlib.Core.List.{List, [], _∷_, _++_}
 use lib.ListN.{replicate}
-use Rattle.chain.specs.After.{After}
 use Rattle.words.specs.Records.{tab}
 use Rattle.words.specs.declared.{OptionU32.OptionU32, OptionU64.OptionU64}
-use Rattle.models.specs.declared.ControllerState.the-variants.{Closed, Initialized}
+use Rattle.models.specs.declared.ControllerState.the-variants.{Initialized}
 use Rattle.models.specs.declared.{DeviceId.DeviceId, DeviceSnapshot.DeviceSnapshot, OptionDevice.OptionDevice, OptionError.OptionError, OptionPorts.OptionPorts}
 use Rattle.models.specs.declared.DeviceState.the-variants.{Configured}
 use Rattle.models.specs.declared.TransferType.the-variants.{Bulk}
+use Rattle.rows.specs.Table.{rowWords}
 use Rattle.rows.specs.Store.{storeOf, emptied}
 use Rattle.bus.specs.Layout.{busWords, endpointWord}
 use Rattle.bus.specs.Tables.{Bus, busOf, portAt, deviceAt, endpointsAt, markAt, putPort, putDevice, putEndpoints, cleared}
@@ -20,8 +20,7 @@ use Rattle.session.specs.Lifecycle.{acquireOf, initializeOf}
 use Rattle.session.specs.declared.{InFlight.InFlight, OptionStall.OptionStall, Session.Session, Size.Size, lifecycle.Opening.Opening}
 use Rattle.session.specs.declared.lifecycle.AcquireReply.the-variants.{Acquired}
 use Rattle.calls.specs.Calls.{Call, Open, Place, Device, Port, Endpoints, Move, Acquire, Initialize}
-use Rattle.calls.specs.Step.{World, world, stepOf}
-use Rattle.calls.specs.declared.{Outcome.Outcome}
+use Rattle.calls.specs.Step.{World, world, noSession, madeOn}
 
 -- the store is 64 rows of 256
 abbrev pub paperSize : Size
@@ -36,20 +35,6 @@ paperOpening = record {
   «has_ports» = true;
   «port_count» = 1;
   size = paperSize;
-}
-
--- what the opening is handed: no session yet
-abbrev pub noSession : Session
-noSession = record {
-  number = 0;
-  generation = 0;
-  «next_sequence» = 0;
-  ports = OptionPorts.None;
-  state = Closed;
-  «recovery_revision» = OptionU64.None;
-  «recoverable_stall» = OptionStall.None;
-  «in_flight» = InFlight.Nothing;
-  size = record { «row_count» = 0; «row_bytes» = 0 };
 }
 
 -- every reading is 403h: connected, enabled, speed 1
@@ -71,37 +56,41 @@ slotSnapshot slot = record { id = slotDevice slot; port = record { session = 1; 
 abbrev pub bulkEndpoints : List ℕ
 bulkEndpoints = tab (λ (k : ℕ). endpointWord (129 + k) Bulk) 15
 
--- what a call leaves is handed to the next
-abbrev pub handedOn : After Outcome Lent → World
-handedOn o = world (o .result .session) (o .lent)
-
--- calls, one after the other
-abbrev pub madeOn : List Call → World → World
-madeOn [] w = w
-madeOn (c ∷ cs) w = madeOn cs (handedOn (stepOf c w))
-
 -- what acquire and initialise leave of a session, where the backend reports no failure
 unfoldable pub readied : Session → Session
 readied s = initializeOf OptionError.None (acquireOf Acquired s .session) .session
 
+abbrev pub readyCalls : List Call
+readyCalls = Move (Acquire Acquired) ∷ Move (Initialize OptionError.None) ∷ Place (Port 1 paperPort) ∷ []
+
 abbrev pub openingCalls : List Call
-openingCalls = Open paperOpening ∷ Move (Acquire Acquired) ∷ Move (Initialize OptionError.None) ∷ Place (Port 1 paperPort) ∷ []
+openingCalls = Open paperOpening ∷ readyCalls
 
 abbrev pub slotCalls : ℕ → List Call
 slotCalls slot = Place (Device (slotSnapshot slot)) ∷ Place (Endpoints slot bulkEndpoints) ∷ []
 
 -- the first n slots
-unfoldable pub placedTo : ℕ → World → World
-placedTo zero w = w
-placedTo (suc slot) w = madeOn (slotCalls slot) (placedTo slot w)
+unfoldable pub slotsCalls : ℕ → List Call
+slotsCalls zero = []
+slotsCalls (suc slot) = slotsCalls slot ++ slotCalls slot
 
 -- every slot, 0 to 255
+abbrev pub startCalls : List Call
+startCalls = openingCalls ++ slotsCalls 256
+
 unfoldable pub startOn : Lent → World
-startOn l = placedTo 256 (madeOn openingCalls (world noSession l))
+startOn l = madeOn startCalls (world noSession l)
+
+-- how many words the rows have, and how many bytes the area
+abbrev pub paperWords : ℕ
+paperWords = paperSize .«row_count» * rowWords
+
+abbrev pub paperBytes : ℕ
+paperBytes = paperSize .«row_count» * paperSize .«row_bytes»
 
 -- what a paper's own store and bus are before the opening: zeros
 abbrev pub blankLent : Lent
-blankLent = lent (busOf (replicate busWords 0)) (memory (storeOf (replicate 1664 0)) (replicate 16384 0))
+blankLent = lent (busOf (replicate busWords 0)) (memory (storeOf (replicate paperWords 0)) (replicate paperBytes 0))
 
 -- ---- of a lent bus: placed, whatever the rows and the area
 
@@ -110,7 +99,7 @@ PlacesSlot slot s bus =
     (m : Memory) → world s (lent (busOut bus) m) ≡ madeOn (slotCalls slot) (world s (lent (busIn bus) m))
 
 abbrev pub PlacesSlots : Session → Slice → Type 0
-PlacesSlots s bus = (m : Memory) → world s (lent (busOut bus) m) ≡ placedTo 256 (world s (lent (busIn bus) m))
+PlacesSlots s bus = (m : Memory) → world s (lent (busOut bus) m) ≡ madeOn (slotsCalls 256) (world s (lent (busIn bus) m))
 
 -- ---- what the start is, without calls
 

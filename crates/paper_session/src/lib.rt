@@ -8,6 +8,7 @@ use models::DeviceState;
 use models::OptionError;
 use models::OptionPorts;
 use models::PortId;
+use rows::ROW_WORDS;
 use session::InFlight;
 use session::OptionStall;
 use session::Session;
@@ -21,8 +22,19 @@ use words::OptionU64;
 ghost use mathlib.Core.Path.{_≡_};
 ghost use Rattle.session.specs.Lent.{memory, lent, busOut, storeOut, lentIn};
 ghost use Rattle.calls.specs.Calls.{Open};
-ghost use Rattle.calls.specs.Step.{world, stepOf};
-ghost use Rattle.paper_session.specs.Start.{paperOpening, noSession, paperPort, slotSnapshot, handedOn, readied, openingCalls, madeOn, startOn, PlacesSlot, PlacesSlots};
+ghost use Rattle.calls.specs.Step.{world, stepOf, next, madeOn, noSession};
+ghost use Rattle.paper_session.specs.Start.{paperOpening, paperPort, slotSnapshot, readied, openingCalls, startOn, PlacesSlot, PlacesSlots};
+
+// The store: 64 rows of 256 bytes.
+const ROWS: usize = 64;
+
+const ROW_BYTES: usize = 256;
+
+// How many words its rows have.
+pub const STORE_WORDS: usize = ROWS * ROW_WORDS;
+
+// How many bytes its area has.
+pub const AREA_BYTES: usize = ROWS * ROW_BYTES;
 
 fn opening() -> Opening
     ensures { λ r. ⌜ r ≡ paperOpening ⌝ }
@@ -34,8 +46,8 @@ fn opening() -> Opening
         has_ports: true,
         port_count: 1,
         size: Size {
-            row_count: 64,
-            row_bytes: 256,
+            row_count: ROWS as u64,
+            row_bytes: ROW_BYTES as u64,
         },
     }
 }
@@ -124,7 +136,7 @@ fn place_slots(session: Session, bus: &mut [u64])
 
 fn opened(bus: &mut [u64], rows: &mut [u64], area: &[u8]) -> Session
     ensures { λ r. ⌜ world r (lent (busOut bus) (memory (storeOut rows) (now (area .entry))))
-        ≡ handedOn (stepOf (Open paperOpening) (world noSession (lentIn bus rows area))) ⌝ }
+        ≡ next (stepOf (Open paperOpening) (world noSession (lentIn bus rows area))) ⌝ }
 {
     let answer = lifecycle::open(opening(), rows, area, bus);
     let outcome = answers::of_opened(answer, no_session());

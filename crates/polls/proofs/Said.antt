@@ -1,4 +1,4 @@
--- What a poll and its reply refuse is of the table. Assumes nothing.
+-- Every number that a poll and its reply refuse by is in their lists. Assumes nothing.
 use Prim.Native.Nat.{ℕ}
 use mathlib.Core.Bool.{Bool, false}
 use mathlib.Core.List.{List, [], _∷_}
@@ -13,16 +13,18 @@ use Rattle.models.specs.Said.{Tabled}
 use Rattle.models.specs.declared.{BackendCompletion.BackendCompletion, OperationError.OperationError, OptionError.OptionError, RequestId.RequestId}
 use Rattle.models.proofs.Said.{tabled-says, tabled-own, tabled-backend, tabled-in, said-of}
 use Rattle.rows.specs.Store.{Store}
+use Rattle.rows.specs.Table.{rowIn}
 use Rattle.rows.specs.declared.{Row.Row}
-use Rattle.rules.specs.Rules.{changeRow}
-use Rattle.rules.specs.Said.{stepSaid}
-use Rattle.rules.specs.declared.{Change.Change, Step.Step}
-use Rattle.rules.proofs.Said.{change-tabled}
+use Rattle.rules.specs.declared.{Change.Change}
+use Rattle.ledger.specs.Apply.{changedAt}
+use Rattle.ledger.specs.Said.{appliedSaid}
 use Rattle.ledger.specs.Search.{isAt}
+use Rattle.ledger.specs.declared.{Applied.Applied}
+use Rattle.ledger.proofs.Said.{change-tabled-at}
 use Rattle.checks.specs.Completion.{testCompletion}
 use Rattle.checks.specs.declared.{completion.CompletionTest.CompletionTest}
 use Rattle.session.specs.Lent.{Memory}
-use Rattle.session.specs.declared.{InFlight.InFlight, Session.Session, sizes.Place.Place}
+use Rattle.session.specs.declared.{InFlight.InFlight, Session.Session}
 use Rattle.session.proofs.Said.{guarded-all}
 use Rattle.reports.specs.Said.{reportSaid}
 use Rattle.reports.specs.declared.{Reported.Reported}
@@ -53,45 +55,46 @@ module _ (id : RequestId) (s : Session) (store : Store) where
   poll-said x e = said-of Polls _ _ e poll-tabled
 
 -- ---- its reply: the ledger completes the row or fails it, and refuses either by 41
-module _ (s : Session) (row : Row) (c : BackendCompletion) where
+module _ (s : Session) (store : Store) (i : ℕ) (c : BackendCompletion) where
   abbrev pub Changes : Judgement → Type 0
-  Changes j = Tabled (41 ∷ []) (stepSaid (changeRow row (j .change)))
+  Changes j = Tabled (41 ∷ []) (appliedSaid (changedAt i (j .change) store .result))
 
-  failed-tabled : (e : OperationError) (quiescent : Bool) → Tabled (41 ∷ []) (stepSaid (changeRow row (Change.Fail e (c .«completion_code») quiescent)))
-  failed-tabled e quiescent = change-tabled row (Change.Fail e (c .«completion_code») quiescent)
+  failed-tabled : (e : OperationError) (quiescent : Bool) → Tabled (41 ∷ []) (appliedSaid (changedAt i (Change.Fail e (c .«completion_code») quiescent) store .result))
+  failed-tabled e quiescent = change-tabled-at (Change.Fail e (c .«completion_code») quiescent) store i
 
   test-by : (t : CompletionTest) → Changes (judgedTest t s c)
   unfolding judgedTest invalidAs
-  test-by (CompletionTest.Valid actual code) = change-tabled row (Change.Complete actual code)
+  test-by (CompletionTest.Valid actual code) = change-tabled-at (Change.Complete actual code) store i
   test-by CompletionTest.MissingLength = failed-tabled (invalidCompletion (c .«completion_code») .error) false
   test-by CompletionTest.Invalid = failed-tabled (invalidCompletion (c .«completion_code») .error) false
 
-  pub judged-by : (o : OptionError) (given : ℕ) → Changes (judgedBy o s row c given)
+  pub judged-by : (row : Row) (o : OptionError) (given : ℕ) → Changes (judgedBy o s row c given)
   unfolding judgedBy failedAs
-  judged-by (OptionError.Some e) given = if-all Changes _ _ _ (failed-tabled e (c .quiescent)) (failed-tabled e (c .quiescent))
-  judged-by OptionError.None given = test-by (testCompletion c given (row .metadata .«requested_length»))
+  judged-by row (OptionError.Some e) given = if-all Changes _ _ _ (failed-tabled e (c .quiescent)) (failed-tabled e (c .quiescent))
+  judged-by row OptionError.None given = test-by (testCompletion c given (row .metadata .«requested_length»))
 
 abbrev Replies : After Reported Memory → Type 0
 Replies o = Tabled pollReplyNumbers (reportSaid (o .result .answer))
 
-settled-by : (x : Step) → Tabled (41 ∷ []) (stepSaid x) → (j : Judgement) (p : Place) (bytes : List ℕ) (idle : Session) (m : Memory) → Replies (settled x j p bytes idle m)
+settled-by : (a : Applied) (left : Store) → Tabled (41 ∷ []) (appliedSaid a) → (j : Judgement) (i : ℕ) (bytes : List ℕ) (idle : Session) (area : List ℕ)
+    → Replies (settled (after a left) j i bytes idle area)
 unfolding settled
-settled-by (Step.Refused r) h j p bytes idle m = tabled-in pollReplyNumbers (41 ∷ []) refl _ h
-settled-by (Step.To next x) h j p bytes idle m = tabled-says _ _
+settled-by (Applied.Refused r) left h j i bytes idle area = tabled-in pollReplyNumbers (41 ∷ []) refl _ h
+settled-by (Applied.Done x) left h j i bytes idle area = tabled-says _ _
 
 module _ (x : PollReply) (bytes : List ℕ) where
-  reply-at : (y : PollReply) (row : Row) (p : Place) (idle : Session) (m : Memory) → Replies (pollReplyAt y row p bytes idle m)
+  reply-at : (y : PollReply) (i : ℕ) (idle : Session) (m : Memory) → Replies (pollReplyAt y i bytes idle m)
   unfolding pollReplyAt judged
-  reply-at PollReply.Nothing row p idle m = tabled-says _ _
-  reply-at (PollReply.Error e) row p idle m = tabled-backend _ 45 e refl refl
-  reply-at (PollReply.Completion c) row p idle m =
-      let j : Judgement = judged idle row c (length bytes) in
-      settled-by (changeRow row (j .change)) (judged-by idle row c (c .error) (length bytes)) j p bytes idle m
+  reply-at PollReply.Nothing i idle m = tabled-says _ _
+  reply-at (PollReply.Error e) i idle m = tabled-backend _ 45 e refl refl
+  reply-at (PollReply.Completion c) i idle m =
+      let j : Judgement = judged idle (rowIn (m .store .rows) i) c (length bytes) in
+      settled-by _ _ (judged-by idle (m .store) i c (rowIn (m .store .rows) i) (c .error) (length bytes)) j i bytes idle (m .area)
 
   reply-by : (f : Found) (s : Session) (m : Memory) → Replies (pollReplyBy f x bytes s m)
   unfolding pollReplyBy
   reply-by Found.Nothing s m = tabled-own _ 2 refl
-  reply-by (Found.At i) s m = reply-at x _ _ _ m
+  reply-by (Found.At i) s m = reply-at x i _ m
 
   reply-in : (f : InFlight) (s : Session) (m : Memory) → Replies (pollReplyIn f x bytes s m)
   unfolding pollReplyIn pollReplyFound

@@ -7,23 +7,24 @@ use Rattle.chain.specs.Chain.{_if_else_}
 use Rattle.chain.specs.After.{After, after}
 use Rattle.chain.specs.Lists.{foundIn}
 use Rattle.chain.specs.declared.{Found.Found}
-use Rattle.words.specs.Records.{spliceCut}
 use Rattle.words.specs.declared.{OptionU32.OptionU32, OptionU64.OptionU64}
 use Rattle.models.specs.Refusals.{refusalOf, fromBackend, invalidCompletion}
 use Rattle.models.specs.declared.{BackendCompletion.BackendCompletion, ErrorCategory.ErrorCategory, OperationError.OperationError, OptionError.OptionError, RequestId.RequestId, RequestMetadata.RequestMetadata}
 use Rattle.standards.specs.Completion.{isStall}
 use Rattle.rows.specs.Table.{rowIn}
-use Rattle.rows.specs.Store.{putIn}
+use Rattle.rows.specs.Store.{Store}
 use Rattle.rows.specs.declared.{Row.Row}
-use Rattle.rules.specs.Rules.{changeRow, reportOf}
+use Rattle.rules.specs.Rules.{reportOf}
+use Rattle.rules.specs.declared.{Change.Change}
+use Rattle.ledger.specs.Apply.{changedAt}
 use Rattle.ledger.specs.Search.{isAt}
-use Rattle.rules.specs.declared.{Change.Change, Step.Step}
+use Rattle.ledger.specs.declared.{Applied.Applied}
 use Rattle.checks.specs.Completion.{testCompletion}
 use Rattle.checks.specs.declared.{completion.CompletionTest.CompletionTest}
 use Rattle.session.specs.Session.{marked, withFlight, withStall}
-use Rattle.session.specs.Sizes.{placeOf}
+use Rattle.session.specs.Sizes.{dataAt}
 use Rattle.session.specs.Lent.{Memory, memory, memoryFits}
-use Rattle.session.specs.declared.{InFlight.InFlight, OptionStall.OptionStall, Session.Session, Size.Size, sizes.Place.Place}
+use Rattle.session.specs.declared.{InFlight.InFlight, OptionStall.OptionStall, Session.Session, Size.Size}
 use Rattle.reports.specs.Answers.{effect, reportRefused}
 use Rattle.polls.specs.declared.{PollReply.PollReply, poll_reply.Judgement.Judgement}
 use Rattle.reports.specs.declared.{ReportAnswer.ReportAnswer, Reported.Reported}
@@ -82,29 +83,30 @@ judgedBy OptionError.None s row c given = judgedTest (testCompletion c given (ro
 unfoldable pub judged : Session → Row → BackendCompletion → ℕ → Judgement
 judged s row c given = judgedBy (c .error) s row c given
 
--- a valid completion's data overwrites the first of the row's bytes only, cut at the row's end
-unfoldable pub storedIn : Size → Place → List ℕ → Bool → List ℕ → List ℕ
-storedIn z p bytes stored area = spliceCut (p .start) (z .«row_bytes») bytes area if stored else area
+-- only a valid completion's data is stored
+unfoldable pub storedIn : Size → ℕ → List ℕ → Bool → List ℕ → List ℕ
+storedIn z i bytes stored area = dataAt z i bytes area if stored else area
 
--- the row takes the change; one that is not Pending, which no call leads to, is 41 and nothing else happens
-unfoldable pub settled : Step → Judgement → Place → List ℕ → Session → Memory → After Reported Memory
-settled (Step.Refused r) j p bytes idle m = after (reportRefused idle r) m
-settled (Step.To next x) j p bytes idle m =
-    after (record { answer = ReportAnswer.Report x; session = j .session })
-    (memory (putIn (m .store) (p .row) next) (storedIn (idle .size) p bytes (j .stored) (m .area)))
+-- row i took the change; one that is not Pending, which no call leads to, is 41 and nothing else happens
+unfoldable pub settled : After Applied Store → Judgement → ℕ → List ℕ → Session → List ℕ → After Reported Memory
+settled o j i bytes idle area =
+    elim (o .result) [
+      | Applied.Refused r ↦ after (reportRefused idle r) (memory (o .lent) area)
+      | Applied.Done x ↦
+          after (record { answer = ReportAnswer.Report x; session = j .session }) (memory (o .lent) (storedIn (idle .size) i bytes (j .stored) area))
+    ]
 
--- by the reply; `idle` is the session without the poll. 45: a backend's error leaves the row Pending
-unfoldable pub pollReplyAt : PollReply → Row → Place → List ℕ → Session → Memory → After Reported Memory
-pollReplyAt PollReply.Nothing row p bytes idle m = after (record { answer = ReportAnswer.Report (reportOf row); session = idle }) m
-pollReplyAt (PollReply.Error e) row p bytes idle m = after (reportRefused (effect e idle) (fromBackend 45 e)) m
-pollReplyAt (PollReply.Completion c) row p bytes idle m =
-    let j = judged idle row c (length bytes) in settled (changeRow row (j .change)) j p bytes idle m
+-- by the reply to a poll of row i; `idle` is the session without the poll. 45: a backend's error leaves the row Pending
+unfoldable pub pollReplyAt : PollReply → ℕ → List ℕ → Session → Memory → After Reported Memory
+pollReplyAt PollReply.Nothing i bytes idle m = after (record { answer = ReportAnswer.Report (reportOf (rowIn (m .store .rows) i)); session = idle }) m
+pollReplyAt (PollReply.Error e) i bytes idle m = after (reportRefused (effect e idle) (fromBackend 45 e)) m
+pollReplyAt (PollReply.Completion c) i bytes idle m =
+    let j = judged idle (rowIn (m .store .rows) i) c (length bytes) in settled (changedAt i (j .change) (m .store)) j i bytes idle (m .area)
 
 -- 2: no row has the id
 unfoldable pub pollReplyBy : Found → PollReply → List ℕ → Session → Memory → After Reported Memory
 pollReplyBy Found.Nothing x bytes s m = after (reportRefused s (refusalOf 2)) m
-pollReplyBy (Found.At i) x bytes s m =
-    pollReplyAt x (rowIn (m .store .rows) i) (placeOf (s .size) i) bytes (withFlight s InFlight.Nothing) m
+pollReplyBy (Found.At i) x bytes s m = pollReplyAt x i bytes (withFlight s InFlight.Nothing) m
 
 -- 3
 unfoldable pub pollReplyFound : RequestId → PollReply → List ℕ → Session → Memory → After Reported Memory

@@ -5,8 +5,8 @@ use models::Refusal;
 use models::RequestReport;
 use session::Session;
 
-pub mod poll;
-pub mod poll_reply;
+pub mod poll; // poll.rt: the poll of a request
+pub mod poll_reply; // poll_reply.rt: the backend's reply to it
 
 // A poll's answer: the report of a request that is not Pending, or the token to ask the backend for.
 pub enum PollAnswer {

@@ -53,9 +53,10 @@ fn poll_row(session: Session, row: Row, id: RequestId) -> Polled
     }
 }
 
-// 1, 3, 40, then by the row.
+// Refuses by 1 while an operation waits for its reply, by 3 if the rows have not the session's size, by 40 if no row has the id.
 pub fn poll_request(session: Session, rows: &[u64], id: RequestId) -> Polled
-    ensures { λ r. ⌜ (r ≡ pollOf id session (storeIn rows)) × Tabled pollNumbers (pollSaid (r .answer)) ⌝ }
+    ensures step { λ r. ⌜ r ≡ pollOf id session (storeIn rows) ⌝ }
+    ensures table { λ r. ⌜ Tabled pollNumbers (pollSaid (r .answer)) ⌝ }
 {
     let verdict = start::rows_ready(session, rows.len());
     match verdict {

@@ -3,6 +3,7 @@ use crate::PollReply;
 use chain::Found;
 use checks::completion;
 use checks::completion::CompletionTest;
+use ledger::Applied;
 use ledger::search;
 use models::BackendCompletion;
 use models::ErrorCategory;
@@ -15,26 +16,23 @@ use reports::Reported;
 use reports::answers;
 use rows::Row;
 use rules::Change;
-use rules::Step;
 use session::InFlight;
 use session::OptionStall;
 use session::RecoverableStall;
 use session::Session;
 use session::Size;
 use session::sizes;
-use session::sizes::Place;
 use standards::completion::is_stall;
 use words::OptionU32;
 use words::OptionU64;
-use words::slices;
 ghost use mathlib.Core.Path.{_≡_};
-ghost use Prim.Native.Nat.{_+_, _<_, _≤_};
+ghost use Prim.Native.Nat.{_+_, _*_, _<_, _≤_};
 ghost use lib.ListN.{length};
 ghost use Rattle.chain.specs.After.{after};
 ghost use Rattle.models.specs.Said.{Tabled};
-ghost use Rattle.rows.specs.Table.{readRows, rowIn};
-ghost use Rattle.rules.specs.Rules.{changeRow};
-ghost use Rattle.session.specs.Lent.{rowsIn, memoryIn, memoryOut};
+ghost use Rattle.rows.specs.Table.{readRows};
+ghost use Rattle.ledger.specs.Apply.{changedAt};
+ghost use Rattle.session.specs.Lent.{storeIn, memoryIn, memoryOut};
 ghost use Rattle.reports.specs.Said.{reportSaid};
 ghost use Rattle.polls.specs.PollReply.{isRecovery, codeIsStall, isScopedStall, stallOf, failedAs, invalidAs, judgedTest, judged, storedIn, settled, pollReplyAt, pollReplyFound, pollReplyOf};
 ghost use Rattle.polls.specs.Said.{pollReplyNumbers};
@@ -172,41 +170,39 @@ fn judge(session: Session, row: Row, completion: BackendCompletion, given: u64) 
     }
 }
 
-// The data of a valid completion overwrites the row's first bytes, cut at the row's end.
-fn store_data(area: &mut [u8], size: Size, place: Place, bytes: &[u8], stored: bool)
-    requires { ⌜ place .start + size .«row_bytes» ≤ length (now area) ⌝ }
-    ensures { λ _. ⌜ now (area .exit) ≡ storedIn size place (now (bytes .entry)) stored (now (area .entry)) ⌝ }
+// Only a valid completion's data is stored.
+fn store_data(area: &mut [u8], size: Size, i: usize, bytes: &[u8], stored: bool)
+    requires { ⌜ i * size .«row_bytes» + size .«row_bytes» ≤ length (now area) ⌝ }
+    ensures { λ _. ⌜ now (area .exit) ≡ storedIn size i (now (bytes .entry)) stored (now (area .entry)) ⌝ }
 {
     if !stored {
         return;
     }
-    slices::copy_cut(area, place.start, size.row_bytes as usize, bytes);
+    sizes::put_data(area, size, i, bytes);
 }
 
 // The one place where a poll's reply changes rows and area. `idle` is the session without the poll.
 fn settle(
     j: Judgement,
     idle: Session,
-    row: Row,
     rows: &mut [u64],
     area: &mut [u8],
-    place: Place,
+    i: usize,
     bytes: &[u8],
 ) -> Reported
-    requires { ⌜ (place .row < length (readRows (now rows)))
-        × (place .start + idle .size .«row_bytes» ≤ length (now area)) ⌝ }
+    requires { ⌜ (i < length (readRows (now rows)))
+        × (i * idle .size .«row_bytes» + idle .size .«row_bytes» ≤ length (now area)) ⌝ }
     ensures { λ r. ⌜ after r (memoryOut rows area)
-        ≡ settled (changeRow row (j .change)) j place (now (bytes .entry)) idle (memoryIn rows area) ⌝ }
+        ≡ settled (changedAt i (j .change) (storeIn rows)) j i (now (bytes .entry)) idle (now (area .entry)) ⌝ }
 {
     let change = j.change;
     let session = j.session;
     let size = idle.size;
-    let step = rules::change_row(row, change);
-    match step {
-        Step::Refused(refusal) => answers::refused(idle, refusal),
-        Step::To(next, report) => {
-            rows::write_row(rows, place.row, next);
-            store_data(area, size, place, bytes, j.stored);
+    let applied = ledger::change_at(rows, i, change);
+    match applied {
+        Applied::Refused(refusal) => answers::refused(idle, refusal),
+        Applied::Done(report) => {
+            store_data(area, size, i, bytes, j.stored);
             Reported {
                 answer: ReportAnswer::Report(report),
                 session,
@@ -215,21 +211,21 @@ fn settle(
     }
 }
 
-// The place's row has the polled id.
+// Row i has the polled id.
 fn reply_at(
     idle: Session,
     rows: &mut [u64],
     area: &mut [u8],
-    place: Place,
+    i: usize,
     reply: PollReply,
     bytes: &[u8],
 ) -> Reported
-    requires { ⌜ (place .row < length (readRows (now rows)))
-        × (place .start + idle .size .«row_bytes» ≤ length (now area)) ⌝ }
+    requires { ⌜ (i < length (readRows (now rows)))
+        × (i * idle .size .«row_bytes» + idle .size .«row_bytes» ≤ length (now area)) ⌝ }
     ensures { λ r. ⌜ after r (memoryOut rows area)
-        ≡ pollReplyAt reply (rowIn (rowsIn rows) (place .row)) place (now (bytes .entry)) idle (memoryIn rows area) ⌝ }
+        ≡ pollReplyAt reply i (now (bytes .entry)) idle (memoryIn rows area) ⌝ }
 {
-    let row = rows::read_row(rows, place.row);
+    let row = rows::read_row(rows, i);
     match reply {
         PollReply::Nothing => Reported {
             answer: ReportAnswer::Report(rules::report_of(row)),
@@ -241,12 +237,12 @@ fn reply_at(
         }
         PollReply::Completion(completion) => {
             let j = judge(idle, row, completion, bytes.len() as u64);
-            settle(j, idle, row, rows, area, place, bytes)
+            settle(j, idle, rows, area, i, bytes)
         }
     }
 }
 
-// 3; 2: no row has the id.
+// Refuses by 3 if a slice has not the session's size, by 2 if no row has the id.
 fn reply_found(
     session: Session,
     rows: &mut [u64],
@@ -266,12 +262,11 @@ fn reply_found(
     let Found::At(i) = found else {
         return answers::refused_by(session, 2);
     };
-    let start = i * size.row_bytes as usize;
     let idle = session::with_flight(session, InFlight::Nothing);
-    reply_at(idle, rows, area, Place { row: i, start }, reply, bytes)
+    reply_at(idle, rows, area, i, reply, bytes)
 }
 
-// 2: no poll is in flight; 3; 2: no row has its id. Else the operation ends.
+// Refuses by 2 if no poll is in flight or no row has its id, by 3 if a slice has not the session's size. Else the operation ends.
 pub fn poll_reply(
     session: Session,
     rows: &mut [u64],
@@ -279,9 +274,9 @@ pub fn poll_reply(
     reply: PollReply,
     bytes: &[u8],
 ) -> Reported
-    ensures { λ r. ⌜ (after r (memoryOut rows area)
-        ≡ pollReplyOf reply (now (bytes .entry)) session (memoryIn rows area))
-        × Tabled pollReplyNumbers (reportSaid (r .answer)) ⌝ }
+    ensures step { λ r. ⌜ after r (memoryOut rows area)
+        ≡ pollReplyOf reply (now (bytes .entry)) session (memoryIn rows area) ⌝ }
+    ensures table { λ r. ⌜ Tabled pollReplyNumbers (reportSaid (r .answer)) ⌝ }
 {
     let flight = session.in_flight;
     match flight {

@@ -1,22 +1,27 @@
 -- A wanted reading at the checks of the device and its endpoint. Assumes nothing.
-use Prim.Native.Nat.{ℕ, _<_, _≤_, _^_}
-use mathlib.Core.Bool.{Bool, true, false, not, _||_}
-use mathlib.Core.Path.{_≡_, refl, ap, _∙_}
+use Prim.Native.Nat.{ℕ, _<_, _%_, _^_}
+use mathlib.Core.Bool.{Bool, true, false, not}
+use mathlib.Core.List.{List}
+use mathlib.Core.Path.{_≡_, refl, sym, ap, subst, _∙_}
+use native.Mathlib.Nat.{mod-lt}
 use native.Mathlib.Omega.{arith}
 use lib.Dec.{eqb, ltb}
-use lib.ListN.{length}
+use lib.ListN.{length, getD, List·getD-eq-default}
 use lib.Seq.{getD-set-same}
-use borrow.Author.Tests.{ltb-false}
+use borrow.Author.Tests.{ltb-true, ltb-false}
 use Rattle.chain.specs.After.{After, after}
 use Rattle.chain.specs.Chain.{_if_else_}
+use Rattle.chain.proofs.Chain.{caseB, if-all}
+use Rattle.words.proofs.Records.{length-chunks, chunks-at}
 use Rattle.models.specs.Kinds.{isControl, isConfigured, isPrepared}
-use Rattle.models.specs.Refusals.{refusalOf, fromBackend, rejected}
-use Rattle.models.specs.declared.{DeviceSnapshot.DeviceSnapshot, OperationError.OperationError, OptionPorts.OptionPorts, PortId.PortId, PortReading.PortReading, RequestMetadata.RequestMetadata, Verdict.Verdict}
+use Rattle.models.specs.Refusals.{fromBackend, rejected}
+use Rattle.models.specs.declared.{DeviceId.DeviceId, DeviceSnapshot.DeviceSnapshot, OperationError.OperationError, OptionDevice.OptionDevice, OptionPorts.OptionPorts, PortId.PortId, PortReading.PortReading, RequestMetadata.RequestMetadata, Verdict.Verdict}
 use Rattle.models.specs.declared.PortReading.the-variants.{Word, Error}
-use Rattle.bus.specs.Tables.{Bus, newPort, portIndex, portAt, putPort}
+use Rattle.bus.specs.Layout.{portCount, slotCount, portWords, deviceWords, devicesAt, readPort, readDevice}
+use Rattle.bus.specs.Tables.{Bus, busOf, newPort, portIndex, portAt, deviceAt, putPort}
 use Rattle.bus.specs.Ports.{numberChecked, validatedRow, validatedBy, validated, observedRow, observePortBy, observePort, freshObserved, freshWord, freshReading, freshPortBy, freshPort}
 use Rattle.bus.specs.declared.{ports.Observed.Observed, ports.PortChecked.PortChecked}
-use Rattle.targets.specs.Target.{refusedDevice, knownDevice, preparedDevice, freshDevice, checkDeviceBy, checkDevice, endpointBy, checkEndpoint, checkTargetBy, checkTarget}
+use Rattle.targets.specs.Target.{refusedDevice, knownBy, knownDevice, preparedDevice, freshDevice, checkDeviceBy, checkDevice, endpointBy, checkEndpoint, checkTargetBy, checkTarget}
 use Rattle.targets.specs.Wants.{isMissing, secondWanted, secondBy, afterFirst, firstWanted, portWanted, deviceWanted, wantedBy, wantedReading}
 use Rattle.targets.specs.declared.{Readings.Readings, target.DeviceChecked.DeviceChecked, wants.Wanted.Wanted}
 use Rattle.questions.specs.Wants.{Taken, Means}
@@ -25,12 +30,63 @@ use Rattle.questions.specs.Wants.{Taken, Means}
 abbrev pub RefusedBy : OperationError → After Verdict Bus → Type 0
 RefusedBy e o = o .result ≡ Verdict.Refused (fromBackend 33 e)
 
--- a port that was read is read again
-abbrev pub Rereads : OptionPorts → Bus → Type 0
-Rereads o b =
-    (id : PortId) (raw old new : ℕ) → validated o id b ≡ PortChecked.Read old → freshWord raw o id b .result ≡ PortChecked.Read new
-    → validated o id (freshWord raw o id b .lent) ≡ PortChecked.Read new
+-- ---- a port of the bus that was read is read again
+module _ (o : OptionPorts) (b : Bus) (id : PortId) (inside : portIndex (id .number) < length (b .ports)) (raw old new : ℕ) where
+  row-again : (v : Observed) → freshObserved (observePortBy v (id .number) b .result) o id ≡ PortChecked.Read new
+      → validatedRow o id (portAt (observePortBy v (id .number) b .lent) (id .number)) ≡ PortChecked.Read new
+  unfolding observePortBy freshObserved putPort
+  row-again (Observed.Refused r) e = let z : _≡_ {A = ℕ} 0 1 = cc in absurd (omega arith)
+  row-again (Observed.To row) e = ap (validatedRow o id) (getD-set-same (b .ports) (portIndex (id .number)) row newPort inside) ∙ e
 
+  number-again : (v : Verdict) → validatedBy v o id b ≡ PortChecked.Read old → freshWord raw o id b .result ≡ PortChecked.Read new
+      → validatedBy v o id (freshWord raw o id b .lent) ≡ PortChecked.Read new
+  unfolding validatedBy freshWord observePort
+  number-again (Verdict.Refused r) e ew = let z : _≡_ {A = ℕ} 0 1 = cc in absurd (omega arith)
+  number-again Verdict.Pass e ew = row-again (observedRow (portAt b (id .number)) raw) ew
+
+  rereads : validated o id b ≡ PortChecked.Read old → freshWord raw o id b .result ≡ PortChecked.Read new
+      → validated o id (freshWord raw o id b .lent) ≡ PortChecked.Read new
+  unfolding validated
+  rereads e ew = number-again (numberChecked o (id .number)) e ew
+
+-- ---- what the words of the bus give: 255 ports, and a device's port is one of them
+module _ (l : List ℕ) where
+  abbrev Inside : DeviceSnapshot → Type 0
+  Inside d = portIndex (d .port .number) < length (busOf l .ports)
+
+  abbrev PlacedInside : OptionDevice → Type 0
+  PlacedInside OptionDevice.None = Unit {0}
+  PlacedInside (OptionDevice.Some d) = Inside d
+
+  abbrev CheckedInside : DeviceChecked → Type 0
+  CheckedInside (DeviceChecked.Refused r) = Unit {0}
+  CheckedInside (DeviceChecked.Ready d) = Inside d
+
+  byte-inside : (n : ℕ) → portIndex (n % 2 ^ 8) < length (busOf l .ports)
+  unfolding busOf
+  byte-inside n = let small : n % 2 ^ 8 < 2 ^ 8 = mod-lt n (omega arith) in omega (arith, length-chunks 0 portWords readPort portCount l)
+
+  read-inside : (w : List ℕ) → PlacedInside (readDevice w)
+  unfolding readDevice
+  read-inside w = caseB (eqb (getD w 0 0) 0) (λ e. rw e tt) (λ e. rw e (byte-inside (getD w 6 0)))
+
+  device-inside : (slot : ℕ) → PlacedInside (deviceAt (busOf l) slot)
+  unfolding busOf
+  device-inside slot =
+      caseB (ltb slot slotCount)
+      (λ e. subst PlacedInside (sym (chunks-at devicesAt deviceWords readDevice slotCount l slot OptionDevice.None (ltb-true slot slotCount e))) (read-inside _))
+      (λ e. subst PlacedInside (sym (List·getD-eq-default (busOf l .devices) OptionDevice.None (omega (arith, ltb-false slot slotCount e, length-chunks devicesAt deviceWords readDevice slotCount l)))) tt)
+
+  known-by : (o : OptionDevice) → PlacedInside o → (i : Bool) (id : DeviceId) → CheckedInside (knownBy o i id)
+  unfolding knownBy
+  known-by OptionDevice.None h i id = tt
+  known-by (OptionDevice.Some d) h i id = if-all CheckedInside _ _ _ tt (if-all CheckedInside _ _ _ tt h)
+
+  known-inside : (i : Bool) (id : DeviceId) → CheckedInside (knownDevice i id (busOf l))
+  unfolding knownDevice
+  known-inside i id = if-all CheckedInside _ _ _ tt (known-by (deviceAt (busOf l) (id .slot)) (device-inside (id .slot)) i id)
+
+-- ---- a wanted reading
 module _ (o : OptionPorts) (m : RequestMetadata) where
   abbrev pub Told : Wanted → Readings → Readings → After Verdict Bus → After Verdict Bus → Type 0
   Told = Means RefusedBy
@@ -82,7 +138,7 @@ module _ (o : OptionPorts) (m : RequestMetadata) where
       prepared-is (PortChecked.Read raw) = refl
 
     -- the first reading
-    module _ (b : Bus) (again : Rereads o b) where
+    module _ (b : Bus) (inside : portIndex (d .port .number) < length (b .ports)) where
       abbrev firstOf : PortReading → PortReading → After Verdict Bus
       firstOf f s = checkTargetBy (preparedDevice (freshReading f o (d .port) b .result) d) o m s (freshReading f o (d .port) b .lent)
 
@@ -94,7 +150,7 @@ module _ (o : OptionPorts) (m : RequestMetadata) where
           let p = freshWord raw o (d .port) b .result in
           let left = freshWord raw o (d .port) b .lent in
           agreeing (firstWanted (Word raw) s o d m b) (record { first = Word raw; second = s }) (record { first = f'; second = s' }) (firstOf (Word raw) s) (firstOf (Word raw) s') (firstOf f' s') (λ u. ap (λ (z : PortReading). firstOf z s') u)
-          (rw (prepared-is left p) (prepared-told left p (isPrepared (d .state)) (Word raw) f' s s' (λ new h. again (d .port) raw old new e h)))
+          (rw (prepared-is left p) (prepared-told left p (isPrepared (d .state)) (Word raw) f' s s' (λ new h. rereads o b (d .port) inside raw old new e h)))
 
       -- 29 to 32
       abbrev portOf : PortChecked → Readings → After Verdict Bus
@@ -106,49 +162,18 @@ module _ (o : OptionPorts) (m : RequestMetadata) where
       port-told (PortChecked.Read old) e x y = first-told old e (x .first) (y .first) (x .second) (y .second)
 
   -- 26 to 28
-  module _ (b : Bus) (again : Rereads o b) (x y : Readings) where
+  module _ (l : List ℕ) (x y : Readings) where
+    abbrev b : Bus
+    b = busOf l
+
     abbrev deviceOf : DeviceChecked → Readings → After Verdict Bus
     deviceOf k z = checkTargetBy (checkDeviceBy k o (z .first) b .result) o m (z .second) (checkDeviceBy k o (z .first) b .lent)
 
-    device-told : (k : DeviceChecked) → Told (wantedBy k o m x b) x y (deviceOf k x) (deviceOf k y)
+    device-told : (k : DeviceChecked) → CheckedInside l k → Told (wantedBy k o m x b) x y (deviceOf k x) (deviceOf k y)
     unfolding wantedBy deviceWanted checkDeviceBy freshDevice freshPort checkTargetBy
-    device-told (DeviceChecked.Refused r) = λ u v. refl
-    device-told (DeviceChecked.Ready d) = port-told d b again (validated o (d .port) b) refl x y
+    device-told (DeviceChecked.Refused r) h = λ u v. refl
+    device-told (DeviceChecked.Ready d) h = port-told d b h (validated o (d .port) b) refl x y
 
     pub target-told : (i : Bool) → Told (wantedReading i o m x b) x y (checkTarget i o m x b) (checkTarget i o m y b)
     unfolding wantedReading checkTarget checkDevice
-    target-told i = device-told (knownDevice i (m .device) b)
-
--- ---- a port that was read is read again
--- a count is a byte
-abbrev pub CountFits : OptionPorts → Type 0
-CountFits OptionPorts.None = Unit {0}
-CountFits (OptionPorts.Some p) = p .count < 2 ^ 8
-
-in-count : (z c : Bool) (number most : ℕ) → ltb most number ≡ c → (Verdict.Refused (refusalOf 30) if z || c else Verdict.Pass) ≡ Verdict.Pass → number ≤ most
-unfolding _if_else_
-in-count true c number most e h = let z : _≡_ {A = ℕ} 0 1 = cc in absurd (omega arith)
-in-count false true number most e h = let z : _≡_ {A = ℕ} 0 1 = cc in absurd (omega arith)
-in-count false false number most e h = ltb-false most number e
-
-number-fits : (o : OptionPorts) (number : ℕ) → CountFits o → numberChecked o number ≡ Verdict.Pass → portIndex number < 255
-unfolding numberChecked
-number-fits OptionPorts.None number h e = let z : _≡_ {A = ℕ} 0 1 = cc in absurd (omega arith)
-number-fits (OptionPorts.Some p) number h e = omega (arith, in-count (eqb number 0) (ltb (p .count) number) number (p .count) refl e)
-
-module _ (o : OptionPorts) (b : Bus) (id : PortId) (new : ℕ) where
-  row-again : portIndex (id .number) < length (b .ports) → (v : Observed) → freshObserved (observePortBy v (id .number) b .result) o id ≡ PortChecked.Read new
-      → validatedRow o id (portAt (observePortBy v (id .number) b .lent) (id .number)) ≡ PortChecked.Read new
-  unfolding observePortBy freshObserved putPort
-  row-again h (Observed.Refused r) e = let z : _≡_ {A = ℕ} 0 1 = cc in absurd (omega arith)
-  row-again h (Observed.To row) e = ap (validatedRow o id) (getD-set-same (b .ports) (portIndex (id .number)) row newPort h) ∙ e
-
-  number-again : (raw old : ℕ) → length (b .ports) ≡ 255 → CountFits o → (v : Verdict) → numberChecked o (id .number) ≡ v → validatedBy v o id b ≡ PortChecked.Read old
-      → freshWord raw o id b .result ≡ PortChecked.Read new → validatedBy v o id (freshWord raw o id b .lent) ≡ PortChecked.Read new
-  unfolding validatedBy freshWord observePort
-  number-again raw old n h (Verdict.Refused r) ev e ew = let z : _≡_ {A = ℕ} 0 1 = cc in absurd (omega arith)
-  number-again raw old n h Verdict.Pass ev e ew = row-again (omega (arith, number-fits o (id .number) h ev)) (observedRow (portAt b (id .number)) raw) ew
-
-pub rereads : (o : OptionPorts) (b : Bus) → length (b .ports) ≡ 255 → CountFits o → Rereads o b
-unfolding validated
-rereads o b n h id raw old new e ew = number-again o b id new raw old n h (numberChecked o (id .number)) refl e ew
+    target-told i = device-told (knownDevice i (m .device) b) (known-inside l i (m .device))

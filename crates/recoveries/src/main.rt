@@ -1,16 +1,11 @@
-// Document 01's examples of recoveries, each run on a store of two rows of 8 bytes. A line says the example, then the answer, the states of the two
+// Document 01's examples of recoveries, each run on a store of two rows of 8 bytes. A line has the example, then the answer, the states of the two
 // rows by ascending id, how many are held and the controller's state.
-use models::DeviceId;
-use models::DeviceSnapshot;
-use models::DeviceState;
-use models::Direction;
+use crate::fixtures::bulk;
+use crate::fixtures::device;
+use crate::fixtures::id_of;
+use crate::fixtures::opening;
 use models::OptionError;
-use models::OptionSetup;
-use models::PortId;
 use models::PortReading;
-use models::RequestId;
-use models::RequestSpec;
-use models::TransferType;
 use recovery::Outcome;
 use recovery::Recovered;
 use recovery::RecoveryReply;
@@ -18,11 +13,9 @@ use recovery::recover;
 use recovery::recovery_reply;
 use reports::status;
 use session::Session;
-use session::Size;
 use session::lifecycle;
 use session::lifecycle::AcquireReply;
 use session::lifecycle::Opened;
-use session::lifecycle::Opening;
 use session::place;
 use submissions::SubmitReply;
 use submissions::submit;
@@ -30,61 +23,15 @@ use submissions::submit_reply;
 use targets::Readings;
 use texts::print;
 use words::OptionU32;
-use words::OptionU64;
 
-mod show;
+mod fixtures; // fixtures.rt: the opening, the device, ids and requests
+mod show; // show.rt: answers as text
 
-fn opening() -> Opening {
-    Opening {
-        session: 1,
-        first_sequence: 0,
-        recovery_revision: OptionU64::Some(0),
-        has_ports: true,
-        port_count: 1,
-        size: Size {
-            row_count: 2,
-            row_bytes: 8,
-        },
-    }
-}
+// The words of the store's rows.
+const ROWS: usize = 2 * rows::ROW_WORDS;
 
-fn device() -> DeviceSnapshot {
-    DeviceSnapshot {
-        id: DeviceId {
-            session: 1,
-            generation: 0,
-            slot: 1,
-        },
-        port: PortId {
-            session: 1,
-            generation: 1,
-            number: 1,
-        },
-        state: DeviceState::Configured,
-    }
-}
-
-fn id_of(sequence: u64) -> RequestId {
-    RequestId {
-        session: 1,
-        generation: 0,
-        sequence,
-    }
-}
-
-// A bulk IN request of 8 bytes to endpoint 81h.
-fn bulk() -> RequestSpec {
-    let d = device();
-    let id = d.id;
-    RequestSpec {
-        device: id,
-        endpoint: 0x81,
-        transfer_type: TransferType::Bulk,
-        direction: Direction::In,
-        length: 8,
-        setup: OptionSetup::None,
-    }
-}
+// The words of the bus.
+const BUS: usize = bus::WORDS;
 
 // The device of slot 1 on port 1, with endpoint 81h.
 fn set_device(s: Session, bus: &mut [u64]) {
@@ -98,7 +45,7 @@ fn set_device(s: Session, bus: &mut [u64]) {
     place::set_endpoints(s, bus, 1, &one);
 }
 
-// Then Initialized.
+// The device placed, and the controller initialized.
 fn prepare(s: Session, bus: &mut [u64]) -> Session {
     set_device(s, bus);
     let acquired = lifecycle::acquire(s, AcquireReply::Acquired);
@@ -131,7 +78,7 @@ fn abort(s: Session, rows: &mut [u64], area: &mut [u8], restart_ready: bool) -> 
     recovery_reply::recovery_reply(begun.session, rows, area, reply, &none, &none, &seven, b"")
 }
 
-// What the store and the session are after it.
+// The store and the session after the recovery.
 fn show_after(s: Session, rows: &[u64]) {
     let controller = s.state;
     print::text(b"; ");
@@ -160,8 +107,8 @@ fn show_abort(s: Session, rows: &mut [u64], area: &mut [u8], restart_ready: bool
 
 // A row with token 7, then one with the token `higher`.
 fn example(name: &[u8], higher: u64, restart_ready: bool) {
-    let mut bus = [0u64; 10750];
-    let mut rows = [0u64; 52];
+    let mut bus = [0u64; BUS];
+    let mut rows = [0u64; ROWS];
     let mut area = [0u8; 16];
     print::text(name);
     let opened = lifecycle::open(opening(), &mut rows, &area, &mut bus);

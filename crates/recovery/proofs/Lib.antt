@@ -1,4 +1,3 @@
 pub mod Few
-pub mod Kept
 pub mod Tokens
 pub mod Said

@@ -1,4 +1,4 @@
--- What a recovery's start and its reply refuse is of the table. Assumes nothing.
+-- Every number that a recovery's start and its reply refuse by is in their list. Assumes nothing.
 use Prim.Native.Nat.{ℕ}
 use mathlib.Core.List.{List, [], _∷_}
 use mathlib.Core.Path.{_≡_, refl}
@@ -14,21 +14,23 @@ use Rattle.models.proofs.Said.{tabled-says, tabled-own, tabled-backend, tabled-
 use Rattle.rows.specs.Store.{Store}
 use Rattle.rows.specs.Table.{emptyRow}
 use Rattle.rows.specs.declared.{Row.Row}
-use Rattle.rules.specs.Rules.{changeRow}
-use Rattle.rules.specs.Said.{stepSaid}
-use Rattle.rules.specs.declared.{Change.Change, Step.Step}
-use Rattle.rules.proofs.Said.{change-tabled}
+use Rattle.rules.specs.declared.{Change.Change}
+use Rattle.ledger.specs.Apply.{changedAt}
+use Rattle.ledger.specs.Said.{appliedSaid}
+use Rattle.ledger.specs.declared.{Applied.Applied}
+use Rattle.ledger.proofs.Said.{change-tabled-at}
 use Rattle.ledger.specs.Search.{isAt}
 use Rattle.checks.specs.Completion.{testCompletion}
 use Rattle.checks.specs.declared.{completion.CompletionTest.CompletionTest}
 use Rattle.session.specs.Lent.{Memory}
 use Rattle.session.specs.declared.{InFlight.InFlight, Recovery.Recovery, RecoveryKind.RecoveryKind, Session.Session, Size.Size}
 use Rattle.session.proofs.Said.{guarded-all}
-use Rattle.recovery.specs.Entries.{RowLists, RowEntry, readEntries, rowCompletedBy, testedBy, completeOne, abortedBy, abortOne, onwardBy, completeAll, abortAll, abortsIn, applyAll}
+use Rattle.scope.specs.Returned.{Returned, readReturned}
+use Rattle.recovery.specs.Entries.{rowCompletedBy, testedBy, completeOne, abortedBy, abortOne, onwardBy, completeAll, abortAll, abortsIn}
 use Rattle.recovery.specs.Recover.{begunAs, beginRow, recoverBy, recoverOf}
-use Rattle.recovery.specs.RecoveryReply.{ReplyLists, concludedBy, settledOf, doneOf, replyBy, replySized, replyIn, recoveryReplyOf}
+use Rattle.recovery.specs.RecoveryReply.{ReplyLists, applyAll, concludedBy, settledOf, doneOf, replyBy, replySized, replyIn, recoveryReplyOf}
 use Rattle.recovery.specs.Said.{beginSaid, recoverySaid, recoverNumbers, entryNumbers, recoveryReplyNumbers}
-use Rattle.recovery.specs.declared.{AbortReport.AbortReport, Begun.Begun, Ids.Ids, Recovered.Recovered, RecoveryReply.RecoveryReply, recovery_reply.Ended.Ended}
+use Rattle.recovery.specs.declared.{AbortReport.AbortReport, Begun.Begun, RecoveryReply.RecoveryReply, Replied.Replied, recovery_reply.Ended.Ended}
 
 -- ---- the start
 abbrev Begins : Begun → Type 0
@@ -56,70 +58,73 @@ module _ (id : RequestId) (kind : RecoveryKind) (s : Session) (store : Store) wh
 abbrev Enters : {L : Type 0} → After Verdict L → Type 0
 Enters o = Tabled entryNumbers (verdictSaid (o .result))
 
-completed-by : (x : Step) → Tabled (41 ∷ []) (stepSaid x) → (z : Size) (i : ℕ) (bytes : List ℕ) (m : Memory) → Enters (rowCompletedBy x z i bytes m)
+completed-by : (a : Applied) (left : Store) → Tabled (41 ∷ []) (appliedSaid a) → (z : Size) (i : ℕ) (bytes area : List ℕ) → Enters (rowCompletedBy (after a left) z i bytes area)
 unfolding rowCompletedBy
-completed-by (Step.Refused r) h z i bytes m = tabled-in entryNumbers (41 ∷ []) refl _ h
-completed-by (Step.To next x) h z i bytes m = tabled-says _ _
+completed-by (Applied.Refused r) left h z i bytes area = tabled-in entryNumbers (41 ∷ []) refl _ h
+completed-by (Applied.Done x) left h z i bytes area = tabled-says _ _
 
 tested-by : (t : CompletionTest) (code : OptionU32) (z : Size) (i : ℕ) (bytes : List ℕ) (m : Memory) → Enters (testedBy t code z i bytes m)
 unfolding testedBy
 tested-by CompletionTest.MissingLength code z i bytes m = tabled-own _ 47 refl
 tested-by CompletionTest.Invalid code z i bytes m = tabled-code _ code refl
 tested-by (CompletionTest.Valid actual n) code z i bytes m =
-    completed-by (changeRow (getD (m .store .rows) i emptyRow) (Change.Complete actual n)) (change-tabled _ (Change.Complete actual n)) z i bytes m
+    let o = changedAt i (Change.Complete actual n) (m .store) in
+    completed-by (o .result) (o .lent) (change-tabled-at (Change.Complete actual n) (m .store) i) z i bytes (m .area)
 
 one-tabled : (z : Size) (i : ℕ) (c : BackendCompletion) (bytes : List ℕ) (m : Memory) → Enters (completeOne z i c bytes m)
 unfolding completeOne
 one-tabled z i c bytes m = tested-by (testCompletion c (length bytes) (getD (m .store .rows) i emptyRow .metadata .«requested_length»)) _ z i bytes m
 
-aborted-by : (x : Step) → Tabled (43 ∷ []) (stepSaid x) → (i : ℕ) (store : Store) → Enters (abortedBy x i store)
+aborted-by : (a : Applied) (left : Store) → Tabled (43 ∷ []) (appliedSaid a) → Enters (abortedBy (after a left))
 unfolding abortedBy
-aborted-by (Step.Refused r) h i store = tabled-in entryNumbers (43 ∷ []) refl _ h
-aborted-by (Step.To next x) h i store = tabled-says _ _
+aborted-by (Applied.Refused r) left h = tabled-in entryNumbers (43 ∷ []) refl _ h
+aborted-by (Applied.Done x) left h = tabled-says _ _
 
 abort-tabled : (i : ℕ) (store : Store) → Enters (abortOne i store)
 unfolding abortOne
-abort-tabled i store = aborted-by (changeRow (getD (store .rows) i emptyRow) Change.ConfirmAbort) (change-tabled _ Change.ConfirmAbort) i store
+abort-tabled i store =
+    let o = changedAt i Change.ConfirmAbort store in aborted-by (o .result) (o .lent) (change-tabled-at Change.ConfirmAbort store i)
 
 -- ---- all of them
 onward : {L : Type 0} (v : Verdict) (o : After Verdict L) (next : L → After Verdict L) → Enters o → ((l : L) → Enters (next l)) → Enters (onwardBy v o next)
 onward (Verdict.Refused r) o next h k = h
 onward Verdict.Pass o next h k = k (o .lent)
 
-completions-tabled : (z : Size) (es : List RowEntry) (bytes : List ℕ) (m : Memory) → Enters (completeAll z es bytes m)
-completions-tabled z [] bytes m = tabled-says _ _
-completions-tabled z (e ∷ es) bytes m =
-    let one : After Verdict Memory = completeOne z (e .row) (e .brought .completion) (take (e .brought .given) bytes) m in
-    onward (one .result) one _ (one-tabled z (e .row) _ _ m) (λ left. completions-tabled z es (drop (e .brought .given) bytes) left)
+module _ (place : ℕ → ℕ) where
+  completions-tabled : (z : Size) (es : List Returned) (bytes : List ℕ) (m : Memory) → Enters (completeAll z place es bytes m)
+  completions-tabled z [] bytes m = tabled-says _ _
+  completions-tabled z (e ∷ es) bytes m =
+      let one : After Verdict Memory = completeOne z (place (e .token)) (e .brought .completion) (take (e .brought .given) bytes) m in
+      onward (one .result) one _ (one-tabled z (place (e .token)) _ _ m) (λ left. completions-tabled z es (drop (e .brought .given) bytes) left)
 
-aborts-tabled : (is : List ℕ) (store : Store) → Enters (abortAll is store)
-aborts-tabled [] store = tabled-says _ _
-aborts-tabled (i ∷ is) store = onward (abortOne i store .result) (abortOne i store) _ (abort-tabled i store) (λ left. aborts-tabled is left)
+  aborts-tabled : (ts : List ℕ) (store : Store) → Enters (abortAll place ts store)
+  aborts-tabled [] store = tabled-says _ _
+  aborts-tabled (t ∷ ts) store = onward (abortOne (place t) store .result) (abortOne (place t) store) _ (abort-tabled (place t) store) (λ left. aborts-tabled ts left)
 
-pub entries-tabled : (z : Size) (l : RowLists) (m : Memory) → Enters (applyAll z l m)
+pub entries-tabled : (z : Size) (place : ℕ → ℕ) (l : ReplyLists) (m : Memory) → Enters (applyAll z place l m)
 unfolding applyAll
-entries-tabled z l m =
-    let es : List RowEntry = readEntries (l .completed) (l .completions) in
-    let done : After Verdict Memory = completeAll z es (l .bytes) m in
-    onward (done .result) done (abortsIn (l .aborted)) (completions-tabled z es (l .bytes) m) (λ left. aborts-tabled (l .aborted) (left .store))
+entries-tabled z place l m =
+    let es : List Returned = readReturned (l .tokens) (l .completions) in
+    let done : After Verdict Memory = completeAll z place es (l .bytes) m in
+    onward (done .result) done (abortsIn place (l .aborted)) (completions-tabled place z es (l .bytes) m) (λ left. aborts-tabled place (l .aborted) (left .store))
 
 -- ---- the reply
-abbrev Replies : After Recovered Memory → Type 0
+abbrev Replies : After Replied Memory → Type 0
 Replies o = Tabled recoveryReplyNumbers (recoverySaid (o .result .answer))
 
-concluded-by : (v : Verdict) → Tabled entryNumbers (verdictSaid v) → (e : Ended) (x : AbortReport) (ids : Ids) (rows : List Row)
-    → Tabled recoveryReplyNumbers (recoverySaid (concludedBy v e x ids rows .answer))
+concluded-by : (v : Verdict) → Tabled entryNumbers (verdictSaid v) → (e : Ended) (x : AbortReport) (places : List ℕ) (rows : List Row)
+    → Tabled recoveryReplyNumbers (recoverySaid (concludedBy v e x places rows .answer))
 unfolding concludedBy
-concluded-by (Verdict.Refused r) h e x ids rows = tabled-in recoveryReplyNumbers entryNumbers refl _ h
-concluded-by Verdict.Pass h e x ids rows = tabled-says _ _
+concluded-by (Verdict.Refused r) h e x places rows = tabled-in recoveryReplyNumbers entryNumbers refl _ h
+concluded-by Verdict.Pass h e x places rows = tabled-says _ _
 
-settled-tabled : (e : Ended) (l : RowLists) (m : Memory) → Replies (settledOf e l m)
+settled-tabled : (e : Ended) (place : ℕ → ℕ) (l : ReplyLists) (m : Memory) → Replies (settledOf e place l m)
 unfolding settledOf
-settled-tabled e l m = concluded-by (applyAll (e .idle .size) l m .result) (entries-tabled (e .idle .size) l m) e _ _ _
+settled-tabled e place l m = concluded-by (applyAll (e .idle .size) place l m .result) (entries-tabled (e .idle .size) place l m) e _ _ _
 
 done-tabled : (e : Ended) (affected own : List ℕ) (l : ReplyLists) (m : Memory) → Replies (doneOf e affected own l m)
 unfolding doneOf
-done-tabled e affected own l m = if-all Replies _ _ _ (tabled-own _ 46 refl) (settled-tabled e _ m)
+done-tabled e affected own l m = if-all Replies _ _ _ (tabled-own _ 46 refl) (settled-tabled e _ l m)
 
 reply-by : (r : RecoveryReply) (x : Recovery) (l : ReplyLists) (idle : Session) (m : Memory) → Replies (replyBy r x l idle m)
 unfolding replyBy
@@ -138,6 +143,6 @@ module _ (r : RecoveryReply) (l : ReplyLists) (s : Session) (m : Memory) where
   unfolding recoveryReplyOf
   recovery-reply-tabled = reply-in (s .«in_flight»)
 
-  pub recovery-reply-said : (x : Recovered) (left : Memory) → after x left ≡ recoveryReplyOf r l s m
+  pub recovery-reply-said : (x : Replied) (left : Memory) → after x left ≡ recoveryReplyOf r l s m
       → (after x left ≡ recoveryReplyOf r l s m) × Tabled recoveryReplyNumbers (recoverySaid (x .answer))
   recovery-reply-said x left e = said-of Replies _ _ e recovery-reply-tabled

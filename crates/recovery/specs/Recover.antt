@@ -34,19 +34,19 @@ begunAs x s rows = record {
   count = length (affectedOf (x .device) (x .endpoint) rows);
 }
 
--- 43, 44
+-- refused by 43 if the request is not held, by 44 if the controller is neither Initialized nor RecoveryRequired
 unfoldable pub beginRow : RequestId → RecoveryKind → Row → Session → List Row → Begun
 beginRow id kind r s rows =
     beginRefused s (refusalOf 43) if not (deviceMayAccess (r .state)) else
     beginRefused s (refusalOf 44) if not (mayRecover (s .state)) else
     begunAs (recoveryOf id kind r) s rows
 
--- 40
+-- refused by 40 if no row has the id
 unfoldable pub recoverBy : Found → RequestId → RecoveryKind → Session → List Row → Begun
 recoverBy Found.Nothing id kind s rows = beginRefused s (refusalOf 40)
 recoverBy (Found.At i) id kind s rows = beginRow id kind (getD rows i emptyRow) s rows
 
--- 1, 3
+-- refused by 1 while an operation is in flight, by 3 if the rows have not the session's size
 unfoldable pub recoverOf : RequestId → RecoveryKind → Session → Store → Begun
 recoverOf id kind s store =
     guarded s (storeFits (s .size) store) (beginRefused s) (recoverBy (foundIn (isAt id) (store .rows)) id kind s (store .rows))

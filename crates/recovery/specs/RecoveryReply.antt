@@ -1,31 +1,29 @@
 -- The backend's reply to a recovery (document 01, "Abort report", and the place replies). Assumes nothing.
 use Prim.Native.Nat.{ℕ}
 use mathlib.Core.Bool.{Bool, false, not, _&&_}
-use mathlib.Core.Path.{_≡_}
 use mathlib.Core.List.{List, _++_, map}
 use lib.Dec.{eqb}
 use lib.ListN.{length, replicate}
 use denote.Ref.{now}
 use Rattle.chain.specs.After.{After, after}
 use Rattle.chain.specs.Chain.{_if_else_}
-use Rattle.chain.specs.Lists.{anyIn}
+use Rattle.chain.specs.Lists.{anyIn, listed}
 use Rattle.words.specs.declared.{OptionU64.OptionU64}
 use Rattle.models.specs.Refusals.{refusalOf, fromBackend}
 use Rattle.models.specs.Requests.{sameDevice}
 use Rattle.models.specs.declared.ControllerState.the-variants.{Initialized}
 use Rattle.models.specs.declared.{Refusal.Refusal, Verdict.Verdict}
-use Rattle.rows.specs.Table.{readRows, isUncertain}
+use Rattle.rows.specs.Table.{isUncertain}
 use Rattle.rows.specs.declared.{Row.Row}
 use Rattle.checks.specs.Completion.{hasError}
 use Rattle.session.specs.Lent.{Memory, memoryFits, Slice}
 use Rattle.session.specs.Session.{withController, withFlight, withStall, marked}
-use Rattle.session.specs.declared.{InFlight.InFlight, OptionStall.OptionStall, RecoverableStall.RecoverableStall, Recovery.Recovery, RecoveryKind.RecoveryKind, Session.Session}
+use Rattle.session.specs.declared.{InFlight.InFlight, OptionStall.OptionStall, RecoverableStall.RecoverableStall, Recovery.Recovery, RecoveryKind.RecoveryKind, Session.Session, Size.Size}
 use Rattle.scope.specs.Affected.{affectedOf, tokensOf}
 use Rattle.scope.specs.Scope.{meant, inScope}
-use Rattle.scope.specs.Returned.{listsAgree}
-use Rattle.recovery.specs.Entries.{RowLists, rowLists, applyAll}
-use Rattle.recovery.specs.Reports.{idLists, noIds}
-use Rattle.recovery.specs.declared.{AbortReport.AbortReport, Ids.Ids, Outcome.Outcome, Recovered.Recovered, RecoveryAnswer.RecoveryAnswer, RecoveryReply.RecoveryReply, Replied.Replied, recovery_reply.Ended.Ended, recovery_reply.Settled.Settled}
+use Rattle.scope.specs.Returned.{readReturned, listsAgree}
+use Rattle.recovery.specs.Entries.{onwardBy, completeAll, abortsIn}
+use Rattle.recovery.specs.declared.{AbortReport.AbortReport, Outcome.Outcome, RecoveryAnswer.RecoveryAnswer, RecoveryReply.RecoveryReply, Replied.Replied, recovery_reply.Ended.Ended}
 
 -- what comes with a reply: the tokens that the backend completed, the words of their completions, those that it aborted, and the data
 pub record ReplyLists : Type 0 where
@@ -41,33 +39,11 @@ abbrev pub listsIn : Slice → Slice → Slice → Slice → ReplyLists
 listsIn tokens completions aborted bytes =
     replyLists (now (tokens .entry)) (now (completions .entry)) (now (aborted .entry)) (now (bytes .entry))
 
--- the same by rows; `place` says which one a token means
-abbrev pub rowsMeant : (ℕ → ℕ) → ReplyLists → RowLists
-rowsMeant place l = rowLists (map place (l .tokens)) (l .completions) (map place (l .aborted)) (l .bytes)
-
-abbrev pub recoveryRefused : Session → Refusal → Recovered
-recoveryRefused s r = record { answer = RecoveryAnswer.Refused r; session = s; ids = noIds }
-
--- ---- by the places of rows
-
-abbrev pub rowsOut : Slice → List Row
-rowsOut rows = readRows (now (rows .exit))
-
-abbrev pub replyRefused : Session → Refusal → Replied
-replyRefused s r = record { answer = RecoveryAnswer.Refused r; session = s; places = replicate 128 0 }
-
-abbrev pub idsBy : RecoveryAnswer → Ids → Ids
-idsBy (RecoveryAnswer.Refused r) ids = noIds
-idsBy (RecoveryAnswer.Report x) ids = ids
-
--- what is answered after the entries, with these ids; a refusal has none
-abbrev pub withIds : Settled → Ids → Recovered
-withIds x ids = record { answer = x .answer; session = x .session; ids = idsBy (x .answer) ids }
-
--- a report names n completed requests and m aborted ones
-abbrev pub Counts : RecoveryAnswer → ℕ → ℕ → Type 0
-Counts (RecoveryAnswer.Refused r) n m = Unit {0}
-Counts (RecoveryAnswer.Report x) n m = (x .completed ≡ n) × (x .aborted ≡ m)
+-- completions in order, then aborts; `place` says which row a token means
+unfoldable pub applyAll : Size → (ℕ → ℕ) → ReplyLists → Memory → After Verdict Memory
+applyAll z place l m =
+    let done = completeAll z place (readReturned (l .tokens) (l .completions)) (l .bytes) m in
+    onwardBy (done .result) done (abortsIn place (l .aborted))
 
 -- a recovery whose reply is in: the session without it, the recovery, and what the backend says
 abbrev pub ended : Session → Recovery → Outcome → Ended
@@ -103,7 +79,7 @@ resetBy (RecoveryKind.Reset preserve) x rows s = restoredBy (s .«recoverable_st
 unfoldable pub sessionAfter : Ended → List Row → Session
 sessionAfter e rows = marked (e .idle) if not (isWhole (e .outcome)) else resetBy (e .recovery .kind) (e .recovery) rows (e .idle)
 
--- 48 marks; 47 and 41 do not
+-- a refusal by 48 marks recovery; those by 47 and 41 do not
 unfoldable pub refusedAfter : Refusal → Session → Session
 refusedAfter r idle = marked idle if eqb (r .number) 48 else idle
 
@@ -121,55 +97,49 @@ abortReport e n m = record {
   error = e .outcome .error;
 }
 
-unfoldable pub concludedBy : Verdict → Ended → AbortReport → Ids → List Row → Recovered
-concludedBy (Verdict.Refused r) e report ids rows = recoveryRefused (refusedAfter r (e .idle)) r
-concludedBy Verdict.Pass e report ids rows = record { answer = RecoveryAnswer.Report report; session = sessionAfter e rows; ids = ids }
+abbrev pub recoveryRefused : Session → Refusal → Replied
+recoveryRefused s r = record { answer = RecoveryAnswer.Refused r; session = s; places = replicate 128 0 }
 
--- the same without ids
-unfoldable pub concludedTo : Verdict → Ended → AbortReport → List Row → Settled
-concludedTo (Verdict.Refused r) e report rows = record { answer = RecoveryAnswer.Refused r; session = refusedAfter r (e .idle) }
-concludedTo Verdict.Pass e report rows = record { answer = RecoveryAnswer.Report report; session = sessionAfter e rows }
+unfoldable pub concludedBy : Verdict → Ended → AbortReport → List ℕ → List Row → Replied
+concludedBy (Verdict.Refused r) e report places rows = recoveryRefused (refusedAfter r (e .idle)) r
+concludedBy Verdict.Pass e report places rows = record { answer = RecoveryAnswer.Report report; session = sessionAfter e rows; places = places }
 
 -- ---- the stages
 
--- the entries, then the session and the report; the ids are those of the rows before the entries
-unfoldable pub settledOf : Ended → RowLists → Memory → After Recovered Memory
-settledOf e l m =
-    let done = applyAll (e .idle .size) l m in
-    let report = abortReport e (length (l .completed)) (length (l .aborted)) in
-    after (concludedBy (done .result) e report (idLists (m .store .rows) (l .completed) (l .aborted)) (done .lent .store .rows)) (done .lent)
+-- the entries, then the session and the report, with the places of the completed rows and behind them those of the aborted ones
+unfoldable pub settledOf : Ended → (ℕ → ℕ) → ReplyLists → Memory → After Replied Memory
+settledOf e place l m =
+    let done = applyAll (e .idle .size) place l m in
+    let report = abortReport e (length (l .tokens)) (length (l .aborted)) in
+    let places = listed 128 0 (map place (l .tokens ++ l .aborted)) in
+    after (concludedBy (done .result) e report places (done .lent .store .rows)) (done .lent)
 
--- the same without ids: those are of the rows that are left, since entries leave every row its id
-pub record Settles (x : Settled) (e : Ended) (left : List Row) (l : RowLists) (m next : Memory) : Type 0 where
-  pub is : after (withIds x (idLists left (l .completed) (l .aborted))) next ≡ settledOf e l m
-  pub counts : Counts (x .answer) (length (l .completed)) (length (l .aborted))
-
--- 46: token scope, with a mark; `own` are the tokens of the affected rows
-unfoldable pub doneOf : Ended → List ℕ → List ℕ → ReplyLists → Memory → After Recovered Memory
+-- refused by 46, with a mark, if the tokens are not in scope; `own` are the tokens of the affected rows
+unfoldable pub doneOf : Ended → List ℕ → List ℕ → ReplyLists → Memory → After Replied Memory
 doneOf e affected own l m =
     after (recoveryRefused (marked (e .idle)) (refusalOf 46)) m if not (inScope (isWhole (e .outcome)) own (l .tokens ++ l .aborted)) else
-    settledOf e (rowsMeant (meant affected own) l) m
+    settledOf e (meant affected own) l m
 
--- 45, always with a mark
-unfoldable pub replyBy : RecoveryReply → Recovery → ReplyLists → Session → Memory → After Recovered Memory
+-- refused by 45, always with a mark, if the backend failed
+unfoldable pub replyBy : RecoveryReply → Recovery → ReplyLists → Session → Memory → After Replied Memory
 replyBy (RecoveryReply.Error e) x l idle m = after (recoveryRefused (marked idle) (fromBackend 45 e)) m
 replyBy (RecoveryReply.Done o) x l idle m =
     let affected = affectedOf (x .device) (x .endpoint) (m .store .rows) in
     doneOf (ended idle x o) affected (tokensOf (m .store .rows) affected) l m
 
--- 3, 49: the operation stays in flight
-unfoldable pub replySized : RecoveryReply → Recovery → ReplyLists → Session → Memory → After Recovered Memory
+-- refused by 3 if a slice has not the session's size, by 49 if the lists disagree; the operation stays in flight
+unfoldable pub replySized : RecoveryReply → Recovery → ReplyLists → Session → Memory → After Replied Memory
 replySized r x l s m =
     after (recoveryRefused s (refusalOf 3)) m if not (memoryFits (s .size) m) else
     after (recoveryRefused s (refusalOf 49)) m if not (listsAgree (length (l .tokens)) (l .completions) (length (l .bytes))) else
     replyBy r x l (withFlight s InFlight.Nothing) m
 
--- 2: no recovery is in flight
-unfoldable pub replyIn : InFlight → RecoveryReply → ReplyLists → Session → Memory → After Recovered Memory
+-- refused by 2 if no recovery is in flight
+unfoldable pub replyIn : InFlight → RecoveryReply → ReplyLists → Session → Memory → After Replied Memory
 replyIn InFlight.Nothing r l s m = after (recoveryRefused s (refusalOf 2)) m
 replyIn (InFlight.Submission id) r l s m = after (recoveryRefused s (refusalOf 2)) m
 replyIn (InFlight.Poll id) r l s m = after (recoveryRefused s (refusalOf 2)) m
 replyIn (InFlight.Recovery x) r l s m = replySized r x l s m
 
-unfoldable pub recoveryReplyOf : RecoveryReply → ReplyLists → Session → Memory → After Recovered Memory
+unfoldable pub recoveryReplyOf : RecoveryReply → ReplyLists → Session → Memory → After Replied Memory
 recoveryReplyOf r l s m = replyIn (s .«in_flight») r l s m

@@ -1,15 +1,15 @@
 // The entries of a reply, applied one after the other to the rows at their places.
 use checks::completion;
 use checks::completion::CompletionTest;
+use ledger::Applied;
 use models::BackendCompletion;
 use models::Verdict;
 use rules::Change;
-use rules::Step;
 use scope::returned;
 use scope::returned::Brought;
 use scope::tokens;
 use session::Size;
-use words::slices;
+use session::sizes;
 ghost use mathlib.Core.Path.{_≡_};
 ghost use Prim.Native.Nat.{_+_, _<_, _≤_};
 ghost use mathlib.Core.List.{_++_, map};
@@ -17,36 +17,39 @@ ghost use lib.ListN.{length, take};
 ghost use Rattle.chain.specs.After.{after};
 ghost use Rattle.chain.specs.Lists.{listed};
 ghost use Rattle.rows.specs.Table.{readRows};
+ghost use Rattle.scope.specs.Returned.{readReturned};
 ghost use Rattle.scope.specs.Scope.{Rises, meant};
+ghost use Rattle.rules.specs.declared.Change.the-variants as Change;
+ghost use Rattle.ledger.specs.Apply.{changedAt};
 ghost use Rattle.session.specs.Lent.{storeIn, storeOut, memoryIn, memoryOut};
-ghost use Rattle.recovery.specs.Entries.{rowCompletedBy, completeOne, abortOne, readEntries, completeAll, abortAll};
+ghost use Rattle.recovery.specs.Entries.{rowCompletedBy, completeOne, abortOne, itself, completeAll, abortAll};
 ghost use Rattle.recovery.specs.Places.{Below, Fit, Places, Agree};
 
-// The one place where a completion changes rows and area. 41: the row is Failed.
+// The one place where a completion changes rows and area. Refuses by 41 if the row is Failed.
 fn complete_row(
-    step: Step,
     rows: &mut [u64],
     area: &mut [u8],
     size: Size,
     i: usize,
+    actual: u64,
+    code: u32,
     bytes: &[u8],
 ) -> Verdict
     requires { ⌜ Fit size (now rows) (now area) × (i < length (readRows (now rows))) ⌝ }
     ensures { λ r. ⌜ after r (memoryOut rows area)
-        ≡ rowCompletedBy step size i (now (bytes .entry)) (memoryIn rows area) ⌝ }
+        ≡ rowCompletedBy (changedAt i (Change.Complete actual code) (storeIn rows)) size i (now (bytes .entry)) (now (area .entry)) ⌝ }
 {
-    match step {
-        Step::Refused(refusal) => Verdict::Refused(refusal),
-        Step::To(next, _) => {
-            let room = size.row_bytes as usize;
-            rows::write_row(rows, i, next);
-            slices::copy_cut(area, i * room, room, bytes);
+    let applied = ledger::change_at(rows, i, Change::Complete(actual, code));
+    match applied {
+        Applied::Refused(refusal) => Verdict::Refused(refusal),
+        Applied::Done(_) => {
+            sizes::put_data(area, size, i, bytes);
             Verdict::Pass
         }
     }
 }
 
-// 47: no length; 48: not valid; 41.
+// Refuses by 47 if the completion has no length, by 48 if it is not valid, by 41 if the row is Failed.
 fn complete_one(
     rows: &mut [u64],
     area: &mut [u8],
@@ -70,10 +73,7 @@ fn complete_one(
     match test {
         CompletionTest::MissingLength => Verdict::Refused(models::refuse(47)),
         CompletionTest::Invalid => Verdict::Refused(models::refuse_completion(code)),
-        CompletionTest::Valid(actual, n) => {
-            let step = rules::change_row(row, Change::Complete(actual, n));
-            complete_row(step, rows, area, size, i, bytes)
-        }
+        CompletionTest::Valid(actual, n) => { complete_row(rows, area, size, i, actual, n, bytes) }
     }
 }
 
@@ -142,7 +142,7 @@ pub(crate) fn complete_all(
 ) -> Verdict
     requires { ⌜ Places size (now rows) (now area) (now places) × Agree (now places) (now completions) (now bytes) ⌝ }
     ensures { λ r. ⌜ after r (memoryOut rows area)
-        ≡ completeAll size (readEntries (now (places .entry)) (now (completions .entry))) (now (bytes .entry))
+        ≡ completeAll size itself (readReturned (now (places .entry)) (now (completions .entry))) (now (bytes .entry))
         (memoryIn rows area) ⌝ }
 {
     let n = places.len();
@@ -165,21 +165,17 @@ fn abort_one(rows: &mut [u64], i: usize) -> Verdict
     requires { ⌜ i < length (readRows (now rows)) ⌝ }
     ensures { λ r. ⌜ after r (storeOut rows) ≡ abortOne i (storeIn rows) ⌝ }
 {
-    let row = rows::read_row(rows, i);
-    let step = rules::change_row(row, Change::ConfirmAbort);
-    match step {
-        Step::Refused(refusal) => Verdict::Refused(refusal),
-        Step::To(next, _) => {
-            rows::write_row(rows, i, next);
-            Verdict::Pass
-        }
+    let applied = ledger::change_at(rows, i, Change::ConfirmAbort);
+    match applied {
+        Applied::Refused(refusal) => Verdict::Refused(refusal),
+        Applied::Done(_) => Verdict::Pass,
     }
 }
 
 // The aborts of the rows at the places, in order.
 pub(crate) fn abort_all(rows: &mut [u64], places: &[usize]) -> Verdict
     requires { ⌜ Below (now rows) (now places) ⌝ }
-    ensures { λ r. ⌜ after r (storeOut rows) ≡ abortAll (now (places .entry)) (storeIn rows) ⌝ }
+    ensures { λ r. ⌜ after r (storeOut rows) ≡ abortAll itself (now (places .entry)) (storeIn rows) ⌝ }
 {
     let n = places.len();
     let mut j = 0;

@@ -7,9 +7,9 @@ use models::RequestId;
 use session::Recovery;
 use session::Session;
 
-mod entries;
-pub mod recover;
-pub mod recovery_reply;
+mod entries; // entries.rt: a reply's entries, applied in order
+pub mod recover; // recover.rt: the start: abort, or reset of an endpoint
+pub mod recovery_reply; // recovery_reply.rt: the backend's reply, by row indices and by request ids
 
 pub enum BeginAnswer {
     Refused(Refusal),
@@ -64,7 +64,7 @@ pub struct Recovered {
     pub ids: Ids,
 }
 
-// The same by the places of rows: in the first of them those of the completed requests, then those of the aborted ones.
+// A recovery's result by row index: completed rows first, then aborted ones; the rest, and all of a refusal's, are 0.
 pub struct Replied {
     pub answer: RecoveryAnswer,
     pub session: Session,

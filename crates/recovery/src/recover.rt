@@ -66,7 +66,7 @@ fn begin(session: Session, rows: &[u64], recovery: Recovery) -> Begun
     }
 }
 
-// 43: not held; 44: not Initialized or RecoveryRequired.
+// Refuses by 43 if the request is not held, by 44 if the controller is neither Initialized nor RecoveryRequired.
 fn begin_row(session: Session, rows: &[u64], row: Row, id: RequestId, kind: RecoveryKind) -> Begun
     ensures { λ r. ⌜ r ≡ beginRow id kind row session (rowsIn rows) ⌝ }
 {
@@ -82,9 +82,10 @@ fn begin_row(session: Session, rows: &[u64], row: Row, id: RequestId, kind: Reco
     begin(session, rows, recovery)
 }
 
-// 1, 3, 40, then by the row.
+// Refuses by 1 while an operation waits for its reply, by 3 if the rows have not the session's size, by 40 if none has the id.
 fn begin_recovery(session: Session, rows: &[u64], id: RequestId, kind: RecoveryKind) -> Begun
-    ensures { λ r. ⌜ (r ≡ recoverOf id kind session (storeIn rows)) × Tabled recoverNumbers (beginSaid (r .answer)) ⌝ }
+    ensures step { λ r. ⌜ r ≡ recoverOf id kind session (storeIn rows) ⌝ }
+    ensures table { λ r. ⌜ Tabled recoverNumbers (beginSaid (r .answer)) ⌝ }
 {
     let verdict = start::rows_ready(session, rows.len());
     match verdict {
@@ -101,8 +102,8 @@ fn begin_recovery(session: Session, rows: &[u64], id: RequestId, kind: RecoveryK
 }
 
 pub fn abort_request(session: Session, rows: &[u64], target: RequestId) -> Begun
-    ensures { λ r. ⌜ (r ≡ recoverOf target RecoveryKind.Abort session (storeIn rows))
-        × Tabled recoverNumbers (beginSaid (r .answer)) ⌝ }
+    ensures step { λ r. ⌜ r ≡ recoverOf target RecoveryKind.Abort session (storeIn rows) ⌝ }
+    ensures table { λ r. ⌜ Tabled recoverNumbers (beginSaid (r .answer)) ⌝ }
 {
     begin_recovery(session, rows, target, RecoveryKind::Abort)
 }
@@ -113,8 +114,8 @@ pub fn reset_endpoint_request(
     target: RequestId,
     preserve: bool,
 ) -> Begun
-    ensures { λ r. ⌜ (r ≡ recoverOf target (RecoveryKind.Reset preserve) session (storeIn rows))
-        × Tabled recoverNumbers (beginSaid (r .answer)) ⌝ }
+    ensures step { λ r. ⌜ r ≡ recoverOf target (RecoveryKind.Reset preserve) session (storeIn rows) ⌝ }
+    ensures table { λ r. ⌜ Tabled recoverNumbers (beginSaid (r .answer)) ⌝ }
 {
     begin_recovery(session, rows, target, RecoveryKind::Reset(preserve))
 }

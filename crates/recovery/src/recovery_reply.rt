@@ -33,14 +33,15 @@ ghost use lib.ListN.{length, take, drop};
 ghost use Rattle.chain.specs.After.{after};
 ghost use Rattle.chain.specs.Lists.{listed};
 ghost use Rattle.models.specs.Refusals.{refusalOf};
+ghost use Rattle.models.specs.Requests.{noId};
 ghost use Rattle.models.specs.Said.{Tabled};
 ghost use Rattle.scope.specs.Scope.{meant};
 ghost use Rattle.session.specs.Lent.{rowsIn, memoryIn, memoryOut};
-ghost use Rattle.recovery.specs.Entries.{rowLists, rowListsIn, applyAll};
+ghost use Rattle.recovery.specs.Entries.{itself};
 ghost use Rattle.recovery.specs.Places.{Below, Fit, Places, Agree};
 ghost use Rattle.recovery.specs.declared.RecoveryReply.the-variants as RecoveryReply;
-ghost use Rattle.recovery.specs.Reports.{noId, idsOf, noIds, from, idLists, manyIn, filled};
-ghost use Rattle.recovery.specs.RecoveryReply.{listsIn, rowsOut, rowsMeant, replyRefused, Settles, isWhole, isRevision, matching, restoredBy, resetBy, sessionAfter, refusedAfter, abortReport, concludedTo, settledOf, doneOf, replyBy, replySized, recoveryReplyOf};
+ghost use Rattle.recovery.specs.Reports.{idsOf, idLists, manyIn, filled, withIds};
+ghost use Rattle.recovery.specs.RecoveryReply.{replyLists, listsIn, applyAll, isWhole, isRevision, matching, restoredBy, resetBy, sessionAfter, refusedAfter, abortReport, recoveryRefused, concludedBy, settledOf, doneOf, replyBy, replySized, recoveryReplyOf};
 ghost use Rattle.recovery.specs.Said.{recoverySaid, recoveryReplyNumbers};
 
 // A recovery whose reply is in: the session without it, the recovery, and what the backend says.
@@ -50,24 +51,8 @@ pub struct Ended {
     pub outcome: Outcome,
 }
 
-// What is answered after the entries.
-pub struct Settled {
-    pub answer: RecoveryAnswer,
-    pub session: Session,
-}
-
-fn no_id() -> RequestId
-    ensures { λ r. ⌜ r ≡ noId ⌝ }
-{
-    RequestId {
-        session: 0,
-        generation: 0,
-        sequence: 0,
-    }
-}
-
 fn refused(session: Session, refusal: Refusal) -> Replied
-    ensures { λ r. ⌜ r ≡ replyRefused session refusal ⌝ }
+    ensures { λ r. ⌜ r ≡ recoveryRefused session refusal ⌝ }
 {
     Replied {
         answer: RecoveryAnswer::Refused(refusal),
@@ -77,7 +62,7 @@ fn refused(session: Session, refusal: Refusal) -> Replied
 }
 
 fn refused_by(session: Session, number: u16) -> Replied
-    ensures { λ r. ⌜ r ≡ replyRefused session (refusalOf number) ⌝ }
+    ensures { λ r. ⌜ r ≡ recoveryRefused session (refusalOf number) ⌝ }
 {
     refused(session, models::refuse(number))
 }
@@ -154,7 +139,7 @@ fn session_after(ended: Ended, rows: &[u64]) -> Session
     reset(recovery, rows, idle)
 }
 
-// 48 marks; 47 and 41 do not.
+// A refusal by 48 marks recovery; those by 47 and 41 do not.
 fn refused_after(refusal: Refusal, idle: Session) -> Session
     ensures { λ r. ⌜ r ≡ refusedAfter refusal idle ⌝ }
 {
@@ -187,7 +172,7 @@ fn ids_of(rows: &[u64], places: &[usize]) -> [RequestId; 128]
     ensures { λ r. ⌜ r ≡ listed 128 noId (idsOf (rowsIn rows) (now (places .entry))) ⌝ }
 {
     let n = slices::least(places.len(), 128);
-    let none = no_id();
+    let none = models::no_id();
     let mut ids = [none; 128];
     let mut k = 0;
     while k < n {
@@ -197,103 +182,51 @@ fn ids_of(rows: &[u64], places: &[usize]) -> [RequestId; 128]
     ids
 }
 
-fn id_lists(rows: &[u64], places: &[usize], n: usize) -> Ids
-    requires { ⌜ n ≤ length (now places) ⌝ }
-    ensures { λ r. ⌜ r ≡ idLists (rowsIn rows) (take n (now (places .entry))) (from n (now (places .entry))) ⌝ }
-{
-    let completed = &places[..n];
-    let aborted = &places[n..];
-    let first = ids_of(rows, completed);
-    let second = ids_of(rows, aborted);
-    Ids {
-        completed: first,
-        aborted: second,
-    }
-}
-
-// The completions in order, then the aborts.
+// The completions of the first n rows, in order, then the aborts of the others.
 fn apply_all(
     rows: &mut [u64],
     area: &mut [u8],
     size: Size,
-    completed: &[usize],
-    aborted: &[usize],
-    completions: &[u64],
-    bytes: &[u8],
-) -> Verdict
-    requires { ⌜ Places size (now rows) (now area) (now completed) × Below (now rows) (now aborted)
-        × Agree (now completed) (now completions) (now bytes) ⌝ }
-    ensures { λ r. ⌜ after r (memoryOut rows area)
-        ≡ applyAll size (rowListsIn completed completions aborted bytes) (memoryIn rows area) ⌝ }
-{
-    let verdict = entries::complete_all(rows, area, size, completed, completions, bytes);
-    let Verdict::Pass = verdict else {
-        return verdict;
-    };
-    entries::abort_all(rows, aborted)
-}
-
-// The refusal of an entry, or the report.
-fn conclude(verdict: Verdict, ended: Ended, rows: &[u64], report: AbortReport) -> Settled
-    ensures { λ r. ⌜ r ≡ concludedTo verdict ended report (rowsIn rows) ⌝ }
-{
-    let idle = ended.idle;
-    match verdict {
-        Verdict::Refused(refusal) => Settled {
-            answer: RecoveryAnswer::Refused(refusal),
-            session: refused_after(refusal, idle),
-        },
-        Verdict::Pass => Settled {
-            answer: RecoveryAnswer::Report(report),
-            session: session_after(ended, rows),
-        },
-    }
-}
-
-// The entries, by the places of their rows, then the session and the report.
-fn settle(
-    ended: Ended,
-    rows: &mut [u64],
-    area: &mut [u8],
-    completed: &[usize],
-    aborted: &[usize],
-    completions: &[u64],
-    bytes: &[u8],
-) -> Settled
-    requires { ⌜ Places (ended .idle .size) (now rows) (now area) (now completed) × Below (now rows) (now aborted)
-        × Agree (now completed) (now completions) (now bytes) ⌝ }
-    ensures { λ r. ⌜ Settles r ended (rowsOut rows) (rowListsIn completed completions aborted bytes)
-        (memoryIn rows area) (memoryOut rows area) ⌝ }
-{
-    let idle = ended.idle;
-    let size = idle.size;
-    let report = report_of(ended, completed.len() as u64, aborted.len() as u64);
-    let verdict = apply_all(rows, area, size, completed, aborted, completions, bytes);
-    conclude(verdict, ended, rows, report)
-}
-
-// The same in a list of places: the first n are completed, the others aborted.
-fn settle_places(
-    ended: Ended,
-    rows: &mut [u64],
-    area: &mut [u8],
     places: &[usize],
     n: usize,
     completions: &[u64],
     bytes: &[u8],
-) -> Settled
-    requires { ⌜ (n ≤ length (now places)) × Places (ended .idle .size) (now rows) (now area) (take n (now places))
-        × Below (now rows) (from n (now places)) × Agree (take n (now places)) (now completions) (now bytes) ⌝ }
-    ensures { λ r. ⌜ Settles r ended (rowsOut rows) (rowLists (take n (now (places .entry))) (now (completions .entry))
-        (from n (now (places .entry))) (now (bytes .entry))) (memoryIn rows area) (memoryOut rows area) ⌝ }
+) -> Verdict
+    requires { ⌜ (n ≤ length (now places)) × Places size (now rows) (now area) (take n (now places))
+        × Below (now rows) (drop n (now places)) × Agree (take n (now places)) (now completions) (now bytes) ⌝ }
+    ensures { λ r. ⌜ after r (memoryOut rows area) ≡ applyAll size itself (replyLists (take n (now (places .entry)))
+        (now (completions .entry)) (drop n (now (places .entry))) (now (bytes .entry))) (memoryIn rows area) ⌝ }
 {
-    let completed = &places[..n];
-    let aborted = &places[n..];
-    settle(ended, rows, area, completed, aborted, completions, bytes)
+    let verdict = entries::complete_all(rows, area, size, &places[..n], completions, bytes);
+    let Verdict::Pass = verdict else {
+        return verdict;
+    };
+    entries::abort_all(rows, &places[n..])
 }
 
-// The tokens are in scope.
-fn reply_scoped(
+// The refusal of an entry, or the report with the places of its rows.
+fn conclude(
+    verdict: Verdict,
+    ended: Ended,
+    rows: &[u64],
+    report: AbortReport,
+    places: [usize; 128],
+) -> Replied
+    ensures { λ r. ⌜ r ≡ concludedBy verdict ended report places (rowsIn rows) ⌝ }
+{
+    let idle = ended.idle;
+    match verdict {
+        Verdict::Refused(refusal) => refused(refused_after(refusal, idle), refusal),
+        Verdict::Pass => Replied {
+            answer: RecoveryAnswer::Report(report),
+            session: session_after(ended, rows),
+            places,
+        },
+    }
+}
+
+// The tokens are in scope: the entries at the rows that they mean, then the session and the report.
+fn settle(
     ended: Ended,
     rows: &mut [u64],
     area: &mut [u8],
@@ -307,24 +240,21 @@ fn reply_scoped(
     requires { ⌜ Places (ended .idle .size) (now rows) (now area) (now affected)
         × Agree (now tokens) (now completions) (now bytes)
         × (length (now tokens) + length (now aborted) ≤ 128) ⌝ }
-    ensures { λ r. ⌜ after (filled r (rowsOut rows)) (memoryOut rows area)
-        ≡ settledOf ended (rowsMeant (meant (now (affected .entry)) (now (own .entry)))
-        (listsIn tokens completions aborted bytes)) (memoryIn rows area) ⌝ }
+    ensures { λ r. ⌜ after r (memoryOut rows area)
+        ≡ settledOf ended (meant (now (affected .entry)) (now (own .entry)))
+        (listsIn tokens completions aborted bytes) (memoryIn rows area) ⌝ }
 {
+    let idle = ended.idle;
+    let size = idle.size;
     let places = entries::places_of(affected, own, tokens, aborted);
     let n = tokens.len();
     let end = n + aborted.len();
-    let settled = settle_places(ended, rows, area, &places[..end], n, completions, bytes);
-    let answer = settled.answer;
-    let session = settled.session;
-    Replied {
-        answer,
-        session,
-        places,
-    }
+    let report = report_of(ended, n as u64, aborted.len() as u64);
+    let verdict = apply_all(rows, area, size, &places[..end], n, completions, bytes);
+    conclude(verdict, ended, rows, report, places)
 }
 
-// 46: token scope, with a mark.
+// Refuses by 46, with a mark, if the tokens are not in scope.
 fn reply_affected(
     ended: Ended,
     rows: &mut [u64],
@@ -339,7 +269,7 @@ fn reply_affected(
     requires { ⌜ Places (ended .idle .size) (now rows) (now area) (now affected)
         × Agree (now tokens) (now completions) (now bytes)
         × (length (now own) ≤ 128) ⌝ }
-    ensures { λ r. ⌜ after (filled r (rowsOut rows)) (memoryOut rows area)
+    ensures { λ r. ⌜ after r (memoryOut rows area)
         ≡ doneOf ended (now (affected .entry)) (now (own .entry)) (listsIn tokens completions aborted bytes)
         (memoryIn rows area) ⌝ }
 {
@@ -349,7 +279,7 @@ fn reply_affected(
     if !tokens::in_scope(whole, own, tokens, aborted) {
         return refused_by(session::mark(idle), 46);
     }
-    reply_scoped(
+    settle(
         ended,
         rows,
         area,
@@ -373,7 +303,7 @@ fn reply_done(
     bytes: &[u8],
 ) -> Replied
     requires { ⌜ Fit (ended .idle .size) (now rows) (now area) × Agree (now tokens) (now completions) (now bytes) ⌝ }
-    ensures { λ r. ⌜ after (filled r (rowsOut rows)) (memoryOut rows area)
+    ensures { λ r. ⌜ after r (memoryOut rows area)
         ≡ replyBy (RecoveryReply.Done (ended .outcome)) (ended .recovery) (listsIn tokens completions aborted bytes)
         (ended .idle) (memoryIn rows area) ⌝ }
 {
@@ -395,7 +325,7 @@ fn reply_done(
     )
 }
 
-// 45, always with a mark.
+// Refuses by 45, always with a mark, if the backend failed.
 fn reply_to(
     idle: Session,
     rows: &mut [u64],
@@ -408,7 +338,7 @@ fn reply_to(
     bytes: &[u8],
 ) -> Replied
     requires { ⌜ Fit (idle .size) (now rows) (now area) × Agree (now tokens) (now completions) (now bytes) ⌝ }
-    ensures { λ r. ⌜ after (filled r (rowsOut rows)) (memoryOut rows area)
+    ensures { λ r. ⌜ after r (memoryOut rows area)
         ≡ replyBy reply recovery (listsIn tokens completions aborted bytes) idle (memoryIn rows area) ⌝ }
 {
     match reply {
@@ -426,7 +356,7 @@ fn reply_to(
     }
 }
 
-// 3; 49: the lists disagree. The operation stays in flight.
+// Refuses by 3 if a slice has not the session's size, by 49 if the lists disagree; the recovery goes on waiting.
 fn reply_sized(
     session: Session,
     rows: &mut [u64],
@@ -438,7 +368,7 @@ fn reply_sized(
     aborted: &[u64],
     bytes: &[u8],
 ) -> Replied
-    ensures { λ r. ⌜ after (filled r (rowsOut rows)) (memoryOut rows area)
+    ensures { λ r. ⌜ after r (memoryOut rows area)
         ≡ replySized reply recovery (listsIn tokens completions aborted bytes) session (memoryIn rows area) ⌝ }
 {
     let size = session.size;
@@ -462,7 +392,7 @@ fn reply_sized(
     )
 }
 
-// 2: no recovery is in flight; 3; 49. Else the operation ends.
+// The reply by row indices. Refuses by 2 if no recovery waits for one.
 pub fn reply_by_places(
     session: Session,
     rows: &mut [u64],
@@ -473,8 +403,9 @@ pub fn reply_by_places(
     aborted: &[u64],
     bytes: &[u8],
 ) -> Replied
-    ensures { λ r. ⌜ after (filled r (rowsOut rows)) (memoryOut rows area)
+    ensures step { λ r. ⌜ after r (memoryOut rows area)
         ≡ recoveryReplyOf reply (listsIn tokens completions aborted bytes) session (memoryIn rows area) ⌝ }
+    ensures table { λ r. ⌜ Tabled recoveryReplyNumbers (recoverySaid (r .answer)) ⌝ }
 {
     let flight = session.in_flight;
     match flight {
@@ -495,26 +426,18 @@ pub fn reply_by_places(
     }
 }
 
-fn no_ids() -> Ids
-    ensures { λ r. ⌜ r ≡ noIds ⌝ }
-{
-    let none = no_id();
-    Ids {
-        completed: [none; 128],
-        aborted: [none; 128],
-    }
-}
-
 // The ids of the rows at the first n places, and at the next m.
 fn ids_at(rows: &[u64], places: [usize; 128], n: usize, m: usize) -> Ids
     requires { ⌜ n + m ≤ 128 ⌝ }
     ensures { λ r. ⌜ r ≡ idLists (rowsIn rows) (take n places) (take m (drop n places)) ⌝ }
 {
     let end = n + m;
-    id_lists(rows, &places[..end], n)
+    let completed = ids_of(rows, &places[..n]);
+    let aborted = ids_of(rows, &places[n..end]);
+    Ids { completed, aborted }
 }
 
-// By the answer; a refusal has none.
+// Adds the ids of the rows at `places`; a refusal has none.
 fn fill(rows: &[u64], replied: Replied) -> Recovered
     requires { ⌜ manyIn (replied .answer) ≤ 128 ⌝ }
     ensures { λ r. ⌜ r ≡ filled replied (rowsIn rows) ⌝ }
@@ -526,7 +449,7 @@ fn fill(rows: &[u64], replied: Replied) -> Recovered
         RecoveryAnswer::Refused(_) => Recovered {
             answer,
             session,
-            ids: no_ids(),
+            ids: ids_at(rows, places, 0, 0),
         },
         RecoveryAnswer::Report(report) => {
             let ids = ids_at(
@@ -544,7 +467,7 @@ fn fill(rows: &[u64], replied: Replied) -> Recovered
     }
 }
 
-// The same with ids.
+// `reply_by_places`, the result listing request ids instead of row indices.
 pub fn recovery_reply(
     session: Session,
     rows: &mut [u64],
@@ -555,9 +478,9 @@ pub fn recovery_reply(
     aborted: &[u64],
     bytes: &[u8],
 ) -> Recovered
-    ensures { λ r. ⌜ (after r (memoryOut rows area)
-        ≡ recoveryReplyOf reply (listsIn tokens completions aborted bytes) session (memoryIn rows area))
-        × Tabled recoveryReplyNumbers (recoverySaid (r .answer)) ⌝ }
+    ensures step { λ r. ⌜ after r (memoryOut rows area)
+        ≡ withIds (recoveryReplyOf reply (listsIn tokens completions aborted bytes) session (memoryIn rows area)) ⌝ }
+    ensures table { λ r. ⌜ Tabled recoveryReplyNumbers (recoverySaid (r .answer)) ⌝ }
 {
     let replied = reply_by_places(
         session,

@@ -1,4 +1,5 @@
-// Cancel, its withdrawal, timeout and reclaim: 1, 3, 40, then 41, 42 or 59.
+// Cancel, its withdrawal, timeout and reclaim. Each refuses by 1 while an operation waits for its reply, by 3 if the rows have not the
+// session's size, by 40 if no row has the id, then by its rule.
 use crate::ReportAnswer;
 use crate::Reported;
 use crate::answers;
@@ -42,31 +43,31 @@ fn change_request(session: Session, rows: &mut [u64], id: RequestId, change: Cha
 }
 
 pub fn logical_cancel_request(session: Session, rows: &mut [u64], id: RequestId) -> Reported
-    ensures { λ r. ⌜ (after r (storeOut rows) ≡ changeOf id Change.LogicalCancel session (storeIn rows))
-        × Tabled cancelNumbers (reportSaid (r .answer)) ⌝ }
+    ensures step { λ r. ⌜ after r (storeOut rows) ≡ changeOf id Change.LogicalCancel session (storeIn rows) ⌝ }
+    ensures table { λ r. ⌜ Tabled cancelNumbers (reportSaid (r .answer)) ⌝ }
 {
     change_request(session, rows, id, Change::LogicalCancel)
 }
 
 // Takes back a cancel of a request that is Pending. It looks at no controller state.
 pub fn withdraw_cancel_request(session: Session, rows: &mut [u64], id: RequestId) -> Reported
-    ensures { λ r. ⌜ (after r (storeOut rows) ≡ changeOf id Change.WithdrawCancel session (storeIn rows))
-        × Tabled withdrawNumbers (reportSaid (r .answer)) ⌝ }
+    ensures step { λ r. ⌜ after r (storeOut rows) ≡ changeOf id Change.WithdrawCancel session (storeIn rows) ⌝ }
+    ensures table { λ r. ⌜ Tabled withdrawNumbers (reportSaid (r .answer)) ⌝ }
 {
     change_request(session, rows, id, Change::WithdrawCancel)
 }
 
 pub fn timeout_request(session: Session, rows: &mut [u64], id: RequestId) -> Reported
-    ensures { λ r. ⌜ (after r (storeOut rows) ≡ changeOf id Change.Timeout session (storeIn rows))
-        × Tabled cancelNumbers (reportSaid (r .answer)) ⌝ }
+    ensures step { λ r. ⌜ after r (storeOut rows) ≡ changeOf id Change.Timeout session (storeIn rows) ⌝ }
+    ensures table { λ r. ⌜ Tabled cancelNumbers (reportSaid (r .answer)) ⌝ }
 {
     change_request(session, rows, id, Change::Timeout)
 }
 
 // The report is of the request as it was; its row is free.
 pub fn reclaim_request(session: Session, rows: &mut [u64], id: RequestId) -> Reported
-    ensures { λ r. ⌜ (after r (storeOut rows) ≡ changeOf id Change.Reclaim session (storeIn rows))
-        × Tabled reclaimNumbers (reportSaid (r .answer)) ⌝ }
+    ensures step { λ r. ⌜ after r (storeOut rows) ≡ changeOf id Change.Reclaim session (storeIn rows) ⌝ }
+    ensures table { λ r. ⌜ Tabled reclaimNumbers (reportSaid (r .answer)) ⌝ }
 {
     change_request(session, rows, id, Change::Reclaim)
 }

@@ -4,10 +4,10 @@ use models::RequestId;
 use models::RequestReport;
 use session::Session;
 
-pub mod answers;
-pub mod change;
-pub mod scan;
-pub mod status;
+pub mod answers; // answers.rt: refusals with the session they leave, and what a backend's error marks
+pub mod change; // change.rt: cancel, its withdrawal, timeout and reclaim
+pub mod scan; // scan.rt: reports in the order of the rows
+pub mod status; // status.rt: reports by id, completed bytes and tallies
 
 // A report, or the refusal.
 pub enum ReportAnswer {

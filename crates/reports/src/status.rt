@@ -49,9 +49,10 @@ fn find_shown(rows: &[u64], flight: InFlight, id: RequestId) -> Found
     search::find(rows, id)
 }
 
-// 3; 40: no row has the id, or its submission is in flight.
+// Refuses by 3 if the rows have not the session's size, as all here do; by 40 if no row has the id or its submission is in flight.
 pub fn request_status(session: Session, rows: &[u64], id: RequestId) -> ReportAnswer
-    ensures { λ r. ⌜ (r ≡ statusOf id session (storeIn rows)) × Tabled statusNumbers (reportSaid r) ⌝ }
+    ensures step { λ r. ⌜ r ≡ statusOf id session (storeIn rows) ⌝ }
+    ensures table { λ r. ⌜ Tabled statusNumbers (reportSaid r) ⌝ }
 {
     let flight = session.in_flight;
     let size = session.size;
@@ -66,8 +67,8 @@ pub fn request_status(session: Session, rows: &[u64], id: RequestId) -> ReportAn
     ReportAnswer::Report(rules::report_of(row))
 }
 
-// Row i is a request that has a report.
-fn is_shown(rows: &[u64], i: usize, flight: InFlight) -> bool
+// Row i is a request that has a report. Of a free row no id is read.
+pub(crate) fn is_shown(rows: &[u64], i: usize, flight: InFlight) -> bool
     requires { ⌜ i < length (readRows (now rows)) ⌝ }
     ensures { λ r. ⌜ r ≡ isShown flight (rowIn (rowsIn rows) i) ⌝ }
 {
@@ -117,9 +118,10 @@ fn better_of(rows: &[u64], best: Found, i: usize, flight: InFlight, after: Optio
     best
 }
 
-// 3; the report with the least id, or the least after an id. The row of a submission in flight is left out.
+// The report with the least id, or the least after an id. The row of a submission in flight is left out.
 pub fn request_reports(session: Session, rows: &[u64], after: OptionId) -> NextReport
-    ensures { λ r. ⌜ (r ≡ nextOf after session (storeIn rows)) × Tabled tallyNumbers (nextSaid r) ⌝ }
+    ensures step { λ r. ⌜ r ≡ nextOf after session (storeIn rows) ⌝ }
+    ensures table { λ r. ⌜ Tabled tallyNumbers (nextSaid r) ⌝ }
 {
     let flight = session.in_flight;
     let size = session.size;
@@ -171,9 +173,10 @@ fn count_shown(rows: &[u64], flight: InFlight) -> u64
     total
 }
 
-// 3; how many requests have a report.
+// How many requests have a report.
 pub fn count_reports(session: Session, rows: &[u64]) -> Tally
-    ensures { λ r. ⌜ (r ≡ shownCount session (storeIn rows)) × Tabled tallyNumbers (tallySaid r) ⌝ }
+    ensures step { λ r. ⌜ r ≡ shownCount session (storeIn rows) ⌝ }
+    ensures table { λ r. ⌜ Tabled tallyNumbers (tallySaid r) ⌝ }
 {
     let flight = session.in_flight;
     let size = session.size;
@@ -203,9 +206,10 @@ fn cut(length: u64, room: u64) -> u64
     room
 }
 
-// 3; 40 as `request_status`; else where the bytes of a request that is Completed now stand, and an empty part of any other.
+// Where the bytes of a request stand that is Completed now; an empty part of any other. Refuses by 40 as `request_status`.
 pub fn completed_part(session: Session, rows: &[u64], bytes: usize, id: RequestId) -> PartAnswer
-    ensures { λ r. ⌜ (r ≡ completedPart id bytes session (storeIn rows)) × Tabled statusNumbers (partSaid r) ⌝ }
+    ensures step { λ r. ⌜ r ≡ completedPart id bytes session (storeIn rows) ⌝ }
+    ensures table { λ r. ⌜ Tabled statusNumbers (partSaid r) ⌝ }
 {
     let flight = session.in_flight;
     let size = session.size;
@@ -218,9 +222,9 @@ pub fn completed_part(session: Session, rows: &[u64], bytes: usize, id: RequestI
     };
     let row = rows::read_row(rows, i);
     let state = row.state;
-    let room = size.row_bytes;
-    let start = i as u64 * room;
-    let length = cut(completed_length(state), room);
+    let place = sizes::place_of(size, i);
+    let start = place.start as u64;
+    let length = cut(completed_length(state), size.row_bytes);
     PartAnswer::Part(Part { start, length })
 }
 
@@ -255,9 +259,10 @@ pub fn completed_bytes<'a>(
     id: RequestId,
     number: &mut u16,
 ) -> &'a [u8]
-    ensures { λ r. ⌜ (now r
-        ≡ bytesOf (completedPart id (length (now (area .entry))) session (storeIn rows)) (now (area .entry)))
-        × (now (number .exit) ≡ partNumber (completedPart id (length (now (area .entry))) session (storeIn rows))) ⌝ }
+    ensures part { λ r. ⌜ now r
+        ≡ bytesOf (completedPart id (length (now (area .entry))) session (storeIn rows)) (now (area .entry)) ⌝ }
+    ensures refusal { λ r. ⌜ now (number .exit)
+        ≡ partNumber (completedPart id (length (now (area .entry))) session (storeIn rows)) ⌝ }
 {
     let answer = completed_part(session, rows, area.len(), id);
     *number = number_of(answer);
@@ -267,9 +272,10 @@ pub fn completed_bytes<'a>(
     &area[at..end]
 }
 
-// 3; how many rows the device holds.
+// How many rows the device holds.
 pub fn held_count(session: Session, rows: &[u64]) -> HeldAnswer
-    ensures { λ r. ⌜ (r ≡ heldCountOf session (storeIn rows)) × Tabled tallyNumbers (tallySaid (tallyOf r)) ⌝ }
+    ensures step { λ r. ⌜ r ≡ heldCountOf session (storeIn rows) ⌝ }
+    ensures table { λ r. ⌜ Tabled tallyNumbers (tallySaid (tallyOf r)) ⌝ }
 {
     let size = session.size;
     if !sizes::rows_fit(size, rows.len()) {
@@ -288,9 +294,10 @@ pub fn tally_of(answer: HeldAnswer) -> Tally
     }
 }
 
-// 3; the sum of their requested lengths.
+// The sum of their requested lengths.
 pub fn held_bytes(session: Session, rows: &[u64]) -> Tally
-    ensures { λ r. ⌜ (r ≡ heldBytesOf session (storeIn rows)) × Tabled tallyNumbers (tallySaid r) ⌝ }
+    ensures step { λ r. ⌜ r ≡ heldBytesOf session (storeIn rows) ⌝ }
+    ensures table { λ r. ⌜ Tabled tallyNumbers (tallySaid r) ⌝ }
 {
     let size = session.size;
     if !sizes::rows_fit(size, rows.len()) {

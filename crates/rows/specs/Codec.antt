@@ -1,13 +1,13 @@
--- What the words of a row say, and the words that say it. Every list of words says a row. Assumes nothing.
+-- Encoding of rows as words. Decoding is total: any words give some row. Assumes nothing.
 use Prim.Native.Nat.{ℕ, _%_, _^_}
 use mathlib.Core.List.{List, [], _∷_}
 use mathlib.Core.Bool.{Bool, true, false, cond}
 use lib.ListN.{getD, take, drop}
 use lib.Dec.{eqb, ltb}
-use Rattle.words.specs.Words.{readFlag, flagWord, readOptionU32, optionU32Word, readOptionI32, optionI32Word}
+use Rattle.words.specs.Words.{readFlag, flagWord, readOptionU32, optionU32Word, optionI32Word}
 use Rattle.words.specs.declared.{OptionU32.OptionU32}
-use Rattle.models.specs.Codes.{readCategory, categoryWord, readTransfer, transferWord, readDirection, directionWord}
-use Rattle.models.specs.Values.{setupWords, setupTail}
+use Rattle.models.specs.Codes.{categoryWord, readTransfer, readDirection}
+use Rattle.models.specs.Values.{metadataTail, readErrorWords}
 use Rattle.models.specs.declared.{OperationError.OperationError, OptionSetup.OptionSetup, RequestMetadata.RequestMetadata, RequestState.RequestState, SetupWords.SetupWords}
 use Rattle.models.specs.declared.RequestState.the-variants.{Pending, Completed, Failed, Aborted}
 use Rattle.rows.specs.declared.{Row.Row, codec.StateWords.StateWords, codec.StatusWords.StatusWords}
@@ -29,9 +29,6 @@ readMetadata w = record {
   «requested_length» = getD w 6 0;
   setup = readSetupWords (getD w 7 0) (getD w 8 0) (getD w 9 0) (getD w 10 0) (getD w 11 0) (getD w 12 0);
 }
-
-abbrev pub readErrorWords : ℕ → ℕ → ℕ → ℕ → OperationError
-readErrorWords a b d e = record { category = readCategory a; message = b % 2 ^ 16; «os_code» = readOptionI32 d; «completion_code» = readOptionU32 e }
 
 -- a report's state by its words; tags: 0 Pending, 1 Completed, 2 Failed, any other Aborted
 abbrev pub readStateWords : StateWords → RequestState
@@ -125,7 +122,5 @@ statusTail s = s .a ∷ s .b ∷ s .rest ∷ s .d ∷ s .e ∷ s .f ∷ []
 unfoldable pub recordOf : Row → List ℕ
 recordOf r =
     r .id .session ∷ r .id .generation
-    ∷ r .metadata .device .session ∷ r .metadata .device .generation ∷ r .metadata .device .slot ∷ r .metadata .endpoint
-    ∷ transferWord (r .metadata .«transfer_type») ∷ directionWord (r .metadata .direction) ∷ r .metadata .«requested_length»
-    ∷ setupTail (setupWords (r .metadata .setup))
+    ∷ metadataTail (r .metadata)
     (r .token ∷ flagWord (r .«logical_cancel») ∷ flagWord (r .«timed_out») ∷ statusTail (statusWords (r .used) (r .state)))

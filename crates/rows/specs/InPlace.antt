@@ -1,20 +1,19 @@
 -- What a record says by its words, and what the changes of a Pending row in place leave. Assumes nothing.
 use Prim.Native.Nat.{ℕ}
-use mathlib.Core.List.{List}
+use mathlib.Core.List.{List, _∷_}
 use mathlib.Core.Bool.{Bool, true, false}
-use lib.ListN.{getD}
 use Rattle.models.specs.declared.{OptionSetup.OptionSetup, RequestState.RequestState}
 use Rattle.models.specs.declared.RequestState.the-variants.{Pending, Completed, Failed, Aborted}
-use Rattle.rows.specs.Codec.{readSetupWords, stateByKind, kindBy}
+use Rattle.rows.specs.Codec.{readRow}
 use Rattle.rows.specs.Table.{withState, flagged}
 use Rattle.rows.specs.declared.{Row.Row}
 
 -- the SETUP packet and the state of a row with the record w
 abbrev pub setupAt : List ℕ → OptionSetup
-setupAt w = readSetupWords (getD w 9 0) (getD w 10 0) (getD w 11 0) (getD w 12 0) (getD w 13 0) (getD w 14 0)
+setupAt w = readRow (0 ∷ 0 ∷ w) .metadata .setup
 
 abbrev pub stateAt : ℕ → List ℕ → RequestState
-stateAt status w = stateByKind (kindBy status (getD w 20 0)) (getD w 18 0) (getD w 19 0) (getD w 21 0) (getD w 22 0) (getD w 23 0)
+stateAt status w = readRow (0 ∷ status ∷ w) .state
 
 -- the two flags of a Pending state; another has none
 abbrev pub cancelIn : RequestState → Bool

@@ -24,6 +24,10 @@ rowWords = columnWords + recordWords
 unfoldable pub rowCount : List ℕ → ℕ
 rowCount l = length l / rowWords
 
+-- how many rows a scan passes at once
+abbrev pub blockRows : ℕ
+blockRows = 64
+
 -- where the record of row i of n starts
 abbrev pub recordAt : ℕ → ℕ → ℕ
 recordAt n i = n * columnWords + i * recordWords

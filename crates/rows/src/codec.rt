@@ -1,4 +1,5 @@
 // A row as words: two that stand in columns (sequence, status), and a record. Each value takes one word a field.
+use crate::RECORD_WORDS;
 use crate::Row;
 use models::DeviceId;
 use models::OperationError;
@@ -9,6 +10,7 @@ use models::RequestState;
 use models::SetupPacket;
 use models::SetupWords;
 use models::codes;
+use models::values;
 use words::OptionU32;
 ghost use mathlib.Core.Path.{_≡_};
 ghost use mathlib.Core.List.{_∷_};
@@ -16,8 +18,9 @@ ghost use mathlib.Core.Bool.{cond};
 ghost use lib.Dec.{eqb};
 ghost use lib.ListN.{length};
 ghost use Rattle.words.specs.Words.{readFlag, readOptionU32};
-ghost use Rattle.models.specs.Values.{setupWords};
-ghost use Rattle.rows.specs.Codec.{readSetupWords, setupIn, readMetadata, readStateWords, shortWords, failedWords, stateWords, readErrorWords, kindWord, stateByKind, kindBy, stateIn, rowStatusWords, statusWords, readRow, recordOf};
+ghost use Rattle.models.specs.Values.{setupWords, readErrorWords};
+ghost use Rattle.rows.specs.Codec.{readSetupWords, setupIn, readMetadata, readStateWords, shortWords, failedWords, stateWords, kindWord, stateByKind, kindBy, stateIn, rowStatusWords, statusWords, readRow, recordOf};
+ghost use Rattle.rows.specs.Table.{recordWords};
 ghost use Rattle.models.specs.declared.RequestState.the-variants as RequestState;
 
 // The kinds of a row's state: odd, where the row is held.
@@ -213,22 +216,11 @@ fn kind_word(s: RequestState) -> u64
     }
 }
 
-pub fn to_error(category: u64, message: u64, os_code: u64, code: u64) -> OperationError
-    ensures { λ r. ⌜ r ≡ readErrorWords category message «os_code» code ⌝ }
-{
-    OperationError {
-        category: codes::to_category(category),
-        message: (message % 65536) as u16,
-        os_code: words::to_option_i32(os_code),
-        completion_code: words::to_option_u32(code),
-    }
-}
-
 fn to_failed(a: u64, b: u64, d: u64, e: u64, f: u64, quiescent: bool) -> RequestState
     ensures { λ r. ⌜ r ≡ RequestState.Failed (readErrorWords a b d e) (readOptionU32 f) quiescent ⌝ }
 {
     RequestState::Failed {
-        error: to_error(a, b, d, e),
+        error: values::to_error(a, b, d, e),
         completion_code: words::to_option_u32(f),
         quiescent,
     }
@@ -324,7 +316,7 @@ pub(crate) fn kind_by(status: u64, rest: u64) -> u64
 
 // The row that its two column words and its record say.
 pub(crate) fn decode(sequence: u64, status: u64, w: &[u64]) -> Row
-    requires { ⌜ length (now w) ≡ 24 ⌝ }
+    requires { ⌜ length (now w) ≡ recordWords ⌝ }
     ensures { λ r. ⌜ r ≡ readRow (sequence ∷ status ∷ now (w .entry)) ⌝ }
 {
     let id = RequestId {
@@ -347,7 +339,7 @@ pub(crate) fn decode(sequence: u64, status: u64, w: &[u64]) -> Row
 }
 
 // The record of a row whose SETUP has the words p and whose state the words s.
-pub(crate) fn encode(r: Row, p: SetupWords, s: StatusWords) -> [u64; 24]
+pub(crate) fn encode(r: Row, p: SetupWords, s: StatusWords) -> [u64; RECORD_WORDS]
     requires { ⌜ (setupIn p ≡ r .metadata .setup) × (p ≡ setupWords (r .metadata .setup))
         × (readFlag (s .status) ≡ r .used) × (stateIn s ≡ r .state) × (s ≡ statusWords (r .used) (r .state)) ⌝ }
     ensures { λ w. ⌜ (readRow (r .id .sequence ∷ s .status ∷ w) ≡ r) × (w ≡ recordOf r) ⌝ }

@@ -30,6 +30,9 @@ const REQUESTED_LENGTH: usize = 8;
 
 const TOKEN: usize = 15;
 
+// How many rows a scan passes at once, where none of them has what it looks for.
+pub const BLOCK: usize = 64;
+
 // Where the record of row i starts.
 pub(crate) fn record_at(rows: &[u64], i: usize) -> usize
     requires { ⌜ i < length (readRows (now rows)) ⌝ }
@@ -83,11 +86,7 @@ pub fn id_in(rows: &[u64], i: usize) -> RequestId
     if i < crate::count(rows) {
         return id_at(rows, i);
     }
-    RequestId {
-        session: 0,
-        generation: 0,
-        sequence: 0,
-    }
+    models::no_id()
 }
 
 pub fn device_at(rows: &[u64], i: usize) -> DeviceId

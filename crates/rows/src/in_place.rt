@@ -1,4 +1,4 @@
-// Rows by their words, without the row's value between. Words that say a row in another way than its own are made anew.
+// Changes rows in their encoding, and reads reports there. Words that are not canonical are canonicalised.
 use crate::RECORD_WORDS;
 use crate::ROW_WORDS;
 use crate::SEQUENCE;
@@ -20,7 +20,7 @@ ghost use Rattle.models.specs.Codes.{readTransfer, transferWord, readDirection,
 ghost use Rattle.models.specs.Values.{setupWords};
 ghost use Rattle.models.specs.declared.RequestState.the-variants as RequestState;
 ghost use Rattle.rows.specs.Codec.{stateWords, readRow, recordOf};
-ghost use Rattle.rows.specs.Table.{readRows, rowAt, emptyRow, isPendingRow, reportOf, withToken, restated, withState};
+ghost use Rattle.rows.specs.Table.{recordWords, readRows, rowAt, emptyRow, isPendingRow, reportOf, withToken, restated, withState};
 ghost use Rattle.rows.specs.Store.{storeOf, putIn};
 ghost use Rattle.rows.specs.Values.{reportValues};
 ghost use Rattle.rows.specs.InPlace.{setupAt, stateAt, cancelled, timedOut, completedRow};
@@ -28,7 +28,10 @@ ghost use Rattle.rows.specs.InPlace.{setupAt, stateAt, cancelled, timedO
 // The word of a record that has the cancel flag of a Pending state.
 const CANCEL: usize = 18;
 
-// A word made anew: the one that says what w says.
+// How many values a report has.
+const REPORT_WORDS: usize = 25;
+
+// The canonical encoding of the flag that w decodes to.
 fn renewed_flag(w: u64) -> u64
     ensures { λ r. ⌜ r ≡ flagWord (readFlag w) ⌝ }
 {
@@ -47,17 +50,18 @@ fn renewed_direction(w: u64) -> u64
     codes::direction_word(codes::to_direction(w))
 }
 
-// Of the SETUP packet and of the report's state that a record says.
+// Canonical words of the record's SETUP packet.
 fn renewed_setup(w: &[u64]) -> SetupWords
-    requires { ⌜ length (now w) ≡ 24 ⌝ }
+    requires { ⌜ length (now w) ≡ recordWords ⌝ }
     ensures { λ r. ⌜ r ≡ setupWords (setupAt (now (w .entry))) ⌝ }
 {
     let setup = codec::to_setup(w[9], w[10], w[11], w[12], w[13], w[14]);
     codec::setup_words(setup)
 }
 
+// Canonical words of the state of a row with this status word and this record, as a report has them.
 fn renewed_state(status: u64, w: &[u64]) -> StateWords
-    requires { ⌜ length (now w) ≡ 24 ⌝ }
+    requires { ⌜ length (now w) ≡ recordWords ⌝ }
     ensures { λ r. ⌜ r ≡ stateWords (stateAt status (now (w .entry))) ⌝ }
 {
     let kind = codec::kind_by(status, w[20]);
@@ -65,9 +69,9 @@ fn renewed_state(status: u64, w: &[u64]) -> StateWords
     codec::state_words(state)
 }
 
-// Of the report of the row that its two column words and its record say.
-fn values(sequence: u64, status: u64, w: &[u64]) -> [u64; 25]
-    requires { ⌜ length (now w) ≡ 24 ⌝ }
+// The values of the report of the row that has these two column words and this record.
+fn values(sequence: u64, status: u64, w: &[u64]) -> [u64; REPORT_WORDS]
+    requires { ⌜ length (now w) ≡ recordWords ⌝ }
     ensures { λ r. ⌜ r ≡ reportValues (reportOf (readRow (sequence ∷ status ∷ now (w .entry)))) ⌝ }
 {
     let p = renewed_setup(w);
@@ -102,7 +106,7 @@ fn values(sequence: u64, status: u64, w: &[u64]) -> [u64; 25]
 }
 
 // The values of the report of row i.
-pub fn report_values(rows: &[u64], i: usize) -> [u64; 25]
+pub fn report_values(rows: &[u64], i: usize) -> [u64; REPORT_WORDS]
     requires { ⌜ i < length (readRows (now rows)) ⌝ }
     ensures { λ r. ⌜ r ≡ reportValues (reportOf (rowAt (now (rows .entry)) i)) ⌝ }
 {
@@ -113,10 +117,10 @@ pub fn report_values(rows: &[u64], i: usize) -> [u64; 25]
     values(sequence, status, &rows[at..end])
 }
 
-// The record of a request's row with another token, the flags c and t, and another state, from the record w that it has. A
-// record says nothing of the sequence, which is 0 here.
-fn renewed(w: &[u64], token: u64, c: bool, t: bool, state: RequestState) -> [u64; 24]
-    requires { ⌜ length (now w) ≡ 24 ⌝ }
+// The record w of a request's row, with another token, the flags c and t, and another state. A record has no sequence number;
+// it is 0 in the contract.
+fn renewed(w: &[u64], token: u64, c: bool, t: bool, state: RequestState) -> [u64; RECORD_WORDS]
+    requires { ⌜ length (now w) ≡ recordWords ⌝ }
     ensures { λ r. ⌜ r ≡ recordOf (restated (withToken (readRow (0 ∷ 1 ∷ now (w .entry))) token) c t state) ⌝ }
 {
     let p = renewed_setup(w);
@@ -158,8 +162,8 @@ fn pending(logical_cancel: bool, timed_out: bool) -> RequestState
     }
 }
 
-fn cancelled_record(w: &[u64]) -> [u64; 24]
-    requires { ⌜ length (now w) ≡ 24 ⌝ }
+fn cancelled_record(w: &[u64]) -> [u64; RECORD_WORDS]
+    requires { ⌜ length (now w) ≡ recordWords ⌝ }
     ensures { λ r. ⌜ r ≡ recordOf (cancelled (readRow (0 ∷ 1 ∷ now (w .entry)))) ⌝ }
 {
     let late = words::to_flag(w[19]);
@@ -167,8 +171,8 @@ fn cancelled_record(w: &[u64]) -> [u64; 24]
     renewed(w, w[15], true, timed_out, pending(true, late))
 }
 
-fn late_record(w: &[u64]) -> [u64; 24]
-    requires { ⌜ length (now w) ≡ 24 ⌝ }
+fn timed_out_record(w: &[u64]) -> [u64; RECORD_WORDS]
+    requires { ⌜ length (now w) ≡ recordWords ⌝ }
     ensures { λ r. ⌜ r ≡ recordOf (timedOut (readRow (0 ∷ 1 ∷ now (w .entry)))) ⌝ }
 {
     let cancel = words::to_flag(w[18]);
@@ -176,8 +180,8 @@ fn late_record(w: &[u64]) -> [u64; 24]
     renewed(w, w[15], logical_cancel, true, pending(cancel, true))
 }
 
-fn accepted_record(w: &[u64], token: u64) -> [u64; 24]
-    requires { ⌜ length (now w) ≡ 24 ⌝ }
+fn accepted_record(w: &[u64], token: u64) -> [u64; RECORD_WORDS]
+    requires { ⌜ length (now w) ≡ recordWords ⌝ }
     ensures { λ r. ⌜ r ≡ recordOf (withToken (readRow (0 ∷ 1 ∷ now (w .entry))) token) ⌝ }
 {
     let cancel = words::to_flag(w[18]);
@@ -187,8 +191,8 @@ fn accepted_record(w: &[u64], token: u64) -> [u64; 24]
     renewed(w, token, logical_cancel, timed_out, pending(cancel, late))
 }
 
-fn ended_record(w: &[u64], state: RequestState) -> [u64; 24]
-    requires { ⌜ length (now w) ≡ 24 ⌝ }
+fn ended_record(w: &[u64], state: RequestState) -> [u64; RECORD_WORDS]
+    requires { ⌜ length (now w) ≡ recordWords ⌝ }
     ensures { λ r. ⌜ r ≡ recordOf (withState (readRow (0 ∷ 1 ∷ now (w .entry))) state) ⌝ }
 {
     let logical_cancel = words::to_flag(w[16]);
@@ -209,14 +213,14 @@ pub fn cancel_row(rows: &mut [u64], i: usize)
 }
 
 // Row i, which is Pending, is timed out; its column words stay.
-pub fn late_row(rows: &mut [u64], i: usize)
+pub fn time_out_row(rows: &mut [u64], i: usize)
     requires { ⌜ (i < length (readRows (now rows))) × (isPendingRow (rowAt (now rows) i) ≡ true) ⌝ }
     ensures { λ _. ⌜ storeOf (now (rows .exit))
         ≡ putIn (storeOf (now (rows .entry))) i (timedOut (rowAt (now (rows .entry)) i)) ⌝ }
 {
     let at = columns::record_at(rows, i);
     let end = at + RECORD_WORDS;
-    let w = late_record(&rows[at..end]);
+    let w = timed_out_record(&rows[at..end]);
     slices::copy_words(rows, at, &w, RECORD_WORDS);
 }
 

@@ -9,9 +9,9 @@ ghost use lib.ListN.{length, set};
 ghost use Rattle.rows.specs.Table.{rowWords, readRows, rowAt, emptyRow};
 ghost use Rattle.rows.specs.Store.{storeOf, putIn, emptied};
 
-pub mod codec;
-pub mod columns;
-pub mod in_place;
+pub mod codec; // codec.rt: a row as words, and back
+pub mod columns; // columns.rt: single words of a row
+pub mod in_place; // in_place.rt: a report read and a row changed by words
 
 // How many words of a row stand in columns, how many in its record, and how many it has.
 const COLUMN_WORDS: usize = 2;

@@ -4,6 +4,7 @@ use mathlib.Core.Path.{_≡_, refl, ap, _∙_}
 use Rattle.chain.specs.Chain.{_if_else_}
 use Rattle.models.specs.declared.{RequestState.RequestState}
 use Rattle.models.specs.declared.RequestState.the-variants.{Pending}
+use Rattle.rows.specs.InPlace.{cancelled}
 use Rattle.rows.specs.Table.{restated}
 use Rattle.rows.specs.declared.{Row.Row}
 use Rattle.rules.specs.Rules.{moved, flagged, whilePending, logicalCancel, cancelWithdrawn, changeRow}
@@ -18,11 +19,11 @@ same-row r c x e f = λ i. restated r (e i) (r .«timed_out») (f i)
 
 module _ (r : Row) (late : Bool) where
   pub cancels : (cancel : Bool) → Pending cancel late ≡ r .state → changeRow r Change.LogicalCancel ≡ moved (cancelAs r late true)
-  unfolding changeRow logicalCancel whilePending
+  unfolding changeRow logicalCancel whilePending cancelled
   cancels cancel state = rw (← state)
 
   pub withdraws : Pending true late ≡ r .state → changeRow r Change.WithdrawCancel ≡ moved (cancelAs r late false)
-  unfolding changeRow cancelWithdrawn _if_else_
+  unfolding changeRow cancelWithdrawn whilePending _if_else_
   withdraws state = rw (← state)
 
 -- after a cancel of a row that had none, and after a withdrawal of one that it had

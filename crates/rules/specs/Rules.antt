@@ -5,10 +5,10 @@ use lib.Dec.{eqb}
 use Rattle.chain.specs.Chain.{_if_else_}
 use Rattle.words.specs.declared.{OptionU32.OptionU32}
 use Rattle.models.specs.Refusals.{refusalOf}
-use Rattle.models.specs.Requests.{deviceMayAccess, isPending}
+use Rattle.models.specs.Requests.{deviceMayAccess}
 use Rattle.models.specs.declared.{OperationError.OperationError, RequestId.RequestId, RequestMetadata.RequestMetadata, RequestState.RequestState}
 use Rattle.models.specs.declared.RequestState.the-variants.{Pending, Completed, Failed, Aborted}
-use Rattle.rows.specs.InPlace.{cancelIn, lateIn}
+use Rattle.rows.specs.InPlace.{cancelIn, lateIn, cancelled, timedOut, completedRow}
 use Rattle.rows.specs.Table.{emptyRow}
 pub use Rattle.rows.specs.Table.{reportOf, withToken, withState, flagged}
 use Rattle.rows.specs.declared.{Row.Row}
@@ -36,31 +36,31 @@ freed r = Step.To emptyRow (reportOf r)
 unfoldable pub accepted : Row → ℕ → Step
 accepted r token = moved (withToken r token)
 
--- 41: not Pending; else the step to the row that the state's flags lead to
-unfoldable pub whilePending : RequestState → (Bool → Bool → Row) → Step
-whilePending (Pending cancel late) next = moved (next cancel late)
-whilePending (Completed actual code cancel) next = refusedBy 41
-whilePending (Failed error code quiescent) next = refusedBy 41
-whilePending Aborted next = refusedBy 41
+-- 41: not Pending; else the step
+unfoldable pub whilePending : RequestState → Step → Step
+whilePending (Pending cancel late) step = step
+whilePending (Completed actual code cancel) step = refusedBy 41
+whilePending (Failed error code quiescent) step = refusedBy 41
+whilePending Aborted step = refusedBy 41
 
 unfoldable pub logicalCancel : Row → Step
-logicalCancel r = whilePending (r .state) (λ cancel late. flagged r true late true (r .«timed_out»))
+logicalCancel r = whilePending (r .state) (moved (cancelled r))
 
 -- document 02, M-120. 41; 59: the state has no cancel. Both copies of the flag are cleared, those of the timeout stay
 unfoldable pub cancelWithdrawn : Row → Step
 cancelWithdrawn r =
-    refusedBy 41 if not (isPending (r .state)) else
-    refusedBy 59 if not (cancelIn (r .state)) else
-    moved (flagged r false (lateIn (r .state)) false (r .«timed_out»))
+    whilePending (r .state)
+    (refusedBy 59 if not (cancelIn (r .state)) else
+    moved (flagged r false (lateIn (r .state)) false (r .«timed_out»)))
 
 unfoldable pub timeOut : Row → Step
-timeOut r = whilePending (r .state) (λ cancel late. flagged r cancel true (r .«logical_cancel») true)
+timeOut r = whilePending (r .state) (moved (timedOut r))
 
 unfoldable pub completed : Row → ℕ → ℕ → Step
-completed r actual code = whilePending (r .state) (λ cancel late. withState r (Completed actual code cancel))
+completed r actual code = whilePending (r .state) (moved (completedRow r actual code))
 
 unfoldable pub failed : Row → OperationError → OptionU32 → Bool → Step
-failed r error code quiescent = whilePending (r .state) (λ cancel late. withState r (Failed error code quiescent))
+failed r error code quiescent = whilePending (r .state) (moved (withState r (Failed error code quiescent)))
 
 -- 43: not held
 unfoldable pub abortConfirmed : Row → Step

@@ -5,7 +5,7 @@ use Rattle.models.specs.Said.{Said, says, refused}
 use Rattle.rows.specs.Values.{reportValues}
 use Rattle.rules.specs.declared.{Change.Change, Spent.Spent, Step.Step}
 
--- the row is the store's; what is answered is the report
+-- the new row goes to the store; the answer is its report
 abbrev pub stepSaid : Step → Said
 stepSaid (Step.Refused r) = refused r
 stepSaid (Step.To next x) = says (reportValues x)

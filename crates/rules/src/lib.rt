@@ -12,7 +12,7 @@ ghost use Rattle.models.specs.Said.{Tabled};
 ghost use Rattle.rules.specs.Rules.{reportOf, pendingRow, spendSequence, refusedBy, moved, freed, accepted, completed, failed, abortConfirmed, reclaimed, changeRow};
 ghost use Rattle.rules.specs.Said.{stepSaid, spentSaid, spendNumbers, changeNumbers};
 
-mod flags;
+mod flags; // flags.rt: cancel, its withdrawal and timeout
 
 // What a change of a row leaves: the next row, and what is reported of the request.
 pub enum Step {
@@ -77,7 +77,8 @@ pub fn pending_row(id: RequestId, metadata: RequestMetadata) -> Row
 
 // Spends the sequence number `next`: the greatest is never given.
 pub fn spend_sequence(next: u64) -> Spent
-    ensures { λ r. ⌜ (r ≡ spendSequence next) × Tabled spendNumbers (spentSaid r) ⌝ }
+    ensures step { λ r. ⌜ r ≡ spendSequence next ⌝ }
+    ensures table { λ r. ⌜ Tabled spendNumbers (spentSaid r) ⌝ }
 {
     if next == LAST_SEQUENCE {
         return Spent::Refused(models::refuse(39));
@@ -176,7 +177,8 @@ fn reclaim(row: Row) -> Step
 }
 
 pub fn change_row(row: Row, change: Change) -> Step
-    ensures { λ r. ⌜ (r ≡ changeRow row change) × Tabled (changeNumbers change) (stepSaid r) ⌝ }
+    ensures step { λ r. ⌜ r ≡ changeRow row change ⌝ }
+    ensures table { λ r. ⌜ Tabled (changeNumbers change) (stepSaid r) ⌝ }
 {
     match change {
         Change::Accept(token) => accept(row, token),

@@ -1,31 +1,32 @@
 -- The backend's reply to a poll keeps the session sound. Assumes nothing.
 use Prim.Native.Nat.{ℕ, _<_, _≤_}
-use mathlib.Core.Bool.{Bool, true, false, not, _||_, true≢false}
+use mathlib.Core.Bool.{true, false, not, _||_}
 use mathlib.Core.List.{List}
 use mathlib.Core.Logic.{_⊎_, inl, inr}
 use mathlib.Core.Path.{_≡_, refl, subst}
 use borrow.Author.Tests.{not-false, ltb-false}
-use lib.Dec.{eqb}
 use lib.ListN.{length}
 use Rattle.chain.specs.After.{After}
-use Rattle.chain.proofs.Chain.{if-by}
+use Rattle.chain.proofs.Chain.{if-by, or-false}
 use Rattle.words.specs.declared.{OptionU32.OptionU32, OptionU64.OptionU64}
 use Rattle.models.specs.declared.{BackendCompletion.BackendCompletion, OperationError.OperationError, OptionError.OptionError}
+use Rattle.standards.specs.Completion.{isFinished}
 use Rattle.rows.specs.Store.{Store}
 use Rattle.rows.specs.Table.{rowIn}
 use Rattle.rows.specs.declared.{Row.Row}
 use Rattle.rules.specs.Rules.{changeRow}
 use Rattle.rules.specs.declared.{Step.Step}
+use Rattle.ledger.specs.Apply.{applyBy, changedAt}
 use Rattle.checks.specs.Completion.{hasError, codeTested, testCode, testLength, testCompletion}
 use Rattle.checks.specs.declared.{completion.CompletionTest.CompletionTest}
 use Rattle.session.specs.Session.{isInitialized, withFlight}
 use Rattle.session.specs.Lent.{Memory}
-use Rattle.session.specs.Sizes.{placeOf}
-use Rattle.session.specs.declared.{InFlight.InFlight, Session.Session, sizes.Place.Place}
+use Rattle.session.specs.declared.{InFlight.InFlight, Session.Session}
 use Rattle.reports.specs.Answers.{effect}
 use Rattle.reports.specs.declared.{Reported.Reported}
 use Rattle.polls.specs.PollReply.{pollReplyAt, pollReplyOf, failedAs, invalidAs, judgedTest, judgedBy, judged, settled}
 use Rattle.polls.specs.declared.{PollReply.PollReply, poll_reply.Judgement.Judgement}
+use Rattle.runs.specs.Completed.{lengthIn, codeIn}
 use Rattle.runs.specs.Sound.{FlightReady, Sound}
 use Rattle.runs.proofs.Moves.{Moves, Idle, stays, marked-moves, effect-moves, moves-on, marked-idle, effect-idle, marked-apart}
 use Rattle.runs.proofs.Rows.{Leads, kept, moved-idle, changed-certain, changed-uncertain}
@@ -33,30 +34,33 @@ use Rattle.runs.proofs.Rules.{StepSound, StepCertain, complete-step, fa
 use Rattle.runs.proofs.Ids.{at-used}
 use Rattle.runs.proofs.Ways.{finish-all}
 
--- a valid completion is at most as long as requested, and its code is 1 or 13
-abbrev pub TestSound : ℕ → CompletionTest → Type 0
-TestSound requested (CompletionTest.Valid actual code) = (actual ≤ requested) × ((eqb code 1 || eqb code 13) ≡ true)
-TestSound requested CompletionTest.MissingLength = Unit {0}
-TestSound requested CompletionTest.Invalid = Unit {0}
+-- a valid completion has the length and the code that came; the length is at most the requested one, the code 1 or 13
+abbrev PartsSound : OptionU64 → OptionU32 → ℕ → CompletionTest → Type 0
+PartsSound long code requested (CompletionTest.Valid actual n) = (actual ≡ lengthIn long) × (n ≡ codeIn code) × (actual ≤ requested) × (isFinished n ≡ true)
+PartsSound long code requested CompletionTest.MissingLength = Unit {0}
+PartsSound long code requested CompletionTest.Invalid = Unit {0}
 
-or-last : (a b : Bool) → (a || b) ≡ false → b ≡ false
-or-last true b e = absurd (true≢false e)
-or-last false b e = e
+abbrev pub TestSound : BackendCompletion → ℕ → CompletionTest → Type 0
+TestSound c requested t = PartsSound (c .«actual_length») (c .«completion_code») requested t
 
 module _ (c : BackendCompletion) (given requested : ℕ) where
-  by-code : (actual : ℕ) → actual ≤ requested → (o : OptionU32) → TestSound requested (codeTested o actual)
+  by-code : (actual : ℕ) → actual ≤ requested → (o : OptionU32) → PartsSound (OptionU64.Some actual) o requested (codeTested o actual)
   unfolding codeTested
   by-code actual h OptionU32.None = tt
-  by-code actual h (OptionU32.Some code) = if-by (TestSound requested) _ _ _ (λ e. tt) (λ e. (h, not-false _ e))
+  by-code actual h (OptionU32.Some code) =
+      if-by (PartsSound (OptionU64.Some actual) (OptionU32.Some code) requested) _ _ _ (λ e. tt) (λ e. (refl, refl, h, not-false _ e))
 
-  by-length : (o : OptionU64) → TestSound requested (testLength o c given requested)
+  by-length : (o : OptionU64) → PartsSound o (c .«completion_code») requested (testLength o c given requested)
   unfolding testLength testCode
   by-length OptionU64.None = tt
   by-length (OptionU64.Some actual) =
-      if-by (TestSound requested) _ _ _ (λ e. tt)
-      (λ e. if-by (TestSound requested) _ _ _ (λ x. tt) (λ x. by-code actual (ltb-false _ _ (or-last (not (c .quiescent) || hasError (c .error)) _ e)) (c .«completion_code»)))
+      if-by P _ _ _ (λ e. tt)
+      (λ e. if-by P _ _ _ (λ x. tt) (λ x. by-code actual (ltb-false _ _ (or-false (not (c .quiescent) || hasError (c .error)) _ e .1)) (c .«completion_code»)))
+    where
+      P : CompletionTest → Type 0
+      P = PartsSound (OptionU64.Some actual) (c .«completion_code») requested
 
-  pub test-sound : TestSound requested (testCompletion c given requested)
+  pub test-sound : TestSound c requested (testCompletion c given requested)
   unfolding testCompletion
   test-sound = by-length (c .«actual_length»)
 
@@ -86,9 +90,9 @@ module _ (s : Session) (i : Idle s) (r : Row) (c : BackendCompletion) where
     step = inr (fail-step r _ (c .«completion_code») false, marked-apart s);
   }
 
-  tested-sound : (t : CompletionTest) → TestSound (r .metadata .«requested_length») t → JudgedSound s r (judgedTest t s c)
+  tested-sound : (t : CompletionTest) → TestSound c (r .metadata .«requested_length») t → JudgedSound s r (judgedTest t s c)
   unfolding judgedTest
-  tested-sound (CompletionTest.Valid actual code) h = record { moves = stays s; idle = i; step = inl (complete-step r actual code (h .0) (h .1)) }
+  tested-sound (CompletionTest.Valid actual code) h = record { moves = stays s; idle = i; step = inl (complete-step r actual code (h .2) (h .3)) }
   tested-sound CompletionTest.MissingLength h = invalid-sound
   tested-sound CompletionTest.Invalid h = invalid-sound
 
@@ -105,23 +109,23 @@ abbrev pub FinishedSound : Session → Store → After Reported Memory → Type 
 FinishedSound s store o = Leads s store (o .result .session) (o .lent .store)
 
 -- the row that was polled; the controller is Initialized
-module _ {s : Session} (m : Memory) (k : Sound s (m .store)) (ready : isInitialized (s .state) ≡ true) (p : Place) (h : p .row < length (m .store .rows))
-    (u : rowIn (m .store .rows) (p .row) .used ≡ true) (bytes : List ℕ) where
+module _ {s : Session} (m : Memory) (k : Sound s (m .store)) (ready : isInitialized (s .state) ≡ true) (i : ℕ) (h : i < length (m .store .rows))
+    (u : rowIn (m .store .rows) i .used ≡ true) (bytes : List ℕ) where
   abbrev idle : Session
   idle = withFlight s InFlight.Nothing
 
   abbrev row : Row
-  row = rowIn (m .store .rows) (p .row)
+  row = rowIn (m .store .rows) i
 
   settled-sound : (n : Step) (j : Judgement) → Moves s (j .session) → Idle (j .session)
-      → StepCertain row n ⊎ (StepSound row n × (isInitialized (j .session .state) ≡ false)) → FinishedSound s (m .store) (settled n j p bytes idle m)
-  unfolding settled
+      → StepCertain row n ⊎ (StepSound row n × (isInitialized (j .session .state) ≡ false)) → FinishedSound s (m .store) (settled (applyBy n i (m .store)) j i bytes idle (m .area))
+  unfolding settled applyBy
   settled-sound (Step.Refused x) j v d c = moved-idle k idle (stays s) refl
-  settled-sound (Step.To q x) j v d (inl c) = changed-certain k (p .row) h u q (c .0) (j .session) v d (c .1)
-  settled-sound (Step.To q x) j v d (inr c) = changed-uncertain k (p .row) h u q (c .0) (j .session) v d ready (c .1)
+  settled-sound (Step.To q x) j v d (inl c) = changed-certain k i h u q (c .0) (j .session) v d (c .1)
+  settled-sound (Step.To q x) j v d (inr c) = changed-uncertain k i h u q (c .0) (j .session) v d ready (c .1)
 
-  by-reply : (x : PollReply) → FinishedSound s (m .store) (pollReplyAt x row p bytes idle m)
-  unfolding pollReplyAt
+  by-reply : (x : PollReply) → FinishedSound s (m .store) (pollReplyAt x i bytes idle m)
+  unfolding pollReplyAt changedAt
   by-reply PollReply.Nothing = moved-idle k idle (stays s) refl
   by-reply (PollReply.Error e) = moved-idle k (effect e idle) (moves-on s idle (effect e idle) (stays s) (effect-moves e idle)) (effect-idle e idle refl)
   by-reply (PollReply.Completion c) =
@@ -134,4 +138,4 @@ module _ {s : Session} (m : Memory) (k : Sound s (m .store)) where
   finish-sound x bytes =
       finish-all x bytes s m (FinishedSound s (m .store)) (kept k) (kept k)
       (λ id own i h e.
-      by-reply m k (subst (λ (g : InFlight). FlightReady g (s .state)) own (k .ready)) (placeOf (s .size) i) h (at-used id (rowIn (m .store .rows) i) e) bytes x)
+      by-reply m k (subst (λ (g : InFlight). FlightReady g (s .state)) own (k .ready)) i h (at-used id (rowIn (m .store .rows) i) e) bytes x)

@@ -15,10 +15,6 @@ use Rattle.rows.specs.Codec.{readRow}
 use Rattle.rows.specs.Table.{emptyRow, isHeld}
 use Rattle.rows.specs.declared.{Row.Row}
 
-pub or-false : (a b : Bool) → (a || b) ≡ false → (a ≡ false) × (b ≡ false)
-or-false true b e = absurd (true≢false e)
-or-false false b e = (refl, e)
-
 pub or-right : (a b : Bool) → a ≡ false → (a || b) ≡ true → b ≡ true
 or-right true b n e = absurd (true≢false n)
 or-right false b n e = e

@@ -1,4 +1,5 @@
 pub mod Handings
+pub mod Own
 pub mod Held
 pub mod Ids
 pub mod Tokens
@@ -15,6 +16,7 @@ pub mod Stages
 pub mod Submit
 pub mod Lifecycle
 pub mod Entries
+pub mod Applied
 pub mod Recover
 pub mod Run
 pub mod Tally

@@ -11,7 +11,7 @@ use lib.Seq.{getD-set-same, getD-set-other}
 use Rattle.chain.specs.Lists.{count, anyIn, isAmong}
 use Rattle.chain.specs.After.{After}
 use Rattle.chain.proofs.Chain.{caseB, if-by, and3}
-use Rattle.words.specs.declared.{OptionU32.OptionU32, OptionU64.OptionU64}
+use Rattle.words.specs.declared.{OptionU64.OptionU64}
 use Rattle.models.specs.Requests.{sameDevice}
 use Rattle.models.specs.declared.{BackendCompletion.BackendCompletion, DeviceId.DeviceId, RequestId.RequestId, Verdict.Verdict}
 use Rattle.models.specs.declared.ControllerState.the-variants.{Initialized}
@@ -26,10 +26,11 @@ use Rattle.session.specs.Lent.{Memory, memory}
 use Rattle.session.specs.declared.{InFlight.InFlight, OptionStall.OptionStall, Recovery.Recovery, RecoveryKind.RecoveryKind, Session.Session, Size.Size}
 use Rattle.scope.specs.Scope.{inScope}
 use Rattle.scope.specs.Returned.{Returned}
-use Rattle.recovery.specs.Entries.{rowCompletedBy, testedBy, completeOne, abortedBy, abortOne, applyAll}
+use Rattle.ledger.specs.Apply.{applyBy, changedAt}
+use Rattle.recovery.specs.Entries.{rowCompletedBy, testedBy, completeOne, abortedBy, abortOne}
 use Rattle.recovery.specs.Recover.{recoverOf, begunAs, recoveryOf}
-use Rattle.recovery.specs.RecoveryReply.{ReplyLists, rowsMeant, ended, isWhole, isRevision, restoredBy, resetBy, sessionAfter, refusedAfter, concludedBy, settledOf, recoveryReplyOf}
-use Rattle.recovery.specs.declared.{AbortReport.AbortReport, Ids.Ids, Outcome.Outcome, Recovered.Recovered, RecoveryReply.RecoveryReply}
+use Rattle.recovery.specs.RecoveryReply.{ReplyLists, applyAll, ended, isWhole, isRevision, restoredBy, resetBy, sessionAfter, refusedAfter, concludedBy, settledOf, recoveryReplyOf}
+use Rattle.recovery.specs.declared.{AbortReport.AbortReport, Outcome.Outcome, RecoveryReply.RecoveryReply, Replied.Replied}
 use Rattle.runs.specs.Sound.{FlightReady, Sound}
 use Rattle.runs.proofs.Tokens.{tokensIn, Each, scope-each, replyTokens}
 use Rattle.runs.proofs.Moves.{Idle, stays, marked-moves, marked-idle}
@@ -104,34 +105,34 @@ module _ (place : ℕ → ℕ) where
 
       module _ (z : Size) (bytes area : List ℕ) where
         stepped : (m : Step) → StepCertain (rowIn (store .rows) i) m → StepUsed (rowIn (store .rows) i) m
-            → Walked store (rowCompletedBy m z i bytes (memory store area) .lent .store) us
-        unfolding rowCompletedBy
+            → Walked store (rowCompletedBy (applyBy m i store) z i bytes area .lent .store) us
+        unfolding rowCompletedBy applyBy
         stepped (Step.Refused x) c e = stays-so
         stepped (Step.To q x) c e = put-so q (c .0) (c .1) e
 
-        tested : (p : CompletionTest) → TestSound (rowIn (store .rows) i .metadata .«requested_length») p → (code : OptionU32)
-            → Walked store (testedBy p code z i bytes (memory store area) .lent .store) us
-        unfolding testedBy
-        tested CompletionTest.MissingLength t code = stays-so
-        tested CompletionTest.Invalid t code = stays-so
-        tested (CompletionTest.Valid actual n) t code =
-            stepped (changeRow (rowIn (store .rows) i) (Change.Complete actual n)) (complete-step (rowIn (store .rows) i) actual n (t .0) (t .1)) (complete-used (rowIn (store .rows) i) actual n)
+        tested : (c : BackendCompletion) (p : CompletionTest) → TestSound c (rowIn (store .rows) i .metadata .«requested_length») p
+            → Walked store (testedBy p (c .«completion_code») z i bytes (memory store area) .lent .store) us
+        unfolding testedBy changedAt
+        tested c CompletionTest.MissingLength t = stays-so
+        tested c CompletionTest.Invalid t = stays-so
+        tested c (CompletionTest.Valid actual n) t =
+            stepped (changeRow (rowIn (store .rows) i) (Change.Complete actual n)) (complete-step (rowIn (store .rows) i) actual n (t .2) (t .3)) (complete-used (rowIn (store .rows) i) actual n)
 
         completed-one : (c : BackendCompletion) → Walked store (completeOne z i c bytes (memory store area) .lent .store) us
         unfolding completeOne
-        completed-one c = tested _ (test-sound c (length bytes) (rowIn (store .rows) i .metadata .«requested_length»)) (c .«completion_code»)
+        completed-one c = tested c _ (test-sound c (length bytes) (rowIn (store .rows) i .metadata .«requested_length»))
 
-      aborted-by : (m : Step) → StepCertain (rowIn (store .rows) i) m → StepUsed (rowIn (store .rows) i) m → Walked store (abortedBy m i store .lent) us
-      unfolding abortedBy
+      aborted-by : (m : Step) → StepCertain (rowIn (store .rows) i) m → StepUsed (rowIn (store .rows) i) m → Walked store (abortedBy (applyBy m i store) .lent) us
+      unfolding abortedBy applyBy
       aborted-by (Step.Refused x) c e = stays-so
       aborted-by (Step.To q x) c e = put-so q (c .0) (c .1) e
 
       aborted-one : Walked store (abortOne i store .lent) us
-      unfolding abortOne
+      unfolding abortOne changedAt
       aborted-one = aborted-by (changeRow (rowIn (store .rows) i) Change.ConfirmAbort) (abort-step (rowIn (store .rows) i)) (abort-used (rowIn (store .rows) i))
 
     applied-all : (z : Size) (l : ReplyLists) (m : Memory) → Sound s (m .store) → AllUsed (m .store .rows) (replyTokens l)
-        → Leads s (m .store) s (applyAll z (rowsMeant place l) m .lent .store)
+        → Leads s (m .store) s (applyAll z place l m .lent .store)
     applied-all z l m k a =
         entries-all place z J P (λ bytes n h. h .leads)
         (λ e es ts bytes n h.
@@ -202,10 +203,10 @@ module _ {s : Session} {store : Store} (k : Sound s store) (idle : Idle s) where
   reset-after RecoveryKind.Abort x = kept k
   reset-after (RecoveryKind.Reset preserve) x = restored-by (s .«recoverable_stall») x
 
-  concluded-after : (y : Verdict) (x : Recovery) (o : Outcome) (report : AbortReport) (ids : Ids) → To (concludedBy y (ended s x o) report ids (store .rows) .session)
+  concluded-after : (y : Verdict) (x : Recovery) (o : Outcome) (report : AbortReport) (places : List ℕ) → To (concludedBy y (ended s x o) report places (store .rows) .session)
   unfolding concludedBy refusedAfter sessionAfter
-  concluded-after (Verdict.Refused r) x o report ids = if-by To _ _ _ (λ e. marked-after) (λ e. kept k)
-  concluded-after Verdict.Pass x o report ids = if-by To _ _ _ (λ e. marked-after) (λ e. reset-after (x .kind) x)
+  concluded-after (Verdict.Refused r) x o report places = if-by To _ _ _ (λ e. marked-after) (λ e. kept k)
+  concluded-after Verdict.Pass x o report places = if-by To _ _ _ (λ e. marked-after) (λ e. reset-after (x .kind) x)
 
 -- ---- the reply
 meant-used : (d : DeviceId) (endpoint : ℕ) (rows : List Row) (t : ℕ) → isAmong t (ownTokens d endpoint rows) ≡ true → Used (placeMeant d endpoint rows) rows t
@@ -215,7 +216,7 @@ meant-used d endpoint rows t e = (
 )
 
 module _ {s : Session} (m : Memory) (k : Sound s (m .store)) (l : ReplyLists) where
-  abbrev RecoveredSound : After Recovered Memory → Type 0
+  abbrev RecoveredSound : After Replied Memory → Type 0
   RecoveredSound o = Leads s (m .store) (o .result .session) (o .lent .store)
 
   abbrev quiet : Session
@@ -228,13 +229,13 @@ module _ {s : Session} (m : Memory) (k : Sound s (m .store)) (l : ReplyLists) wh
   marks = leads-then stilled (marked-after (stilled .sound) refl)
 
   settled-sound : (x : Recovery) (o : Outcome) → inScope (isWhole o) (ownTokens (x .device) (x .endpoint) (m .store .rows)) (l .tokens ++ l .aborted) ≡ true
-      → RecoveredSound (settledOf (ended quiet x o) (rowsMeant (placeMeant (x .device) (x .endpoint) (m .store .rows)) l) m)
+      → RecoveredSound (settledOf (ended quiet x o) (placeMeant (x .device) (x .endpoint) (m .store .rows)) l m)
   unfolding settledOf
   settled-sound x o n =
       let place : ℕ → ℕ = placeMeant (x .device) (x .endpoint) (m .store .rows) in
       let used = scope-each (ownTokens (x .device) (x .endpoint) (m .store .rows)) (isWhole o) l n (Used place (m .store .rows)) (meant-used (x .device) (x .endpoint) (m .store .rows)) in
       let a = applied-all place quiet refl (quiet .size) l m (stilled .sound) used in
-      let done : After Verdict Memory = applyAll (quiet .size) (rowsMeant place l) m in
+      let done : After Verdict Memory = applyAll (quiet .size) place l m in
       leads-then stilled (leads-then a (concluded-after (a .sound) refl (done .result) x o _ _))
 
   pub recovery-sound : (r : RecoveryReply) → RecoveredSound (recoveryReplyOf r l s m)

@@ -18,9 +18,9 @@ use Rattle.session.specs.Lent.{Lent, lent, memory, storeFits}
 use Rattle.session.specs.declared.{Size.Size, lifecycle.Opened.Opened, lifecycle.Opening.Opening}
 use Rattle.session.proofs.sizes.Laws.{rows-words}
 use Rattle.calls.specs.Calls.{Call, Open, Place, Move, Acquire, Initialize, Close, Begin, Submit, SubmitPlan, Poll, Recover, Reply, ToSubmit, ToPoll, ToRecovery, Change, Read}
-use Rattle.calls.specs.Step.{World, world, opens, movedOf, begunOf, repliedOf, changeBy, stepOf, worldStore}
+use Rattle.calls.specs.Step.{World, world, opens, movedOf, begunOf, repliedOf, changeBy, stepOf, worldStore, next}
 use Rattle.calls.specs.declared.{Answer.Answer}
-use Rattle.runs.specs.Run.{Handed, Event, next, leftBy, endOf, isOpening, Handing, Follows, beside}
+use Rattle.runs.specs.Run.{Handed, Event, leftBy, endOf, isOpening, Handing, Follows, beside}
 use Rattle.runs.specs.Sound.{Sound, Fitted}
 use Rattle.runs.proofs.Handings.{by-handed}
 use Rattle.runs.proofs.Rows.{Leads, kept, all-free, all-fitted}
@@ -83,7 +83,7 @@ module _ (w : World) (k : SoundIn w) where
   leads (Move (Initialize reply)) e = initialize-sound k reply
   leads (Move (Close fresh reply)) e = close-sound k fresh reply
   leads (Begin (Submit packets q)) e = submit-sound (w .lent) k packets q
-  leads (Begin (SubmitPlan q bytes first)) e = plan-sound (w .lent) k q bytes first
+  leads (Begin (SubmitPlan q)) e = plan-sound (w .lent) k (q .plan) (q .bytes) (q .reading)
   leads (Begin (Poll id)) e = poll-sound k id
   leads (Begin (Recover id kind)) e = begin-sound k id kind
   leads (Reply (ToSubmit reply)) e = reply-sound k reply

@@ -1,13 +1,13 @@
 -- The tokens that a reply returns, and what holds of each of those in scope. Assumes nothing.
 use Prim.Native.Nat.{ℕ}
 use mathlib.Core.Path.{_≡_, refl, sym, ap, _∙_}
-use mathlib.Core.Bool.{Bool, true, false, not, _&&_, _||_, true≢false, false≢true}
+use mathlib.Core.Bool.{Bool, true, false, not, _||_, true≢false}
 use mathlib.Core.List.{List, [], _∷_, _++_, map}
 use borrow.Author.Tests.{eqb-true, not-true}
 use lib.ListN.{length}
 use lib.Dec.{eqb}
 use Rattle.chain.specs.Lists.{isAmong, allIn}
-use Rattle.chain.proofs.Chain.{caseB, both}
+use Rattle.chain.proofs.Chain.{caseB, both, and3}
 use Rattle.chain.proofs.Lists.{in-cons, in-head}
 use Rattle.words.proofs.Records.{map-tab, tab-list}
 use Rattle.scope.specs.Returned.{Returned, returnedAt, readReturned}
@@ -49,11 +49,6 @@ each-last P (t ∷ ts) us a = each-last P ts us (a .1)
 pub distinct-last : (ts us : List ℕ) → Distinct (ts ++ us) → Distinct us
 distinct-last [] us d = d
 distinct-last (t ∷ ts) us d = distinct-last ts us (d .1)
-
-and3 : (a b c : Bool) → (a && b && c) ≡ true → (a ≡ true) × (b ≡ true) × (c ≡ true)
-and3 true true c e = (refl, refl, e)
-and3 true false c e = absurd (false≢true e)
-and3 false b c e = absurd (false≢true e)
 
 -- ---- in scope: each is expected, and came not before
 module _ (own : List ℕ) where

@@ -16,7 +16,7 @@ use Rattle.models.specs.declared.{OperationError.OperationError, Refusal.Refusa
 use Rattle.rows.specs.Store.{Store}
 use Rattle.rows.specs.Table.{rowIn}
 use Rattle.rows.specs.declared.{Row.Row}
-use Rattle.ledger.specs.Apply.{applyBy, applyAt, applyOf}
+use Rattle.ledger.specs.Apply.{applyBy, changedAt, applyAt, applyOf}
 use Rattle.rules.specs.Rules.{reportOf, changeRow}
 use Rattle.ledger.specs.Search.{isAt}
 use Rattle.ledger.specs.declared.{Applied.Applied}
@@ -24,7 +24,6 @@ use Rattle.rules.specs.declared.{Change.Change}
 use Rattle.ledger.proofs.Found.{found-row}
 use Rattle.session.specs.Session.{isBusy, isInitialized, mayRecover, withFlight, marked}
 use Rattle.session.specs.Lent.{Memory}
-use Rattle.session.specs.Sizes.{placeOf}
 use Rattle.session.specs.Start.{guarded}
 use Rattle.session.specs.declared.{InFlight.InFlight, Recovery.Recovery, RecoveryKind.RecoveryKind, Session.Session}
 use Rattle.reports.specs.Answers.{reportRefused}
@@ -37,8 +36,8 @@ use Rattle.submissions.specs.SubmitReply.{submitReplyBy, submitReplyIn, submitR
 use Rattle.submissions.specs.declared.{SubmitReply.SubmitReply}
 use Rattle.scope.specs.Scope.{inScope}
 use Rattle.recovery.specs.Recover.{beginRefused, recoveryOf, begunAs, beginRow, recoverBy, recoverOf}
-use Rattle.recovery.specs.RecoveryReply.{ReplyLists, rowsMeant, recoveryRefused, ended, isWhole, settledOf, doneOf, replyBy, replySized, replyIn, recoveryReplyOf}
-use Rattle.recovery.specs.declared.{Begun.Begun, Outcome.Outcome, Recovered.Recovered, RecoveryReply.RecoveryReply}
+use Rattle.recovery.specs.RecoveryReply.{ReplyLists, recoveryRefused, ended, isWhole, settledOf, doneOf, replyBy, replySized, replyIn, recoveryReplyOf}
+use Rattle.recovery.specs.declared.{Begun.Begun, Outcome.Outcome, RecoveryReply.RecoveryReply, Replied.Replied}
 use Rattle.runs.proofs.Affected.{ownTokens, placeMeant}
 
 -- the row of an id, or none
@@ -54,7 +53,7 @@ module _ (id : RequestId) (rows : List Row) (P : Found → Type 0) (no : P Found
 pub apply-all : (id : RequestId) (c : Change) (store : Store) (P : After Applied Store → Type 0) → P (after (Applied.Refused (refusalOf 40)) store)
     → ((i : ℕ) → i < length (store .rows) → isAt id (rowIn (store .rows) i) ≡ true → P (applyBy (changeRow (rowIn (store .rows) i) c) i store))
     → P (applyOf id c store)
-unfolding applyOf applyAt
+unfolding applyOf applyAt changedAt
 apply-all id c store P none go = found-all id (store .rows) (λ (f : Found). P (applyAt f c store)) none go
 
 -- cancel, its withdrawal, timeout and reclaim
@@ -114,7 +113,7 @@ module _ (x : SubmitReply) (s : Session) (store : Store) (P : After Reported Sto
 module _ (x : PollReply) (bytes : List ℕ) (s : Session) (m : Memory) (P : After Reported Memory → Type 0)
     (two : P (after (reportRefused s (refusalOf 2)) m)) (three : P (after (reportRefused s (refusalOf 3)) m))
     (go : (id : RequestId) → s .«in_flight» ≡ InFlight.Poll id → (i : ℕ) → i < length (m .store .rows) → isAt id (rowIn (m .store .rows) i) ≡ true
-    → P (pollReplyAt x (rowIn (m .store .rows) i) (placeOf (s .size) i) bytes (withFlight s InFlight.Nothing) m)) where
+    → P (pollReplyAt x i bytes (withFlight s InFlight.Nothing) m)) where
   pub finish-all : P (pollReplyOf x bytes s m)
   unfolding pollReplyOf pollReplyIn pollReplyFound pollReplyBy
   finish-all = by-flight (s .«in_flight») refl
@@ -127,13 +126,13 @@ module _ (x : PollReply) (bytes : List ℕ) (s : Session) (m : Memory) (P : Afte
           if-by P _ _ _ (λ y. three) (λ y. found-all id (m .store .rows) (λ (f : Found). P (pollReplyBy f x bytes s m)) two (λ i h u. go id e i h u))
 
 -- the reply to a recovery
-module _ (l : ReplyLists) (s : Session) (m : Memory) (P : After Recovered Memory → Type 0)
+module _ (l : ReplyLists) (s : Session) (m : Memory) (P : After Replied Memory → Type 0)
     (two : P (after (recoveryRefused s (refusalOf 2)) m)) (three : P (after (recoveryRefused s (refusalOf 3)) m))
     (lists : P (after (recoveryRefused s (refusalOf 49)) m))
     (failed : (e : OperationError) → P (after (recoveryRefused (marked (withFlight s InFlight.Nothing)) (fromBackend 45 e)) m))
     (unscoped : P (after (recoveryRefused (marked (withFlight s InFlight.Nothing)) (refusalOf 46)) m))
     (go : (x : Recovery) → s .«in_flight» ≡ InFlight.Recovery x → (o : Outcome) → inScope (isWhole o) (ownTokens (x .device) (x .endpoint) (m .store .rows)) (l .tokens ++ l .aborted) ≡ true
-    → P (settledOf (ended (withFlight s InFlight.Nothing) x o) (rowsMeant (placeMeant (x .device) (x .endpoint) (m .store .rows)) l) m)) where
+    → P (settledOf (ended (withFlight s InFlight.Nothing) x o) (placeMeant (x .device) (x .endpoint) (m .store .rows)) l m)) where
   pub recovery-all : (r : RecoveryReply) → P (recoveryReplyOf r l s m)
   unfolding recoveryReplyOf replyIn replySized replyBy doneOf
   recovery-all r = by-flight (s .«in_flight») refl

@@ -10,7 +10,7 @@ use Rattle.models.specs.Refusals.{refusalOf}
 use Rattle.bus.specs.Tables.{Bus}
 use Rattle.session.specs.Lent.{Lent, memory, lent}
 use Rattle.calls.specs.Calls.{Call, Open, Place, Move, Acquire, Initialize, Close, Begin, Reply, Change, Read}
-use Rattle.calls.specs.Step.{World, world, worldStore, stepOf}
+use Rattle.calls.specs.Step.{World, world, worldStore, stepOf, next}
 use Rattle.calls.specs.declared.{Answer.Answer, Outcome.Outcome}
 
 -- what a call is handed: the session and the slices that the calls before it left; the session and the rows, with any bus and area;
@@ -24,8 +24,9 @@ pub record Event : Type 0 where
   pub call : Call
   pub handed : Handed
 
-abbrev pub next : After Outcome Lent → World
-next o = world (o .result .session) (o .lent)
+-- a call that is handed what the calls before it left
+abbrev pub calls : Call → Event
+calls c = record { call = c; handed = own }
 
 -- the session and the rows, with that bus and that area
 abbrev pub beside : Bus → List ℕ → World → World

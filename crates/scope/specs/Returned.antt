@@ -1,28 +1,20 @@
 -- What a reply brings of each request that the backend completed, in words (the Rust's `BackendAbort::completed`). Assumes nothing.
-use Prim.Native.Nat.{ℕ, _+_, _*_}
-use mathlib.Core.Bool.{Bool, cond, _&&_}
+use Prim.Native.Nat.{ℕ, _*_}
+use mathlib.Core.Bool.{Bool, _&&_}
 use mathlib.Core.List.{List}
 use lib.Dec.{eqb}
 use lib.ListN.{length, getD}
 use Rattle.chain.specs.Lists.{sumBy}
 use Rattle.words.specs.Records.{tab, part}
 use Rattle.words.specs.Words.{readFlag, readOptionU32, readOptionU64}
-use Rattle.models.specs.declared.{BackendCompletion.BackendCompletion, OperationError.OperationError, OptionError.OptionError}
-use Rattle.rows.specs.Codec.{readErrorWords}
+use Rattle.models.specs.Values.{readOptionError}
+use Rattle.models.specs.declared.{BackendCompletion.BackendCompletion}
 use Rattle.scope.specs.declared.{returned.Brought.Brought}
 
 -- a completion's words: error (a flag, then category, message, system number, code), length (a flag and the number), code, whether it
 -- brings data, whether it is quiescent, and how many bytes of the data area are its own
 abbrev pub completionWords : ℕ
 completionWords = 11
-
--- an error, four words from `at` on: category, message, system number, completion code
-abbrev pub readError : List ℕ → ℕ → OperationError
-readError w at = readErrorWords (getD w at 0) (getD w (at + 1) 0) (getD w (at + 2) 0) (getD w (at + 3) 0)
-
--- an optional one, five: a flag, and the error
-abbrev pub readOptionError : List ℕ → ℕ → OptionError
-readOptionError w at = cond (eqb (getD w at 0) 0) OptionError.None (OptionError.Some (readError w (at + 1)))
 
 -- what the first ten words say
 abbrev pub readCompletion : List ℕ → BackendCompletion

@@ -1,8 +1,6 @@
 // What a reply brings of each request that the backend completed, in words.
 use models::BackendCompletion;
-use models::OperationError;
-use models::OptionError;
-use rows::codec;
+use models::values;
 use words::slices::word_at;
 ghost use mathlib.Core.Path.{_≡_};
 ghost use Prim.Native.Nat.{_+_, _*_, _≤_};
@@ -10,7 +8,7 @@ ghost use lib.ListN.{length};
 ghost use lib.Dec.{eqb};
 ghost use Rattle.chain.specs.Lists.{sumBy};
 ghost use Rattle.words.specs.Records.{tab};
-ghost use Rattle.scope.specs.Returned.{completionWords, readError, readOptionError, readCompletion, readBrought, broughtAt, givenOf, listsAgree};
+ghost use Rattle.scope.specs.Returned.{completionWords, readCompletion, readBrought, broughtAt, givenOf, listsAgree};
 
 // A completion, and how many bytes of the data area are its own.
 pub struct Brought {
@@ -20,28 +18,6 @@ pub struct Brought {
 
 const WORDS: usize = 11;
 
-// Four words: category, message, system number, completion code.
-pub fn error_at(w: &[u64], at: u16) -> OperationError
-    ensures { λ r. ⌜ r ≡ readError (now (w .entry)) at ⌝ }
-{
-    let i = at as usize;
-    codec::to_error(
-        word_at(w, i),
-        word_at(w, i + 1),
-        word_at(w, i + 2),
-        word_at(w, i + 3),
-    )
-}
-
-pub fn option_error_at(w: &[u64], at: u8) -> OptionError
-    ensures { λ r. ⌜ r ≡ readOptionError (now (w .entry)) at ⌝ }
-{
-    if word_at(w, at as usize) == 0 {
-        return OptionError::None;
-    }
-    OptionError::Some(error_at(w, at as u16 + 1))
-}
-
 // A completion by its first ten words.
 pub fn completion(w: &[u64]) -> BackendCompletion
     ensures { λ r. ⌜ r ≡ readCompletion (now (w .entry)) ⌝ }
@@ -50,7 +26,7 @@ pub fn completion(w: &[u64]) -> BackendCompletion
         actual_length: words::to_option_u64(word_at(w, 5), word_at(w, 6)),
         completion_code: words::to_option_u32(word_at(w, 7)),
         has_data: words::to_flag(word_at(w, 8)),
-        error: option_error_at(w, 0),
+        error: values::option_error_at(w, 0),
         quiescent: words::to_flag(word_at(w, 9)),
     }
 }

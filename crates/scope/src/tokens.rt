@@ -36,7 +36,7 @@ pub fn rises(own: &[u64]) -> bool
     true
 }
 
-// The same as `slot_of`. Where tokens rise, one that stands at `near` stands nowhere else.
+// `slot_of`, trying index `near` first; correct as rising tokens are distinct.
 pub fn slot_near(own: &[u64], rising: bool, near: usize, token: u64) -> usize
     requires { ⌜ Rises rising (now own) ⌝ }
     ensures { λ r. ⌜ r ≡ slotOf (now (own .entry)) token ⌝ }
@@ -67,7 +67,7 @@ pub fn returned_at(tokens: &[u64], aborted: &[u64], k: usize) -> u64
     aborted[k - n]
 }
 
-// Each is expected and came not before: the first that has it is marked.
+// Each token is one of `own` and none repeats; seen ones are marked.
 fn each_once(own: &[u64], tokens: &[u64], aborted: &[u64]) -> bool
     requires { ⌜ (length (now own) ≤ 128) × (length (now tokens) ≤ 128) × (length (now aborted) ≤ 128) ⌝ }
     ensures { λ r. ⌜ r ≡ eachOnce (now (own .entry)) [] (now (tokens .entry) ++ now (aborted .entry)) ⌝ }

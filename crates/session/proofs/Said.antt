@@ -1,4 +1,4 @@
--- What the session's calls refuse is of the table. Assumes nothing.
+-- Every number that a call of the session refuses by is in its list. Assumes nothing.
 use Prim.Native.Nat.{ℕ}
 use mathlib.Core.Bool.{Bool, true}
 use mathlib.Core.List.{List}

@@ -1,4 +1,4 @@
--- What is lent to a call, as one value, and what a contract says of lent slices, at the call's start and at its end. Assumes nothing.
+-- What is lent to a call, as one value, and a contract's lent slices at the call's start and at its end. Assumes nothing.
 use Prim.Native.Nat.{ℕ}
 use mathlib.Core.Bool.{Bool}
 use mathlib.Core.List.{List}

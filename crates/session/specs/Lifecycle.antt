@@ -91,7 +91,7 @@ unfoldable pub freshBy : OptionU64 → OptionError → Session → Store → Aft
 freshBy OptionU64.None reply s store = after (callRefused s (refusalOf 52)) store
 freshBy (OptionU64.Some fresh) reply s store = closedBy reply fresh s store
 
--- 1, 3; Closed succeeds unchanged
+-- 1, 3; Closed passes unchanged
 unfoldable pub closeOf : OptionU64 → OptionError → Session → Store → After Called Store
 closeOf fresh reply s store =
     guarded s (storeFits (s .size) store) (λ r. after (callRefused s r) store)

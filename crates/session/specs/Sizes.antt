@@ -1,7 +1,9 @@
 -- The sizes that a session records, and whether lent slices have them (document 01's 3). Assumes nothing.
 use Prim.Native.Nat.{ℕ, _*_}
 use mathlib.Core.Bool.{Bool, _&&_}
+use mathlib.Core.List.{List}
 use lib.Dec.{eqb, leb}
+use Rattle.words.specs.Records.{spliceCut}
 use Rattle.rows.specs.Table.{rowWords}
 use Rattle.bus.specs.Layout.{busWords}
 use Rattle.session.specs.declared.{Size.Size, sizes.Place.Place}
@@ -22,6 +24,10 @@ busFits words = eqb words busWords
 -- where a row's bytes start
 abbrev pub placeOf : Size → ℕ → Place
 placeOf z i = record { row = i; start = i * z .«row_bytes» }
+
+-- a valid completion's data overwrites the first of row i's bytes only, cut at their end
+abbrev pub dataAt : Size → ℕ → List ℕ → List ℕ → List ℕ
+dataAt z i bytes area = spliceCut (placeOf z i .start) (z .«row_bytes») bytes area
 
 -- rows and area, and the bus
 abbrev pub memorySizes : Size → ℕ → ℕ → Bool

@@ -6,7 +6,7 @@ use Rattle.models.specs.declared.{Refusal.Refusal, Verdict.Verdict}
 use Rattle.session.specs.Session.{isBusy}
 use Rattle.session.specs.declared.{Session.Session}
 
--- 1, 3, then what the call does
+-- refused by 1 while an operation is in flight, by 3 if a slice has not the session's size; else done
 unfoldable pub guarded : {A : Type 0} → Session → Bool → (Refusal → A) → A → A
 guarded s fits refused done =
     refused (refusalOf 1) if isBusy (s .«in_flight») else

@@ -8,10 +8,10 @@ use words::OptionU64;
 ghost use mathlib.Core.Path.{_≡_};
 ghost use Rattle.session.specs.Session.{isClosed, isAcquired, isInitialized, mayRecover, isBusy, raised, withController, withFlight, withStall, spent, marked};
 
-pub mod lifecycle;
-pub mod place;
-pub mod sizes;
-pub mod start;
+pub mod lifecycle; // lifecycle.rt: open, acquire, initialise, close
+pub mod place; // place.rt: the placing calls
+pub mod sizes; // sizes.rt: the sizes of the lent slices, and where a row's bytes lie
+pub mod start; // start.rt: 1 and 3, at the start of a call
 
 // The greatest revision, 2^64 - 1.
 const LAST_REVISION: u64 = 18446744073709551615;
@@ -68,7 +68,7 @@ pub struct Session {
     pub size: Size,
 }
 
-// A verdict with the session after it.
+// The result of a call: its verdict and the session it leaves.
 pub struct Called {
     pub answer: Verdict,
     pub session: Session,
@@ -134,7 +134,7 @@ pub(crate) fn is_busy(f: InFlight) -> bool
     }
 }
 
-// One more; past the greatest number it is none for ever.
+// Increments; None once the counter is exhausted, and from then on.
 fn raise(revision: OptionU64) -> OptionU64
     ensures { λ r. ⌜ r ≡ raised revision ⌝ }
 {
@@ -175,7 +175,7 @@ pub fn with_stall(session: Session, recoverable_stall: OptionStall) -> Session
     }
 }
 
-// The session once a submission has taken its number: the next one, and the submission in flight.
+// The session with the next sequence number and the submission in flight.
 pub fn spend(session: Session, next_sequence: u64, id: RequestId) -> Session
     ensures { λ r. ⌜ r ≡ spent session «next_sequence» id ⌝ }
 {
@@ -186,7 +186,7 @@ pub fn spend(session: Session, next_sequence: u64, id: RequestId) -> Session
     }
 }
 
-// A recovery mark: unless Closed, RecoveryRequired with the revision raised.
+// Marks recovery: unless Closed, the state is RecoveryRequired and the revision rises.
 pub fn mark(session: Session) -> Session
     ensures { λ r. ⌜ r ≡ marked session ⌝ }
 {

@@ -103,10 +103,11 @@ fn new_session(o: Opening) -> Session
     }
 }
 
-// Opens a session on a store and a bus, whatever they held. 3: a size is wrong.
+// Opens a session on a store and a bus, whatever they held. Refuses by 3 if a size is wrong.
 pub fn open(o: Opening, rows: &mut [u64], area: &[u8], bus: &mut [u64]) -> Opened
-    ensures { λ r. ⌜ (after r (lent (busOut bus) (memory (storeOut rows) (now (area .entry))))
-        ≡ openOf o (lentIn bus rows area)) × Tabled openNumbers (openedSaid r) ⌝ }
+    ensures step { λ r. ⌜ after r (lent (busOut bus) (memory (storeOut rows) (now (area .entry))))
+        ≡ openOf o (lentIn bus rows area) ⌝ }
+    ensures table { λ r. ⌜ Tabled openNumbers (openedSaid r) ⌝ }
 {
     let size = o.size;
     if !sizes::lent_fits(size, rows.len(), area.len(), bus.len()) {
@@ -139,9 +140,10 @@ fn acquired(session: Session, reply: AcquireReply) -> Called
     }
 }
 
-// 1; 50 not Closed; 45: a failed acquire stays Closed unless resources are retained.
+// Refuses by 1 while an operation is in flight, by 50 unless Closed, by 45 if the backend failed: still Closed, unless it retains resources.
 pub fn acquire(session: Session, reply: AcquireReply) -> Called
-    ensures { λ r. ⌜ (r ≡ acquireOf reply session) × Tabled acquireNumbers (verdictSaid (r .answer)) ⌝ }
+    ensures step { λ r. ⌜ r ≡ acquireOf reply session ⌝ }
+    ensures table { λ r. ⌜ Tabled acquireNumbers (verdictSaid (r .answer)) ⌝ }
 {
     let flight = session.in_flight;
     let state = session.state;
@@ -165,9 +167,10 @@ fn initialized(session: Session, reply: OptionError) -> Called
     }
 }
 
-// 1; 51 not AcquiredUnknown; 45: a failed initialise marks.
+// Refuses by 1 while an operation is in flight, by 51 unless AcquiredUnknown, by 45 with a recovery mark if the backend failed.
 pub fn initialize(session: Session, reply: OptionError) -> Called
-    ensures { λ r. ⌜ (r ≡ initializeOf reply session) × Tabled initializeNumbers (verdictSaid (r .answer)) ⌝ }
+    ensures step { λ r. ⌜ r ≡ initializeOf reply session ⌝ }
+    ensures table { λ r. ⌜ Tabled initializeNumbers (verdictSaid (r .answer)) ⌝ }
 {
     let flight = session.in_flight;
     let state = session.state;
@@ -193,7 +196,7 @@ fn closed_session(session: Session, fresh: u64) -> Session
     }
 }
 
-// What the backend's reply to close leaves: 45 with a mark, or a new ledger and every row free.
+// What the backend's reply to close leaves: a refusal by 45 with a recovery mark, or a new ledger with every row free.
 fn closed(session: Session, rows: &mut [u64], fresh: u64, reply: OptionError) -> Called
     ensures { λ r. ⌜ after r (storeOut rows) ≡ closedBy reply fresh session (storeIn rows) ⌝ }
 {
@@ -206,10 +209,10 @@ fn closed(session: Session, rows: &mut [u64], fresh: u64, reply: OptionError) ->
     }
 }
 
-// 1; 3; Closed succeeds unchanged; 52 no fresh number; then by the reply.
+// Refuses by 1 and 3; passes unchanged if Closed; refuses by 52 without a fresh number; then goes by the reply.
 pub fn close(session: Session, rows: &mut [u64], fresh: OptionU64, reply: OptionError) -> Called
-    ensures { λ r. ⌜ (after r (storeOut rows) ≡ closeOf fresh reply session (storeIn rows))
-        × Tabled closeNumbers (verdictSaid (r .answer)) ⌝ }
+    ensures step { λ r. ⌜ after r (storeOut rows) ≡ closeOf fresh reply session (storeIn rows) ⌝ }
+    ensures table { λ r. ⌜ Tabled closeNumbers (verdictSaid (r .answer)) ⌝ }
 {
     let state = session.state;
     let verdict = start::rows_ready(session, rows.len());

@@ -1,7 +1,10 @@
-// Whether the lent slices have the sizes that the session records.
+// Whether the lent slices have the sizes that the session records, and where a row's bytes lie.
 use crate::Size;
+use words::slices;
 ghost use mathlib.Core.Path.{_≡_};
-ghost use Rattle.session.specs.Sizes.{sized, rowsFit, areaFits, busFits, memorySizes, lentSizes};
+ghost use Prim.Native.Nat.{_+_, _*_, _^_, _<_, _≤_};
+ghost use lib.ListN.{length};
+ghost use Rattle.session.specs.Sizes.{sized, rowsFit, areaFits, busFits, placeOf, dataAt, memorySizes, lentSizes};
 
 const ROW_WORDS: u64 = rows::ROW_WORDS as u64;
 
@@ -21,7 +24,7 @@ fn is_sized(size: Size) -> bool
         & (size.row_bytes <= 65536)
 }
 
-// The rows' words are as many as the record says.
+// The rows' words are as many as the size asks for.
 pub fn rows_fit(size: Size, words: usize) -> bool
     ensures { λ r. ⌜ r ≡ rowsFit size words ⌝ }
 {
@@ -62,4 +65,23 @@ pub(crate) fn lent_fits(size: Size, words: usize, bytes: usize, bus_words: usize
     let memory_fits = memory_fits(size, words, bytes);
     let bus_fits = bus_fits(bus_words);
     memory_fits & bus_fits
+}
+
+pub fn place_of(size: Size, i: usize) -> Place
+    requires { ⌜ i * size .«row_bytes» < 2 ^ 64 ⌝ }
+    ensures { λ r. ⌜ r ≡ placeOf size i ⌝ }
+{
+    Place {
+        row: i,
+        start: i * size.row_bytes as usize,
+    }
+}
+
+// A valid completion's data overwrites the first of row i's bytes, cut at their end.
+pub fn put_data(area: &mut [u8], size: Size, i: usize, bytes: &[u8])
+    requires { ⌜ i * size .«row_bytes» + size .«row_bytes» ≤ length (now area) ⌝ }
+    ensures { λ _. ⌜ now (area .exit) ≡ dataAt size i (now (bytes .entry)) (now (area .entry)) ⌝ }
+{
+    let place = place_of(size, i);
+    slices::copy_cut(area, place.start, size.row_bytes as usize, bytes);
 }

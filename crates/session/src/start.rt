@@ -1,5 +1,5 @@
-// The start of a call that is neither a reply nor a report. 1: an operation is in flight; 3: a lent slice has another size than the session
-// records.
+// The start of a call that is neither a reply nor a report: refuses by 1 while an operation is in flight, by 3 if a lent slice has not
+// the size that the session records.
 use crate::Session;
 use crate::is_busy;
 use crate::sizes;

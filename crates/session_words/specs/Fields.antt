@@ -1,8 +1,8 @@
 -- What is in flight, by its kind and its request. Assumes nothing.
 use mathlib.Core.Bool.{Bool, true, false}
+use Rattle.models.specs.Values.{readRequestWords}
 use Rattle.models.specs.declared.{RequestId.RequestId}
 use Rattle.session.specs.declared.{InFlight.InFlight}
-use Rattle.session_words.specs.State.{readRequestWords}
 
 abbrev pub isSubmitFlight : InFlight → Bool
 isSubmitFlight InFlight.Nothing = false

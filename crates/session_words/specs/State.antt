@@ -8,6 +8,7 @@ use Rattle.chain.specs.Chain.{_if_else_}
 use Rattle.words.specs.Words.{flagWord, readFlag, readOptionU64, optionU64Words}
 use Rattle.words.specs.declared.{OptionU64.OptionU64, OptionWords.OptionWords}
 use Rattle.models.specs.Codes.{readController, controllerWord}
+use Rattle.models.specs.Values.{readRequestWords, readRequestId, readDeviceId}
 use Rattle.models.specs.declared.{DeviceId.DeviceId, OptionPorts.OptionPorts, RequestId.RequestId}
 use Rattle.session.specs.Said.{recoveryWord}
 use Rattle.session.specs.declared.{InFlight.InFlight, OptionStall.OptionStall, Recovery.Recovery, RecoveryKind.RecoveryKind, Session.Session}
@@ -23,19 +24,6 @@ readPorts present session count = cond (eqb present 0) OptionPorts.None (OptionP
 abbrev pub portsWords : OptionPorts → PortsWords
 portsWords OptionPorts.None = record { present = 0; session = 0; count = 0 }
 portsWords (OptionPorts.Some p) = record { present = 1; session = p .session; count = p .count }
-
-abbrev pub readDeviceWords : ℕ → ℕ → ℕ → DeviceId
-readDeviceWords session generation slot = record { session = session; generation = generation; slot = slot % 2 ^ 8 }
-
-abbrev pub readRequestWords : ℕ → ℕ → ℕ → RequestId
-readRequestWords session generation sequence = record { session = session; generation = generation; sequence = sequence }
-
--- the device and the request from word `at` on
-abbrev pub readDeviceId : List ℕ → ℕ → DeviceId
-readDeviceId w at = readDeviceWords (getD w at 0) (getD w (at + 1) 0) (getD w (at + 2) 0)
-
-abbrev pub readRequestId : List ℕ → ℕ → RequestId
-readRequestId w at = readRequestWords (getD w at 0) (getD w (at + 1) 0) (getD w (at + 2) 0)
 
 abbrev pub readStall : ℕ → ℕ → DeviceId → ℕ → OptionStall
 readStall present revision device endpoint =

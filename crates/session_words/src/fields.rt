@@ -1,7 +1,9 @@
 // Single fields of a session, read from its words and written there.
-use crate::state;
+use crate::state::FLIGHT;
+use crate::state::REQUEST;
 use models::RequestId;
 use models::codes;
+use models::values::id_at;
 use session::Size;
 use words::slices;
 use words::slices::word_at;
@@ -25,21 +27,21 @@ pub fn size(w: &[u64]) -> Size
 pub fn is_busy(w: &[u64]) -> bool
     ensures { λ r. ⌜ r ≡ isBusy (readSession (now (w .entry)) .«in_flight») ⌝ }
 {
-    let tag = word_at(w, 15);
+    let tag = word_at(w, FLIGHT);
     tag != 0
 }
 
 pub fn is_submitting(w: &[u64]) -> bool
     ensures { λ r. ⌜ r ≡ isSubmitFlight (readSession (now (w .entry)) .«in_flight») ⌝ }
 {
-    let tag = word_at(w, 15);
+    let tag = word_at(w, FLIGHT);
     tag == 1
 }
 
 pub fn is_polling(w: &[u64]) -> bool
     ensures { λ r. ⌜ r ≡ isPollFlight (readSession (now (w .entry)) .«in_flight») ⌝ }
 {
-    let tag = word_at(w, 15);
+    let tag = word_at(w, FLIGHT);
     tag == 2
 }
 
@@ -48,7 +50,7 @@ pub fn flight_id(w: &[u64]) -> RequestId
     requires { ⌜ isBusy (readSession (now w) .«in_flight») ≡ true ⌝ }
     ensures { λ r. ⌜ r ≡ flightId (readSession (now (w .entry)) .«in_flight») ⌝ }
 {
-    state::id_at(w, 16)
+    id_at(w, REQUEST)
 }
 
 pub fn is_initialized(w: &[u64]) -> bool
@@ -58,21 +60,21 @@ pub fn is_initialized(w: &[u64]) -> bool
     session::is_initialized(controller)
 }
 
-// A poll of the id is in flight. In a session's own words, where nothing is in flight, the other words of what is are 0.
+// Puts a poll of the id in flight. Needs canonical words: where nothing is in flight, the words that a poll does not use are 0.
 pub fn begin_poll(w: &mut [u64], id: RequestId)
     requires { ⌜ (isSession (now w) ≡ true) × (isBusy (readSession (now w) .«in_flight») ≡ false) ⌝ }
     ensures { λ _. ⌜ keptOf (now (w .exit))
         ≡ keptAs (now (w .entry)) (withFlight (readSession (now (w .entry))) (InFlight.Poll id)) ⌝ }
 {
     let flight = [2, id.session, id.generation, id.sequence];
-    slices::copy_words(w, 15, &flight, 4);
+    slices::copy_words(w, FLIGHT, &flight, 4);
 }
 
-// Nothing is in flight any more.
+// Ends what is in flight.
 pub fn end_flight(w: &mut [u64])
     requires { ⌜ isSession (now w) ≡ true ⌝ }
     ensures { λ _. ⌜ keptOf (now (w .exit))
         ≡ keptAs (now (w .entry)) (withFlight (readSession (now (w .entry))) InFlight.Nothing) ⌝ }
 {
-    slices::clear_words(w, 15, 9);
+    slices::clear_words(w, FLIGHT, 9);
 }

@@ -1,3 +1,3 @@
 // The session as words.
-pub mod fields;
-pub mod state;
+pub mod fields; // fields.rt: single fields, read and written in place
+pub mod state; // state.rt: whole sessions

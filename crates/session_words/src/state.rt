@@ -1,9 +1,10 @@
 // The session as words, one a field.
-use models::DeviceId;
 use models::OptionPorts;
 use models::Ports;
 use models::RequestId;
 use models::codes;
+use models::values::device_at;
+use models::values::id_at;
 use session::InFlight;
 use session::OptionStall;
 use session::RecoverableStall;
@@ -16,11 +17,19 @@ use words::slices::word_at;
 ghost use mathlib.Core.Path.{_≡_};
 ghost use mathlib.Core.List.{[], _∷_};
 ghost use Rattle.words.specs.Words.{optionU64Words};
+ghost use Rattle.models.specs.Values.{readRequestWords, readDeviceWords};
 ghost use Rattle.session.specs.Said.{recoveryWord};
-ghost use Rattle.session_words.specs.State.{readDeviceId, readRequestId, readPorts, portsIn, portsWords, revisionIn, readDeviceWords, readRequestWords, readStall, stallIn, stallWords, readKind, readFlight, flightIn, idFlight, recoveryFlight, flightWords, readSession, sessionWords, portsTail, revisionTail, stallTail, flightTail, standsAt, isSession, keptOf, keptAs};
+ghost use Rattle.session_words.specs.State.{readPorts, portsIn, portsWords, revisionIn, readStall, stallIn, stallWords, readKind, readFlight, flightIn, idFlight, recoveryFlight, flightWords, readSession, sessionWords, portsTail, revisionTail, stallTail, flightTail, standsAt, isSession, keptOf, keptAs};
 
 // How many words a session has.
 pub const WORDS: usize = 26;
+
+// Where what is in flight stands: its tag, the request, and the device of a recovery.
+pub(crate) const FLIGHT: usize = 15;
+
+pub(crate) const REQUEST: u8 = 16;
+
+const DEVICE: u8 = 19;
 
 // The words of optional ports, of an optional stall and of what is in flight.
 pub struct PortsWords {
@@ -48,28 +57,6 @@ pub struct FlightWords {
     pub slot: u64,
     pub endpoint: u64,
     pub kind: u64,
-}
-
-pub fn device_at(w: &[u64], at: u8) -> DeviceId
-    ensures { λ r. ⌜ r ≡ readDeviceId (now (w .entry)) at ⌝ }
-{
-    let i = at as usize;
-    DeviceId {
-        session: word_at(w, i),
-        generation: word_at(w, i + 1),
-        slot: (word_at(w, i + 2) % 256) as u8,
-    }
-}
-
-pub fn id_at(w: &[u64], at: u8) -> RequestId
-    ensures { λ r. ⌜ r ≡ readRequestId (now (w .entry)) at ⌝ }
-{
-    let i = at as usize;
-    RequestId {
-        session: word_at(w, i),
-        generation: word_at(w, i + 1),
-        sequence: word_at(w, i + 2),
-    }
 }
 
 fn to_ports(w: &[u64]) -> OptionPorts
@@ -166,18 +153,18 @@ pub fn kind_word(kind: RecoveryKind) -> u64
 fn to_flight(w: &[u64]) -> InFlight
     ensures { λ r. ⌜ r ≡ flightIn (now (w .entry)) ⌝ }
 {
-    let tag = word_at(w, 15);
+    let tag = word_at(w, FLIGHT);
     if tag == 0 {
         return InFlight::Nothing;
     }
-    let id = id_at(w, 16);
+    let id = id_at(w, REQUEST);
     if tag == 1 {
         return InFlight::Submission(id);
     }
     if tag == 2 {
         return InFlight::Poll(id);
     }
-    let device = device_at(w, 19);
+    let device = device_at(w, DEVICE);
     let kind = to_kind(word_at(w, 23));
     let endpoint = (word_at(w, 22) % 256) as u8;
     InFlight::Recovery(Recovery {
@@ -357,14 +344,14 @@ fn is_stall(w: &[u64]) -> bool
 fn is_flight(w: &[u64]) -> bool
     ensures { λ r. ⌜ r ≡ standsAt (now (w .entry)) 15 (flightTail (flightWords (flightIn (now (w .entry)))) []) ⌝ }
 {
-    let tag = word_at(w, 15);
+    let tag = word_at(w, FLIGHT);
     if tag == 3 {
         let slot = word_at(w, 21);
         let endpoint = word_at(w, 22);
         let kind = word_at(w, 23);
         return (slot < 256) & (endpoint < 256) & (kind < 3);
     }
-    let alone = are_five_zeros(w, 19);
+    let alone = are_five_zeros(w, DEVICE);
     if tag == 0 {
         let session = word_at(w, 16);
         let generation = word_at(w, 17);

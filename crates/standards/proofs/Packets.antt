@@ -53,7 +53,7 @@ packet-back s h =
 pub same-packet : (s t : SetupPacket) → Fitting s → Fitting t → setupBytes s ≡ setupBytes t → s ≡ t
 same-packet s t hs ht e = sym (packet-back s hs) ∙ ap readPacket e ∙ packet-back t ht
 
--- the comparison says whether two lists are the same
+-- the comparison finds whether two lists are the same
 pub same-self : (a : List ℕ) → sameBytes a a ≡ true
 same-self [] = refl
 same-self (x ∷ a) = rw (eq-eqb x x refl) (same-self a)

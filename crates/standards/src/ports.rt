@@ -3,7 +3,11 @@ use crate::PortStatus;
 ghost use mathlib.Core.Path.{_≡_};
 ghost use Rattle.standards.specs.Ports.{portConnected, portSpeed, portStatusOf};
 
+// Port Reset, and Warm Port Reset.
 const RESETTING: u32 = 1 << 4 | 1 << 31;
+
+// The code of low speed in a port's word, xHCI 7.2.2.1.1.
+pub const LOW_SPEED: u8 = 2;
 
 pub fn port_connected(raw: u32) -> bool
     ensures { λ r. ⌜ r ≡ portConnected raw ⌝ }

@@ -50,7 +50,7 @@ pub fn setup_bytes(packet: SetupPacket) -> [u8; 8]
     ]
 }
 
-// By value: the length of a list behind a `&[u8; 8]` is not told.
+// By value: a contract does not know the length of a list behind a `&[u8; 8]`.
 fn same_bytes(a: [u8; 8], b: [u8; 8]) -> bool
     ensures { λ r. ⌜ r ≡ sameBytes a b ⌝ }
 {
@@ -71,7 +71,7 @@ pub fn same_setup(a: &[u8; 8], b: &[u8; 8]) -> bool
     same_bytes(*a, *b)
 }
 
-// Bit 7 says the direction of a request and of an endpoint alike.
+// Bit 7 is the direction, of a request and of an endpoint alike.
 fn direction_of(byte: u8) -> Direction
     ensures { λ r. ⌜ r ≡ inIf (bit 7 byte) ⌝ }
 {

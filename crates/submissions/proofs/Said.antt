@@ -1,4 +1,4 @@
--- What a submission and its reply refuse is of the table. Assumes nothing.
+-- Every number that a submission or its reply refuses by is in its list. Assumes nothing.
 use Prim.Native.Nat.{ℕ}
 use mathlib.Core.Bool.{true}
 use mathlib.Core.List.{List}

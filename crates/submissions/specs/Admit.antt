@@ -1,5 +1,5 @@
--- What a submission passes before its device is looked at (document 01, the places start, packets, capacity, prepare and plan of its table). A
--- submission goes on from here, and so does the question which port reading it lacks. Assumes nothing.
+-- The admission of a submission: every check before its device (document 01, the places start, packets, capacity, prepare and plan of its
+-- table). Both the submission and the question which port reading it lacks begin with it. Assumes nothing.
 use Prim.Native.Nat.{ℕ}
 use mathlib.Core.Bool.{Bool}
 use mathlib.Core.List.{List}
@@ -18,7 +18,7 @@ use Rattle.session.specs.declared.{Session.Session, sizes.Place.Place}
 use Rattle.submissions.specs.Begin.{roomIn}
 use Rattle.submissions.specs.declared.{admit.Admitted.Admitted, admit.AdmittedPlan.AdmittedPlan, admit.Room.Room}
 
--- 5: no free row, or 128 are held
+-- refused by 5 if no row is free or 128 are held
 unfoldable pub placeIn : Session → List Row → Room
 placeIn s rows =
     elim (roomIn rows) [
@@ -36,7 +36,7 @@ admitPrepared p q n s =
       | Prepared.Ready m ↦ Admitted.Ready p m
     ]
 
--- 5
+-- 5; then 6 to 17
 unfoldable pub admitRoom : RequestSpec → ℕ → Session → List Row → Admitted
 admitRoom q n s rows =
     elim (placeIn s rows) [
@@ -44,7 +44,7 @@ admitRoom q n s rows =
       | Room.At p ↦ admitPrepared p q n s
     ]
 
--- 4
+-- 4; then 5
 unfoldable pub admitPackets : List ℕ → Bool → RequestSpec → ℕ → Session → List Row → Admitted
 admitPackets packets given q n s rows =
     elim (packetsChecked given packets (q .«transfer_type») (q .length)) [
@@ -52,13 +52,13 @@ admitPackets packets given q n s rows =
       | Verdict.Pass ↦ admitRoom q n s rows
     ]
 
--- 1, 3
+-- 1, 3; then 4
 unfoldable pub admitOf : List ℕ → Bool → RequestSpec → ℕ → Session → Lent → Admitted
 admitOf packets given q n s l = guarded s (lentFits (s .size) l) Admitted.Refused (admitPackets packets given q n s (l .memory .store .rows))
 
 -- ---- a control plan with n bytes of data
 
--- 18 to 25 with 6 and 7
+-- 18 to 20, 6, 7, 21 to 25
 unfoldable pub admitPlanned : Place → ControlPlan → ℕ → Session → AdmittedPlan
 admitPlanned p q n s =
     elim (planned q n (s .size .«row_bytes»)) [
@@ -66,7 +66,7 @@ admitPlanned p q n s =
       | Planned.Ready v ↦ AdmittedPlan.Ready p v
     ]
 
--- 5
+-- 5; then 18
 unfoldable pub admitPlanRoom : ControlPlan → ℕ → Session → List Row → AdmittedPlan
 admitPlanRoom q n s rows =
     elim (placeIn s rows) [
@@ -74,6 +74,6 @@ admitPlanRoom q n s rows =
       | Room.At p ↦ admitPlanned p q n s
     ]
 
--- 1, 3
+-- 1, 3; then 5
 unfoldable pub admitPlanOf : ControlPlan → ℕ → Session → Lent → AdmittedPlan
 admitPlanOf q n s l = guarded s (lentFits (s .size) l) AdmittedPlan.Refused (admitPlanRoom q n s (l .memory .store .rows))

@@ -11,6 +11,7 @@ use Rattle.chain.specs.Lists.{count, foundIn}
 use Rattle.chain.specs.declared.{Found.Found}
 use Rattle.words.specs.Records.{splice}
 use Rattle.models.specs.Kinds.{isIn}
+use Rattle.models.specs.Requests.{heldMost}
 use Rattle.models.specs.declared.{Refusal.Refusal, RequestId.RequestId, RequestMetadata.RequestMetadata, Verdict.Verdict}
 use Rattle.rows.specs.Table.{isHeld, readRows}
 use Rattle.rows.specs.Store.{putIn}
@@ -28,9 +29,9 @@ use Rattle.session.specs.Lent.{Memory, Lent, memory, lent}
 use Rattle.session.specs.declared.{Session.Session, sizes.Place.Place}
 use Rattle.submissions.specs.declared.{begin.Start.Start, begin.Started.Started}
 
--- the first row without a request, unless 128 are held
+-- the first row without a request, unless as many are held as may be
 unfoldable pub roomIn : List Row → Found
-roomIn rows = Found.Nothing if leb 128 (count isHeld rows) else foundIn isFree rows
+roomIn rows = Found.Nothing if leb heldMost (count isHeld rows) else foundIn isFree rows
 
 abbrev pub newId : Session → RequestId
 newId s = record { session = s .number; generation = s .generation; sequence = s .«next_sequence» }
@@ -45,7 +46,7 @@ bufferOf m bytes = replicate (m .«requested_length») 0 if isIn (m .direction) 
 unfoldable pub writeOf : ℕ → RequestMetadata → List ℕ → List ℕ → List ℕ
 writeOf start m bytes area = splice start (bufferOf m bytes) area
 
--- a request that passed its checks, with its row's place and its data
+-- an admitted request, with its row's place and its data
 pub record Draft : Type 0 where
   pub place : Place
   pub metadata : RequestMetadata

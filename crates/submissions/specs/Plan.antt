@@ -35,6 +35,6 @@ unfoldable pub submitPlanBy : AdmittedPlan → List ℕ → PortReading → Sess
 submitPlanBy (AdmittedPlan.Refused r) bytes first s l = after (planRefused s r) l
 submitPlanBy (AdmittedPlan.Ready p v) bytes first s l = planTarget p v bytes first s l
 
--- 1, 3, 5, 18 to 25 with 6 and 7, then the rest
+-- 1, 3, 5, 18 to 25 with 6 and 7; then 26 to 39
 unfoldable pub submitPlanOf : ControlPlan → List ℕ → PortReading → Session → Lent → After PlanSubmitted Lent
 submitPlanOf q bytes first s l = submitPlanBy (admitPlanOf q (length bytes) s l) bytes first s l

@@ -28,14 +28,14 @@ abbrev pub planSaid : PlanAnswer → Said
 planSaid (PlanAnswer.Refused r) = refused r
 planSaid (PlanAnswer.Begun x) = says (planValues x)
 
--- before the device
+-- of an admission
 abbrev pub admitNumbers : List ℕ
 admitNumbers = 1 ∷ 3 ∷ packetsNumbers ++ 5 ∷ prepareNumbers
 
 abbrev pub admitPlanNumbers : List ℕ
 admitPlanNumbers = 1 ∷ 3 ∷ 5 ∷ planNumbers
 
--- of either
+-- of the admission of a request or of a plan
 abbrev pub earlyNumbers : List ℕ
 earlyNumbers = admitNumbers ++ admitPlanNumbers
 

@@ -33,7 +33,7 @@ submittedBy (Start.At id i) s m given = record { answer = SubmitAnswer.Begun (re
 abbrev pub submittedTo : After Started Lent → RequestMetadata → Bool → After Submitted Lent
 submittedTo o m given = after (submittedBy (o .result .answer) (o .result .session) m given) (o .lent)
 
--- 26 to 39 with 58 after 37
+-- 26 to 37, 58, 38, 39
 unfoldable pub submitTarget : Draft → Bool → Readings → Session → Lent → After Submitted Lent
 submitTarget d given x s l = submittedTo (targetOf d x s l) (d .metadata) given
 
@@ -41,6 +41,6 @@ unfoldable pub submitBy : Admitted → Request → Session → Lent → After Su
 submitBy (Admitted.Refused r) q s l = after (submitRefused s r) l
 submitBy (Admitted.Ready p m) q s l = submitTarget (draft p m (q .bytes)) (q .given) (q .readings) s l
 
--- 1, 3, 4, 5, 6 to 17, then the rest
+-- 1, 3, 4, 5, 6 to 17; then 26 to 39
 unfoldable pub submitOf : List ℕ → Request → Session → Lent → After Submitted Lent
 submitOf packets q s l = submitBy (admitOf packets (q .given) (q .spec) (length (q .bytes)) s l) q s l

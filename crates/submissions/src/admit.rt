@@ -1,5 +1,5 @@
-// What a submission passes before its device is looked at: the session's start, its packets, a free row, its own fields. A submission goes
-// on from here, and so does the question which port reading it lacks.
+// The admission of a submission: the session's start, its packets, a free row and its own fields, all before its device is looked at. Both
+// the submission and the question which port reading it lacks begin with it.
 use crate::begin;
 use chain::Found;
 use checks::packets;
@@ -23,24 +23,25 @@ ghost use Rattle.session.specs.Lent.{rowsIn, lentIn};
 ghost use Rattle.session.specs.Sizes.{memorySizes};
 ghost use Rattle.submissions.specs.Admit.{placeIn, admitPrepared, admitRoom, admitPackets, admitOf, admitPlanned, admitPlanRoom, admitPlanOf};
 
-// The place of the row for a new request, or the refusal.
+// The row of a new request with its part of the area, or the refusal.
 pub enum Room {
     Refused(Refusal),
     At(Place),
 }
 
-// A request that may go on to its device, with its row's place, or the refusal.
+// An admitted request with its row, or the refusal.
 pub enum Admitted {
     Refused(Refusal),
     Ready(Place, RequestMetadata),
 }
 
+// An admitted control plan with its row, or the refusal.
 pub enum AdmittedPlan {
     Refused(Refusal),
     Ready(Place, ValidatedControlPlan),
 }
 
-// 5.
+// Refuses by 5 if no row is free or 128 are held.
 fn find_place(session: Session, rows: &[u64], area: &[u8]) -> Room
     requires { ⌜ memorySizes (session .size) (length (now rows)) (length (now area)) ≡ true ⌝ }
     ensures { λ r. ⌜ r ≡ placeIn session (rowsIn rows) ⌝ }
@@ -54,7 +55,7 @@ fn find_place(session: Session, rows: &[u64], area: &[u8]) -> Room
     Room::At(Place { row, start })
 }
 
-// 6 to 17.
+// Refuses by 6 to 17.
 fn admit_prepared(session: Session, place: Place, q: RequestSpec, data_length: u64) -> Admitted
     ensures { λ r. ⌜ r ≡ admitPrepared place q «data_length» session ⌝ }
 {
@@ -66,7 +67,7 @@ fn admit_prepared(session: Session, place: Place, q: RequestSpec, data_length: u
     }
 }
 
-// 5, 6 to 17.
+// Refuses by 5 if no row is free or 128 are held; else prepares the request.
 fn admit_room(
     session: Session,
     rows: &[u64],
@@ -84,7 +85,7 @@ fn admit_room(
     }
 }
 
-// 4, 5, 6 to 17.
+// Refuses by 4 if the packets do not fit the request; else looks for a row.
 fn admit_packets(
     session: Session,
     rows: &[u64],
@@ -105,7 +106,7 @@ fn admit_packets(
     }
 }
 
-// A request: 1, 3, 4, 5, 6 to 17.
+// Admits a request. Refuses by 1 while an operation is in flight, by 3 if a slice has not the session's size, then by 4, 5 and 6 to 17.
 pub(crate) fn admit(
     session: Session,
     bus: &[u64],
@@ -125,7 +126,7 @@ pub(crate) fn admit(
     }
 }
 
-// 18 to 25 with 6 and 7.
+// Refuses by 18 to 25, and by 6 and 7 before 21.
 fn admit_planned(session: Session, place: Place, q: ControlPlan, data_length: u64) -> AdmittedPlan
     ensures { λ r. ⌜ r ≡ admitPlanned place q «data_length» session ⌝ }
 {
@@ -137,7 +138,7 @@ fn admit_planned(session: Session, place: Place, q: ControlPlan, data_length: u6
     }
 }
 
-// 5, 18 to 25 with 6 and 7.
+// Refuses by 5 if no row is free or 128 are held; else validates the plan.
 fn admit_plan_room(
     session: Session,
     rows: &[u64],
@@ -155,7 +156,7 @@ fn admit_plan_room(
     }
 }
 
-// A control plan: 1, 3, 5, 18 to 25 with 6 and 7.
+// Admits a control plan. Refuses by 1 and 3 as a request, then by 5 and 18 to 25 with 6 and 7.
 pub(crate) fn admit_plan(
     session: Session,
     bus: &[u64],

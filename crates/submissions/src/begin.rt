@@ -1,5 +1,5 @@
-// The end of every submission, once its request is prepared: the device, the endpoint, the sequence number, and the one place where a
-// submission changes rows and area.
+// The end of every submission, once it is admitted: the device, the endpoint, the sequence number, and the one place where a submission
+// changes rows and area.
 use chain::Found;
 use ledger::search;
 use ledger::tally;
@@ -22,12 +22,16 @@ ghost use Rattle.rows.specs.Table.{readRows};
 ghost use Rattle.session.specs.Lent.{rowsIn, memoryIn, memoryOut, lentIn, lentOut};
 ghost use Rattle.submissions.specs.Begin.{roomIn, newId, startRefused, writeOf, draft, Placed, beginOf, targetOf};
 
-// A submission that was handed over, with its id and row, or the refusal.
+// How many requests may be held, as wide as their count.
+const HELD_MOST: u8 = models::HELD_MOST as u8;
+
+// A submission in flight, with its id and row, or the refusal.
 pub enum Start {
     Refused(Refusal),
     At(RequestId, u64),
 }
 
+// The answer and the session it leaves.
 pub struct Started {
     pub answer: Start,
     pub session: Session,
@@ -42,11 +46,11 @@ pub(crate) fn start_refused(session: Session, refusal: Refusal) -> Started
     }
 }
 
-// The row for a new request; 5: all rows are used, or 128 are held.
+// The first row without a request; Nothing if there is none or 128 are held.
 pub(crate) fn find_room(rows: &[u64]) -> Found
     ensures { λ r. ⌜ r ≡ roomIn (rowsIn rows) ⌝ }
 {
-    if tally::held_count(rows) >= 128 {
+    if tally::held_count(rows) >= HELD_MOST {
         return Found::Nothing;
     }
     search::first_free(rows)
@@ -77,7 +81,7 @@ fn write_buffer(area: &mut [u8], start: usize, metadata: RequestMetadata, bytes:
     slices::copy_bytes(area, start, bytes, bytes.len());
 }
 
-// 39, or the sequence number is spent, and row and buffer are written.
+// Refuses by 39 if no sequence number is left; else spends one, and writes row and buffer.
 fn begin(
     session: Session,
     rows: &mut [u64],
@@ -108,7 +112,7 @@ fn begin(
     }
 }
 
-// 26 to 37, 58, 38, then 39.
+// Refuses by 26 to 37, 58 and 38, then by 39. Readings taken before a refusal stay written.
 pub(crate) fn begin_target(
     session: Session,
     bus: &mut [u64],

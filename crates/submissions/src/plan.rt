@@ -1,4 +1,4 @@
-// A submission of a control plan.
+// The submission of a control plan.
 use crate::PlanAnswer;
 use crate::PlanSubmission;
 use crate::PlanSubmitted;
@@ -45,7 +45,7 @@ fn plan_started(started: Started, p: ValidatedControlPlan) -> PlanSubmitted
     }
 }
 
-// 26 to 35 and 39, for a plan that was admitted.
+// Submits an admitted plan. It is control, so its one reading serves for both. Refuses by 26 to 35 and 39.
 fn plan_target(
     session: Session,
     bus: &mut [u64],
@@ -69,7 +69,8 @@ fn plan_target(
     plan_started(started, p)
 }
 
-// A control plan: 1, 3, 5, 18 to 25 with 6 and 7, 26 to 35, 39.
+// Submits a control plan. Passing, it is in flight, and the answer is what the backend is to do. Refuses by 1, 3, 5, 18 to 25 with 6 and 7,
+// 26 to 35 and 39, in this order.
 pub fn submit_control_plan(
     session: Session,
     bus: &mut [u64],
@@ -79,9 +80,9 @@ pub fn submit_control_plan(
     bytes: &[u8],
     first: PortReading,
 ) -> PlanSubmitted
-    ensures { λ r. ⌜ (after r (lentOut bus rows area)
-        ≡ submitPlanOf q (now (bytes .entry)) first session (lentIn bus rows area))
-        × Tabled submitPlanNumbers (planSaid (r .answer)) ⌝ }
+    ensures step { λ r. ⌜ after r (lentOut bus rows area)
+        ≡ submitPlanOf q (now (bytes .entry)) first session (lentIn bus rows area) ⌝ }
+    ensures table { λ r. ⌜ Tabled submitPlanNumbers (planSaid (r .answer)) ⌝ }
 {
     let admitted = admit::admit_plan(session, bus, rows, area, q, bytes.len() as u64);
     match admitted {

@@ -49,7 +49,7 @@ fn submitted(started: Started, metadata: RequestMetadata, given: bool) -> Submit
     }
 }
 
-// 26 to 37, 58, 38, 39, for a request that was admitted.
+// Submits an admitted request. Refuses by 26 to 37, 58, 38 and 39.
 fn submit_target(
     session: Session,
     bus: &mut [u64],
@@ -69,7 +69,8 @@ fn submit_target(
     submitted(started, metadata, given)
 }
 
-// A request: 1, 3, 4, 5, 6 to 17, 26 to 37, 58, 38, 39. Passing, it is in flight, and the answer is what the backend is to do.
+// Submits a request. Passing, it is in flight, and the answer is what the backend is to do. Refuses by 1, 3, 4, 5, 6 to 17, 26 to 37, 58,
+// 38 and 39, in this order.
 pub fn submit_request_packets(
     session: Session,
     bus: &mut [u64],
@@ -81,9 +82,9 @@ pub fn submit_request_packets(
     packets: &[u64],
     readings: Readings,
 ) -> Submitted
-    ensures { λ r. ⌜ (after r (lentOut bus rows area)
-        ≡ submitOf (now (packets .entry)) (request q (now (bytes .entry)) given readings) session
-        (lentIn bus rows area)) × Tabled submitNumbers (submitSaid (r .answer)) ⌝ }
+    ensures step { λ r. ⌜ after r (lentOut bus rows area)
+        ≡ submitOf (now (packets .entry)) (request q (now (bytes .entry)) given readings) session (lentIn bus rows area) ⌝ }
+    ensures table { λ r. ⌜ Tabled submitNumbers (submitSaid (r .answer)) ⌝ }
 {
     let admitted = admit::admit(
         session,

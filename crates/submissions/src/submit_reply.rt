@@ -20,7 +20,7 @@ ghost use Rattle.reports.specs.Said.{reportSaid};
 ghost use Rattle.submissions.specs.Said.{submitReplyNumbers};
 ghost use Rattle.submissions.specs.SubmitReply.{acceptedBy, discardedBy, submitReplyBy, submitReplyOf};
 
-// The backend took the request: the operation ends with the row's report.
+// The backend took the request: the operation ends with the row's report. Refuses by 2 if no row has the id.
 fn accepted(applied: Applied, session: Session) -> Reported
     ensures { λ r. ⌜ r ≡ acceptedBy applied session ⌝ }
 {
@@ -33,7 +33,7 @@ fn accepted(applied: Applied, session: Session) -> Reported
     }
 }
 
-// The backend refused it: 45.
+// The backend refused it: the operation ends, refused by 45. Refuses by 2 if no row has the id.
 fn discarded(applied: Applied, error: OperationError, session: Session) -> Reported
     ensures { λ r. ⌜ r ≡ discardedBy applied error session ⌝ }
 {
@@ -60,10 +60,11 @@ fn reply_to(session: Session, rows: &mut [u64], id: RequestId, reply: SubmitRepl
     }
 }
 
-// 2: no submission is in flight; 3; 2: no row has its id. Else the operation ends.
+// Ends the submission in flight by the backend's reply. Refuses by 2 if none is in flight, by 3 if the rows have not the session's size, by 2
+// if no row has the id, by 45 if the backend refused.
 pub fn submit_reply(session: Session, rows: &mut [u64], reply: SubmitReply) -> Reported
-    ensures { λ r. ⌜ (after r (storeOut rows) ≡ submitReplyOf reply session (storeIn rows))
-        × Tabled submitReplyNumbers (reportSaid (r .answer)) ⌝ }
+    ensures step { λ r. ⌜ after r (storeOut rows) ≡ submitReplyOf reply session (storeIn rows) ⌝ }
+    ensures table { λ r. ⌜ Tabled submitReplyNumbers (reportSaid (r .answer)) ⌝ }
 {
     let flight = session.in_flight;
     let size = session.size;

@@ -1,4 +1,4 @@
-// Which port reading a submission lacks, given those that it has. Nothing is written; a submission that is refused before lacks none.
+// Which port reading a submission lacks, given those that it has. Nothing is written; a submission that is refused earlier lacks none.
 use crate::admit;
 use crate::admit::Admitted;
 use crate::admit::AdmittedPlan;
@@ -17,7 +17,7 @@ ghost use Rattle.session.specs.Lent.{busIn, lentIn};
 ghost use Rattle.submissions.specs.Submit.{request};
 ghost use Rattle.submissions.specs.Wants.{targetWants, submitWants, planWants};
 
-// 26 to 36.
+// The reading that an admitted submission lacks: the first one for 33, the second one behind 36.
 fn target_wants(
     session: Session,
     bus: &[u64],

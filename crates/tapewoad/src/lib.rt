@@ -8,6 +8,7 @@ ghost use Rattle.dispatch.specs.Read.{readingOf};
 ghost use Rattle.dispatch.specs.Slices.{buffersIn, buffersOut};
 ghost use Rattle.tapewoad.specs.Version.{version};
 
+// Makes the call that the words say. Answers a status; unless it is 0, nothing changes.
 #[no_mangle]
 pub extern "C" fn tapewoad_apply(
     session: &mut [u64],
@@ -25,7 +26,7 @@ pub extern "C" fn tapewoad_apply(
     dispatch::apply(session, bus, rows, area, call, bytes, out, lists)
 }
 
-// The same for what leaves all as it is.
+// Read-only calls and questions: `tapewoad_apply` without write access.
 #[no_mangle]
 pub extern "C" fn tapewoad_read(
     session: &[u64],

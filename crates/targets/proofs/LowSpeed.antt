@@ -68,7 +68,7 @@ module _ (raw : ℕ) (low : portSpeed raw ≡ lowSpeed) where
     target-carries (DeviceChecked.Refused r) b = tt
     target-carries (DeviceChecked.Ready d) b = if-by Carries _ _ _ (λ y. control-carried (m .«transfer_type») y) (λ y. endpoint-carries d b)
 
-    -- 37 and 58 together: the second reading has speed 2, and the request passes; then it is control or interrupt
+    -- 37 and 58 together: the second reading has low speed, and the request passes; then it is control or interrupt
     pub low-speed-carries : (ready : Bool) (first : PortReading) (b : Bus)
         → checkTarget ready o m (record { first = first; second = Word raw }) b .result ≡ Verdict.Pass → isLowSpeedType (m .«transfer_type») ≡ true
     unfolding checkTarget
@@ -79,11 +79,11 @@ module _ (raw slot endpoint : ℕ) (b : Bus) where
   abbrev Spared : TransferType → Type 0
   Spared type = speedChecked raw slot endpoint type b ≡ (rejected 38 if not (hasEndpoint slot endpoint type b) else Verdict.Pass)
 
-  spared : (type : TransferType) → (eqb (portSpeed raw) 2 && isBulk type) ≡ false → (eqb (portSpeed raw) 2 && isIsochronous type) ≡ false → Spared type
+  spared : (type : TransferType) → (eqb (portSpeed raw) lowSpeed && isBulk type) ≡ false → (eqb (portSpeed raw) lowSpeed && isIsochronous type) ≡ false → Spared type
   spared type noBulk neither = sym (placed-by raw slot endpoint type b _ _ refl refl noBulk _ refl neither _ refl)
 
   pub low-speed-spares : (type : TransferType) → (eqb (portSpeed raw) lowSpeed && not (isLowSpeedType type)) ≡ false → Spared type
   low-speed-spares TransferType.Control h = spared TransferType.Control h h
-  low-speed-spares TransferType.Bulk h = spared TransferType.Bulk h (and-false (eqb (portSpeed raw) 2))
+  low-speed-spares TransferType.Bulk h = spared TransferType.Bulk h (and-false (eqb (portSpeed raw) lowSpeed))
   low-speed-spares TransferType.Interrupt h = spared TransferType.Interrupt h h
-  low-speed-spares TransferType.Isochronous h = spared TransferType.Isochronous (and-false (eqb (portSpeed raw) 2)) h
+  low-speed-spares TransferType.Isochronous h = spared TransferType.Isochronous (and-false (eqb (portSpeed raw) lowSpeed)) h

@@ -1,4 +1,4 @@
--- What the checks of a device and of an endpoint refuse is of the table. Assumes nothing.
+-- Every number that a check of a device or of an endpoint refuses by is in its list. Assumes nothing.
 use Prim.Native.Nat.{ℕ}
 use mathlib.Core.Bool.{Bool, true}
 use mathlib.Core.List.{List}

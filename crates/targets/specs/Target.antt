@@ -9,6 +9,7 @@ use Rattle.models.specs.Refusals.{refusalOf, rejected}
 use Rattle.models.specs.Requests.{sameDevice}
 use Rattle.models.specs.declared.{DeviceId.DeviceId, DeviceSnapshot.DeviceSnapshot, OptionDevice.OptionDevice, OptionPorts.OptionPorts, PortReading.PortReading, RequestMetadata.RequestMetadata, TransferType.TransferType, Verdict.Verdict}
 use Rattle.standards.specs.Ports.{portSpeed}
+use Rattle.standards.specs.Speeds.{lowSpeed}
 use Rattle.bus.specs.Tables.{Bus, deviceAt, markAt}
 use Rattle.bus.specs.Ports.{freshPort}
 use Rattle.bus.specs.Endpoints.{hasEndpoint}
@@ -47,11 +48,11 @@ checkDeviceBy (DeviceChecked.Ready d) ports reading b = freshDevice ports d read
 unfoldable pub checkDevice : Bool → OptionPorts → DeviceId → PortReading → Bus → After DeviceChecked Bus
 checkDevice initialized ports id reading b = checkDeviceBy (knownDevice initialized id b) ports reading b
 
--- 37U speed 2 and bulk; 58U speed 2 and isochronous (document 02, M-110); 38 endpoint and type not placed
+-- 37U low speed and bulk; 58U low speed and isochronous (document 02, M-110); 38 endpoint and type not placed
 unfoldable pub speedChecked : ℕ → ℕ → ℕ → TransferType → Bus → Verdict
 speedChecked raw slot endpoint type b =
-    rejected 37 if eqb (portSpeed raw) 2 && isBulk type else
-    rejected 58 if eqb (portSpeed raw) 2 && isIsochronous type else
+    rejected 37 if eqb (portSpeed raw) lowSpeed && isBulk type else
+    rejected 58 if eqb (portSpeed raw) lowSpeed && isIsochronous type else
     rejected 38 if not (hasEndpoint slot endpoint type b) else
     Verdict.Pass
 

@@ -1,8 +1,8 @@
 // The checks of a submission's device and endpoint, in the order of document 01's table.
 use models::PortReading;
 
-pub mod target;
-pub mod wants;
+pub mod target; // target.rt: 26 to 38 and 58
+pub mod wants; // wants.rt: which port reading these checks lack
 
 // The port readings that come with a submission; control takes the first alone.
 pub struct Readings {

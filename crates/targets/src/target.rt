@@ -15,6 +15,7 @@ use models::TransferType;
 use models::Verdict;
 use models::kinds;
 use models::reject;
+use standards::ports::LOW_SPEED;
 use standards::ports::port_speed;
 ghost use mathlib.Core.Path.{_≡_};
 ghost use lib.ListN.{length};
@@ -37,7 +38,7 @@ fn refuse_device(number: u16) -> DeviceChecked
     DeviceChecked::Refused(models::refuse(number))
 }
 
-// 26, 27, 28.
+// The device of this id. Refuses by 26 if its slot is marked, by 27 if it is unknown or stale, by 28 if the controller is not Initialized.
 pub(crate) fn known_device(bus: &[u64], initialized: bool, id: DeviceId) -> DeviceChecked
     requires { ⌜ length (now bus) ≡ busWords ⌝ }
     ensures { λ r. ⌜ r ≡ knownDevice initialized id (busOf (now (bus .entry))) ⌝ }
@@ -61,7 +62,7 @@ pub(crate) fn known_device(bus: &[u64], initialized: bool, id: DeviceId) -> Devi
     DeviceChecked::Ready(device)
 }
 
-// 35, once the port has a fresh reading.
+// Refuses by 35 a device that is not prepared; else passes on the port's refusal or the device.
 pub(crate) fn prepared_device(port: PortChecked, device: DeviceSnapshot) -> DeviceChecked
     ensures { λ r. ⌜ r ≡ preparedDevice port device ⌝ }
 {
@@ -78,7 +79,7 @@ pub(crate) fn prepared_device(port: PortChecked, device: DeviceSnapshot) -> Devi
     }
 }
 
-// The port's reading, 29 to 34 and 31 again, then 35.
+// Takes the port's reading. Refuses by 29 to 34, then by 35.
 fn fresh_device(
     bus: &mut [u64],
     ports: OptionPorts,
@@ -93,7 +94,7 @@ fn fresh_device(
     prepared_device(port, device)
 }
 
-// 26 to 35. What was read before a refusal stays written.
+// Refuses by 26 to 35. A reading taken before a refusal stays written.
 fn check_device(
     bus: &mut [u64],
     initialized: bool,
@@ -112,7 +113,7 @@ fn check_device(
     }
 }
 
-// 37, 58 and 38, by the second reading: low speed has neither bulk nor isochronous pipes.
+// Refuses by 37 bulk at low speed, by 58 isochronous at low speed, by 38 an endpoint that was not placed.
 fn check_speed(
     bus: &[u64],
     raw: u32,
@@ -125,11 +126,11 @@ fn check_speed(
 {
     let speed = port_speed(raw);
     let bulk = kinds::is_bulk(transfer_type);
-    if (speed == 2) & bulk {
+    if (speed == LOW_SPEED) & bulk {
         return reject(37);
     }
     let isochronous = kinds::is_isochronous(transfer_type);
-    if (speed == 2) & isochronous {
+    if (speed == LOW_SPEED) & isochronous {
         return reject(58);
     }
     let placed = endpoints::has_endpoint(bus, slot, endpoint, transfer_type);
@@ -139,7 +140,7 @@ fn check_speed(
     Verdict::Pass
 }
 
-// The second reading's refusal, or 37, 58 and 38.
+// Passes on the second reading's refusal, or refuses by 37, 58 and 38.
 fn check_read(bus: &[u64], port: PortChecked, metadata: RequestMetadata) -> Verdict
     requires { ⌜ length (now bus) ≡ busWords ⌝ }
     ensures { λ r. ⌜ r ≡ endpointBy port metadata (busOf (now (bus .entry))) ⌝ }
@@ -154,7 +155,7 @@ fn check_read(bus: &[u64], port: PortChecked, metadata: RequestMetadata) -> Verd
     }
 }
 
-// 36, the second reading (33, 34, 31), 37, 58, 38.
+// Refuses by 36 a device that is not Configured; then takes the second reading.
 fn check_endpoint(
     bus: &mut [u64],
     ports: OptionPorts,
@@ -176,7 +177,7 @@ fn check_endpoint(
     check_read(bus, port, metadata)
 }
 
-// What follows the device's check; the second reading is taken only for a request that is not control.
+// Checks the endpoint, with the second reading, of a request that is not control.
 fn check_after(
     bus: &mut [u64],
     checked: DeviceChecked,
@@ -201,7 +202,7 @@ fn check_after(
     }
 }
 
-// The device, and for a request that is not control its endpoint.
+// Checks the device, and of a request that is not control its endpoint.
 pub fn check_target(
     bus: &mut [u64],
     initialized: bool,
@@ -210,9 +211,9 @@ pub fn check_target(
     readings: Readings,
 ) -> Verdict
     requires { ⌜ length (now bus) ≡ busWords ⌝ }
-    ensures { λ r. ⌜ (after r (busOf (now (bus .exit)))
-        ≡ checkTarget initialized ports metadata readings (busOf (now (bus .entry))))
-        × Tabled targetNumbers (verdictSaid r) ⌝ }
+    ensures step { λ r. ⌜ after r (busOf (now (bus .exit)))
+        ≡ checkTarget initialized ports metadata readings (busOf (now (bus .entry))) ⌝ }
+    ensures table { λ r. ⌜ Tabled targetNumbers (verdictSaid r) ⌝ }
 {
     let id = metadata.device;
     let first = readings.first;

@@ -34,7 +34,7 @@ fn is_missing(reading: PortReading) -> bool
     }
 }
 
-// The second reading comes after 36, and not for control.
+// The second reading is wanted if 36 does not refuse, and not for control.
 fn second_wanted(device: DeviceSnapshot, metadata: RequestMetadata, second: PortReading) -> Wanted
     ensures { λ r. ⌜ r ≡ secondWanted device metadata second ⌝ }
 {
@@ -55,7 +55,7 @@ fn second_wanted(device: DeviceSnapshot, metadata: RequestMetadata, second: Port
     Wanted::Second(device.port.number)
 }
 
-// 34, 31 and 35 by the first reading.
+// What is wanted behind the first reading: nothing if 34, 31 or 35 refuses, else by the second.
 fn after_first(
     bus: &[u64],
     ports: OptionPorts,
@@ -95,7 +95,7 @@ fn first_wanted(
     }
 }
 
-// 29 to 32, then the first reading.
+// What is wanted of a known device: nothing if 29 to 32 refuse, else by the first reading.
 fn device_wanted(
     bus: &[u64],
     ports: OptionPorts,
@@ -114,7 +114,7 @@ fn device_wanted(
     }
 }
 
-// 26 to 28, then the port.
+// The reading that is wanted next: nothing if 26 to 28 refuse, else by the device's port.
 pub fn wanted_reading(
     bus: &[u64],
     initialized: bool,

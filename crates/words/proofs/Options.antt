@@ -12,7 +12,7 @@ pub flag-back : (b : Bool) → readFlag (flagWord b) ≡ b
 flag-back true = refl
 flag-back false = refl
 
--- a value of k bits is what its low k bits say
+-- a value of k bits is what its low k bits decode to
 pub low : (k : ℕ) {v : ℕ} → v < 2 ^ k → v % 2 ^ k ≡ v
 low k h = mod-eq-of-lt h
 

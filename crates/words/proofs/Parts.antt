@@ -13,7 +13,7 @@ use borrow.Rule.Slice.PartMut.{putMid, midOf, post-is, mid-len}
 use Rattle.chain.proofs.Chain.{caseB}
 use Rattle.words.specs.Records.{splice, spliceCut}
 
--- a word that is missing says 0
+-- a missing word counts as 0
 pub missing : (w : List ℕ) (i : ℕ) → length w ≤ i → 0 ≡ getD w i 0
 missing w i h = sym (List·getD-eq-default w 0 h)
 

@@ -116,7 +116,7 @@ option-none w e = simp (eq-eqb w 0 e)
 pub option-exact : (y : ℕ) (v u : ℤ) (o : OptionI32) → y ≡ signedWord v → v ≡ u → o ≡ Some u → y + 1 ≡ optionI32Word o
 option-exact y v u o e f g = ap (λ (k : ℕ). k + 1) (e ∙ ap signedWord f) ∙ ap optionI32Word (sym g)
 
--- a number of 32 bits is what its word says
+-- a number of 32 bits is what its word decodes to
 signed-says : (v : ℤ) → isSigned (Some v) ≡ true → (readSigned (signedWord v) ≡ v) × (signedWord v < 2 ^ 32)
 unfolding signedWord
 signed-says (pos n) t = let h = ltb-true n (2 ^ 31) t in (low n h, omega arith)
@@ -126,7 +126,7 @@ pub option-i32-says : (o : OptionI32) → isSigned o ≡ true → readOptionI32 
 option-i32-says None t = sym (option-none 0 refl)
 option-i32-says (Some v) t = let b = signed-says v t in option-back (signedWord v) v (b .1) (b .0)
 
--- and a word of 32 bits is that of what it says
+-- and a word of 32 bits encodes what it decodes to
 signed-word : (y : ℕ) → y < 2 ^ 32 → signedWord (readSigned y) ≡ y
 unfolding readSigned signedWord
 signed-word y h = rw (options.low 32 h) (caseB (ltb y (2 ^ 31)) (λ e. rw e) (λ e. let g = ltb-false y (2 ^ 31) e in rw e (omega arith)))

@@ -1,4 +1,4 @@
--- What a word says, and the word that says it. Every word says something. Assumes nothing.
+-- Encoding of small values in a word. Decoding is total. Assumes nothing.
 use Prim.Native.Nat.{ℕ, _+_, _-_, _%_, _^_}
 use mathlib.Core.Bool.{Bool, true, not, cond}
 use lib.Dec.{eqb, ltb}

@@ -1,11 +1,11 @@
-// Small values as words of a lent `&[u64]`, and the words and bytes of a lent slice. One word a field; every word decodes to something.
+// Encoding of small values in the words of a lent `&[u64]`, one word a field. Decoding is total.
 ghost use mathlib.Core.Path.{_≡_};
 ghost use Prim.Native.Nat.{_<_};
 ghost use Rattle.words.specs.Words.{readFlag, flagWord, readOptionU32, optionU32Word, readOptionU64, optionU64Words, readSigned, signedWord, readOptionI32, optionI32Word};
 
-pub mod slices;
+pub mod slices; // slices.rt: parts of a lent slice, read, copied and cleared
 
-// 2^31: from here on the low 32 bits say a negative number.
+// 2^31: from here on the low 32 bits encode a negative number.
 const SIGN: u64 = 2147483648;
 
 // 2^32 - 1: 32 bits, every one set.

@@ -1,8 +1,11 @@
 //! `*.edit` files: a comment that says what the change is, a `file:` line with a
 //! path from the repository's root, and pairs of `old:` and `new:` lines, as in
-//! crates/*/must-fail. `survives: REASON` says why nothing can show the change.
+//! crates/*/must-fail. `survives: REASON` says why nothing can show the change,
+//! `was: CRATE/NAME` that it stood in crates/CRATE/must-fail before.
 use std::fs;
 use std::path::Path;
+
+use crate::Built;
 
 #[derive(Debug, Clone, Default, PartialEq, Eq)]
 pub struct Edit {
@@ -14,6 +17,8 @@ pub struct Edit {
     pub changes: Vec<(String, String)>,
     /// Why nothing can show it.
     pub survives: Option<String>,
+    /// The edits of crates/*/must-fail that it stands for.
+    pub was: Vec<String>,
 }
 
 impl Edit {
@@ -35,6 +40,7 @@ impl Edit {
                     edit.changes.push((old.into(), new.into()));
                 }
                 Some(("survives", reason)) => edit.survives = Some(reason.into()),
+                Some(("was", edit_of_proof)) => edit.was.push(edit_of_proof.into()),
                 _ => return Err(format!("a line that is none of an edit: `{line}`")),
             }
         }
@@ -42,6 +48,11 @@ impl Edit {
             return Err("no `file`, or no `old` and `new`".into());
         }
         Ok(edit)
+    }
+
+    /// What it is tried on, by the crate whose source it changes.
+    pub fn built(&self) -> Result<Vec<Built>, String> {
+        Built::of(self.file.split('/').nth(1).unwrap_or_default())
     }
 
     /// The file's text after the change. Each old text stands in it just once.
@@ -80,15 +91,19 @@ pub fn edits(folder: &Path) -> Result<Vec<Edit>, String> {
 mod tests {
     use super::*;
 
-    const TEXT: &str = "# a lie\nfile: crates/a/src/lib.rt\nold:     1\nnew:     2\n";
+    const TEXT: &str = "# a lie\nfile: crates/words/src/lib.rt\nold:     1\nnew:     2\n";
 
     #[test]
     fn an_edit_is_read() {
         let edit = Edit::parse("lie", TEXT).unwrap();
-        assert_eq!((edit.what.as_str(), edit.survives), ("a lie", None));
+        assert_eq!(edit.what, "a lie");
+        assert_eq!(edit.built().unwrap(), [Built::Library, Built::Key]);
+        assert_eq!((edit.survives, edit.was), (None, vec![]));
         assert_eq!(edit.changes, [("    1".into(), "    2".into())]);
-        let reasoned = Edit::parse("lie", &format!("{TEXT}survives: it is true\n")).unwrap();
-        assert_eq!(reasoned.survives.as_deref(), Some("it is true"));
+        let more = format!("{TEXT}survives: it is true\nwas: a/one\nwas: b/two\n");
+        let edit = Edit::parse("lie", &more).unwrap();
+        assert_eq!(edit.survives.as_deref(), Some("it is true"));
+        assert_eq!(edit.was, ["a/one", "b/two"]);
     }
 
     #[test]

@@ -1,14 +1,16 @@
 //! Mutants: the port with one small change each, compiled without proof, and
 //! what tells them from the Rust.
+mod built;
 mod edit;
 mod table;
 mod tools;
 mod trial;
 
+pub use built::Built;
 pub use edit::{Edit, edits};
-pub use table::{head, line, summary};
+pub use table::{Row, page};
 pub use tools::Tools;
-pub use trial::{Found, Trial, Verdict};
+pub use trial::{Amount, Found, Trial, Verdict};
 
 use std::path::{Path, PathBuf};
 

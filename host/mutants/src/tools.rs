@@ -1,16 +1,19 @@
 //! The programs that a mutant is made and tried with. Everything lies below
 //! target/mutants: a folder for each mutant with its sources and its
-//! libtapewoad.so, `unchanged` for the port as it is, and `host` for the
-//! comparison, linked once and run on each library in turn.
-use std::fs;
+//! libtapewoad.so or its `key`, `unchanged` for the port as it is, and `host` for
+//! the comparison, linked once and run on each library in turn.
+use std::fs::{self, File};
 use std::io;
 use std::path::{Path, PathBuf};
 use std::process::{Command, Output};
 
-use crate::{Edit, root};
+use crate::{Built, Edit, root};
 
 /// No run of an unchanged port takes as long, in seconds.
 const LIMIT: &str = "600";
+
+/// Nor as much memory, in bytes: a mutant may have no last report.
+const MEMORY: &str = "--as=6000000000";
 
 pub struct Tools {
     work: PathBuf,
@@ -29,8 +32,9 @@ impl Tools {
             work,
             tests: Vec::new(),
         };
-        tools.library("unchanged", None)?;
-        tools.cargo(&["build", "-p", "driver", "-p", "compare"])?;
+        tools.copy("unchanged", None)?;
+        tools.build(&tools.unchanged, Built::Library)?;
+        tools.cargo(&["build", "-p", "driver", "-p", "compare", "-p", "paper"])?;
         let told = tools.cargo(&["test", "--no-run", "-p", "tapewoad", "-p", "port"])?;
         tools.tests = executables(&told)
             .map(|it| root().join("host").join(it))
@@ -52,9 +56,9 @@ impl Tools {
         succeeded(&mut cargo)
     }
 
-    /// Copies the sources to a folder of their own, changes them and builds the
-    /// library there. Gives the folder.
-    pub fn library(&self, name: &str, edit: Option<&Edit>) -> Result<PathBuf, String> {
+    /// Copies the sources to a folder of their own and changes them. Gives the
+    /// folder.
+    pub fn copy(&self, name: &str, edit: Option<&Edit>) -> Result<PathBuf, String> {
         let folder = self.work.join(name);
         let told = |error: io::Error| format!("{}: {error}", folder.display());
         copy_sources(&folder).map_err(told)?;
@@ -63,14 +67,29 @@ impl Tools {
             let text = fs::read_to_string(&file).map_err(told)?;
             fs::write(&file, edit.apply(&text)?).map_err(told)?;
         }
-        succeeded(Command::new(root().join("host/mutants/build")).arg(&folder))?;
         Ok(folder)
+    }
+
+    /// Builds the library or the key program from the sources in a folder.
+    pub fn build(&self, folder: &Path, built: Built) -> Result<(), String> {
+        let mut build = Command::new(root().join("host/mutants/build"));
+        build.arg(folder);
+        if built == Built::Key {
+            build.arg("key");
+        }
+        succeeded(&mut build).map(drop)
     }
 
     /// Runs a tool of the host on the library in a folder.
     pub fn run(&self, library: &Path, tool: &str, words: &[&str]) -> Result<Output, String> {
         let tool = self.work.join("host/release").join(tool);
         output(limited(&tool).args(words).env("LD_LIBRARY_PATH", library))
+    }
+
+    /// Runs the key program in a folder on a paper.
+    pub fn run_key(&self, folder: &Path, paper: &Path) -> Result<Output, String> {
+        let paper = File::open(paper).map_err(|error| format!("{}: {error}", paper.display()))?;
+        output(limited(&folder.join("key")).stdin(paper))
     }
 
     /// Runs each of the tests' executables on the library in a folder.
@@ -82,7 +101,7 @@ impl Tools {
 
 fn limited(program: &Path) -> Command {
     let mut command = Command::new("timeout");
-    command.arg(LIMIT).arg(program);
+    command.args([LIMIT, "prlimit", MEMORY]).arg(program);
     command
 }
 

@@ -1,5 +1,5 @@
 //! The same papers through every side and through the key program.
-use crate::cut::{Difference, cut_down};
+use crate::cut::Difference;
 use crate::generate::Generator;
 use crate::{FIRST, Program, SIDES, Table, lines, new_side};
 
@@ -46,19 +46,28 @@ pub fn markers(program: Option<Program>) -> Vec<Marker> {
 
 /// Why a comparison stopped.
 pub enum Stop {
-    /// At the paper of this number, from 1, cut down.
+    /// At the paper of this number, from 1.
     Difference(u64, Difference),
     Failure(String),
 }
 
+/// What a paper shows: `cut_down` or `uncut`.
+pub type Find = fn(&[u8], &[Marker]) -> Option<Difference>;
+
 /// Papers of the seed, until they have so many events.
-pub fn compare(seed: u64, events: u64, markers: &[Marker], table: &mut Table) -> Result<(), Stop> {
+pub fn compare(
+    seed: u64,
+    events: u64,
+    markers: &[Marker],
+    find: Find,
+    table: &mut Table,
+) -> Result<(), Stop> {
     let mut generator = Generator::new(seed);
     let aimed_to = table.events + events;
     while table.events < aimed_to {
         let paper = new_side(FIRST).and_then(|mut side| generator.any(side.as_mut()));
         let paper = paper.map_err(Stop::Failure)?;
-        if let Some(found) = cut_down(&paper, markers) {
+        if let Some(found) = find(&paper, markers) {
             return Err(Stop::Difference(table.papers + 1, found));
         }
         let key = new_side(FIRST).and_then(|mut side| lines::key(side.as_mut(), &paper));

@@ -89,6 +89,12 @@ pub fn cut_down(paper: &[u8], markers: &[Marker]) -> Option<Difference> {
     fewest(&best.events).or(Some(best))
 }
 
+/// The paper where it shows a difference, up to the first line that does.
+pub fn uncut(paper: &[u8], markers: &[Marker]) -> Option<Difference> {
+    let (events, rest) = paper.as_chunks::<BYTES>();
+    difference(events.to_vec(), rest, markers)
+}
+
 /// Where outputs differ, the events up to the first line that does.
 fn difference(mut events: Vec<[u8; BYTES]>, rest: &[u8], markers: &[Marker]) -> Option<Difference> {
     let outputs = |events: &[_]| marked(&joined(events, rest), markers);

@@ -4,7 +4,8 @@ use std::path::Path;
 use std::process::ExitCode;
 use std::time::Instant;
 
-use paper::compare::{Stop, compare, markers};
+use paper::compare::{Find, Stop, compare, markers};
+use paper::cut::{cut_down, uncut};
 use paper::generate::{Generator, MOST_EVENTS};
 use paper::{FIRST, Program, Table, lines, new_side, stored, text};
 
@@ -12,7 +13,8 @@ const USAGE: &str = "usage: paper write                  a paper's text on stand
        paper read                   a paper on standard input, its text on standard output
        paper key [--side rust|session]      a paper on standard input, its lines on standard output, by calls
        paper generate SEED EVENTS [--table]      a paper of so many events, 8,192 at most; with --table what it meets
-       paper compare SEED EVENTS [--key PROGRAM] [--table]      generated papers through the sides and the key program
+       paper compare SEED EVENTS [--key PROGRAM] [--uncut] [--table]      generated papers through the sides and the key program;
+                                    a paper that shows a difference is cut down to few events
        paper check PROGRAM FOLDER   the key program on the papers (*.paper) below a folder, held to their keys (*.key)";
 
 /// Outputs differ: 1. Anything else that is wrong: 2.
@@ -63,17 +65,19 @@ struct Options {
     seed: u64,
     events: u64,
     program: Option<Program>,
+    uncut: bool,
     table: bool,
 }
 
 impl Options {
     fn read(words: &[&str]) -> Result<Self, Failure> {
-        let (mut program, mut table) = (None, false);
+        let (mut program, mut uncut, mut table) = (None, false, false);
         let mut numbers: Vec<u64> = Vec::new();
         let mut words = words.iter();
         while let Some(word) = words.next() {
             match *word {
                 "--table" => table = true,
+                "--uncut" => uncut = true,
                 "--key" => program = Some(Program::new(words.next().ok_or(USAGE)?)?),
                 _ => numbers.push(word.parse().map_err(|_| USAGE)?),
             }
@@ -85,6 +89,7 @@ impl Options {
             seed,
             events,
             program,
+            uncut,
             table,
         })
     }
@@ -95,7 +100,7 @@ fn generate(options: &Options) -> Done {
     let events = events
         .filter(|events| *events <= MOST_EVENTS)
         .ok_or(USAGE)?;
-    if options.program.is_some() {
+    if options.program.is_some() || options.uncut {
         return Err(USAGE.into());
     }
     let paper = Generator::new(options.seed).paper(new_side(FIRST)?.as_mut(), events)?;
@@ -115,10 +120,15 @@ fn compare_papers(options: &Options) -> Done {
         return Err(format!("{} alone: nothing to compare it with", names[0]).into());
     }
     let mut table = Table::default();
-    compare(options.seed, options.events, &markers, &mut table).map_err(|stop| match stop {
+    let (find, how): (Find, _) = match options.uncut {
+        true => (uncut, "shown by"),
+        false => (cut_down, "cut down to"),
+    };
+    let found = compare(options.seed, options.events, &markers, find, &mut table);
+    found.map_err(|stop| match stop {
         Stop::Failure(message) => Failure::Trouble(message),
         Stop::Difference(number, found) => Failure::Differs(format!(
-            "seed {}: the outputs DIFFER at paper {number}; cut down to {} events:\n{found}",
+            "seed {}: the outputs DIFFER at paper {number}; {how} {} events:\n{found}",
             options.seed,
             found.events()
         )),

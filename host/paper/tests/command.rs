@@ -137,6 +137,9 @@ fn a_program_that_is_wrong_is_found() {
     assert_eq!(status, 1, "{told}");
     assert!(told.contains("cut down to 3 events:\nsubmit "), "{told}");
     assert!(told.trim_end().ends_with("#   2 43 - 0"), "{told}");
+    let (status, told) = wrong(&["compare", "1", "30000", "--uncut", "--key", STAND_IN]);
+    assert_eq!(status, 1, "{told}");
+    assert!(told.contains("; shown by "), "{told}");
     let (status, told) = wrong(&["check", STAND_IN, &stored()]);
     assert_eq!(status, 1, "{told}");
     assert!(told.contains("letters.paper: line "), "{told}");

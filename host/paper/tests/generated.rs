@@ -6,7 +6,7 @@ use paper::{FIRST, REFUSALS, SIDES, Table, lines, new_side, text};
 
 fn compared(seed: u64, events: u64, markers: &[Marker]) -> Result<Table, String> {
     let mut table = Table::default();
-    match compare(seed, events, markers, &mut table) {
+    match compare(seed, events, markers, cut_down, &mut table) {
         Ok(()) => Ok(table),
         Err(Stop::Failure(message)) => panic!("{message}"),
         Err(Stop::Difference(_, found)) => Err(found.to_string()),

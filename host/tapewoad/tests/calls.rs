@@ -2,6 +2,7 @@
 //! what only the port can refuse.
 mod common;
 
+use common::raw::Raw;
 use common::store::{ERROR, completion, others, ready, refusal, submit, words};
 use common::{DEVICE, ENDPOINTS, WORD, id};
 use tapewoad::calls::*;
@@ -166,6 +167,18 @@ fn wrong_sizes_are_refused() {
     }
     // The session that was open goes on.
     assert!(matches!(store.apply(&submit()), Answer::Begun { .. }));
+}
+
+/// 1 comes before 3.
+#[test]
+fn a_wrong_size_is_not_told_while_something_is_in_flight() {
+    let mut raw = Raw::ready(2);
+    assert_eq!(raw.apply(&submit())[0], 2);
+    raw.rows.pop();
+    for call in others() {
+        assert_eq!(raw.apply(&call)[..2], [0, 1], "{call:?}");
+    }
+    assert_eq!(raw.apply(&Call::SubmitReply(Ok(7)))[..2], [0, 3]);
 }
 
 #[test]

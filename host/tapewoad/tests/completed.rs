@@ -2,6 +2,7 @@
 mod common;
 
 use common::id;
+use common::raw::Raw;
 use common::store::{completion, ready, refusal, submit};
 use tapewoad::calls::*;
 use tapewoad::library::{self, Memory};
@@ -49,4 +50,28 @@ fn a_wrong_size_is_refused() {
         assert_eq!(status, 0);
         assert_eq!(out[..3], [0, expected, 0], "{row_count} {bytes}");
     }
+}
+
+/// A completion's bytes are stored nowhere where rows or area are not the
+/// opening's, also where they would have room.
+#[test]
+fn a_polls_reply_of_a_wrong_size_is_refused() {
+    let mut raw = Raw::ready(2);
+    for (call, answer) in [
+        (submit(), 2),
+        (Call::SubmitReply(Ok(7)), 4),
+        (Call::PollRequest(id(0)), 6),
+    ] {
+        assert_eq!(raw.apply(&call)[0], answer, "{call:?}");
+    }
+    for (row_words, bytes) in [(52, 31), (52, 33), (51, 32), (53, 32)] {
+        let mut wrong = raw.clone();
+        wrong.rows.resize(row_words, 0);
+        wrong.area.resize(bytes, 0);
+        let before = wrong.clone();
+        let answer = wrong.apply(&completion(&[7, 8]));
+        assert_eq!(answer[..2], [0, 3], "{row_words} {bytes}");
+        assert!(wrong == before, "{row_words} {bytes}");
+    }
+    assert_eq!(raw.apply(&completion(&[7, 8]))[0], 4);
 }

@@ -14,12 +14,10 @@ use Rattle.models.specs.Values.{requestIdWords}
 use Rattle.models.specs.declared.{Refusal.Refusal, RequestId.RequestId}
 use Rattle.session.specs.declared.{Recovery.Recovery}
 use Rattle.recovery.specs.declared.{AbortReport.AbortReport, BeginAnswer.BeginAnswer, Begun.Begun, RecoveryAnswer.RecoveryAnswer, Replied.Replied}
-use Rattle.recovery.specs.Reports.{noId, idsOf, from, idsIn, manyIn, filled}
-use Rattle.recovery.proofs.recovery_reply.Laws.{part-first, part-rest, fill-few}
-use Rattle.chain.proofs.Listed.{listed-take}
+use Rattle.recovery.specs.Reports.{idsOf}
 use Rattle.rows.specs.Table.{idIn}
 use Rattle.rows.specs.declared.{Row.Row}
-use Rattle.answer_words.specs.Lists.{tokenList, idWords, idList, begunLists, partLists, recoveredBy, recoveredLists, putLists}
+use Rattle.answer_words.specs.Lists.{tokenList, idWords, idList, begunLists, partLists, recoveredLists, putLists}
 
 -- a, and then b behind it
 splice-join : (at from : ℕ) (a b l : List ℕ) → from ≡ at + length a → from ≤ length l → splice from b (splice at a l) ≡ splice at (a ++ b) l
@@ -106,46 +104,32 @@ module _ (tokens l : List ℕ) (count n : ℕ) (et : length tokens ≡ 128) (en 
       let j = splice-join 0 1 (n ∷ []) (take n tokens) l refl (omega arith) in
       put-all (tokenList (take count tokens)) l after (omega (arith, tokens-length)) (ea ∙ rw (em, j, tokens-length, cut tokens count n et en))
 
--- ---- two lists of ids, at the first n places and at the others
-module _ (rows : List Row) (places l : List ℕ) (n m : ℕ) (h : n ≤ length places) (em : m ≡ length places - n) where
+-- ---- two lists of ids, at the first n places and at the next m
+module _ (rows : List Row) (places l : List ℕ) (n m : ℕ) (few : n + m ≤ 128) (el : length places ≡ 128) where
   abbrev first : List RequestId
   first = idsOf rows (take n places)
 
   abbrev others : List RequestId
-  others = idsOf rows (from n places)
+  others = idsOf rows (take m (drop n places))
 
   first-length : length first ≡ n
-  first-length = length-map (take n places) (idIn rows) ∙ length-take-le n places h
+  first-length = length-map (take n places) (idIn rows) ∙ length-take-le n places (omega arith)
 
   others-length : length others ≡ m
-  others-length = length-map (from n places) (idIn rows) ∙ length-take-le (length places - n) (drop n places) (omega (arith, length-drop n places)) ∙ sym em
+  others-length = length-map (take m (drop n places)) (idIn rows) ∙ length-take-le m (drop n places) (omega (arith, length-drop n places))
 
   two-length : length (idList first ++ idList others) ≡ 2 + n * 3 + m * 3
   two-length = omega (arith, length-append (idList first) (idList others), id-words-length first, id-words-length others, first-length, others-length)
 
-  pub two-short : length l < 1 + n * 3 + 1 + m * 3 → l ≡ putLists (idList first ++ idList others) l
-  two-short g = put-not (idList first ++ idList others) l (omega (arith, two-length))
+  pub two-short : length l < 1 + n * 3 + 1 + m * 3 → l ≡ putLists (partLists rows places n m) l
+  two-short g = put-not (partLists rows places n m) l (omega (arith, two-length))
 
-  pub two-put : (k after : List ℕ) → 1 + n * 3 + 1 + m * 3 ≤ length l → k ≡ splice 0 (idList first) l → after ≡ splice (1 + n * 3) (idList others) k
-      → after ≡ putLists (idList first ++ idList others) l
+  pub two-put : (k after : List ℕ) → 1 + n * 3 + 1 + m * 3 ≤ length l → k ≡ splice 0 (idList first) l
+      → after ≡ splice (1 + n * 3) (idList (idsOf rows (take (n + m - n) (drop n places)))) k → after ≡ putLists (partLists rows places n m) l
   two-put k after g ek ea =
-      let j = splice-join 0 (1 + n * 3) (idList first) (idList others) l (omega (arith, id-words-length first, first-length)) (omega arith) in
-      put-all (idList first ++ idList others) l after (omega (arith, two-length)) (ea ∙ rw (ek, j))
-
-  pub first-room : 1 + n * 3 + 1 + m * 3 ≤ length l → 0 + 1 + length (take n places) * 3 ≤ length l
-  first-room g = omega (arith, length-take-le n places h)
-
--- in a list of 128
-module _ (rows : List Row) (places l after : List ℕ) (n m : ℕ) (few : n + m ≤ 128) (el : length places ≡ 128) where
-  pub parts-put : after ≡ putLists (idList (idsOf rows (take n (take (n + m) places))) ++ idList (idsOf rows (from n (take (n + m) places)))) l
-      → after ≡ putLists (partLists rows places n m) l
-  parts-put e =
       let z : n + m - n ≡ m = omega arith in
-      let a : List RequestId = idsOf rows (take n places) in
-      let b : List RequestId = idsOf rows (take m (drop n places)) in
-      let la : n ≡ length a = sym (length-map (take n places) (idIn rows) ∙ length-take-le n places (omega arith)) in
-      let lb : m ≡ length b = sym (length-map (take m (drop n places)) (idIn rows) ∙ length-take-le m (drop n places) (omega (arith, length-drop n places))) in
-      e ∙ rw (part-first places n (n + m) (omega arith), part-rest places n (n + m) (omega arith) (omega arith), z, listed-take 128 noId a n la (omega arith), listed-take 128 noId b m lb (omega arith))
+      let j = splice-join 0 (1 + n * 3) (idList first) (idList others) l (omega (arith, id-words-length first, first-length)) (omega arith) in
+      put-all (partLists rows places n m) l after (omega (arith, two-length)) (ea ∙ rw (z, ek, j))
 
 -- ---- by the answer
 pub begun-refused : (o : Begun) (r : Refusal) (l : List ℕ) → o .answer ≡ BeginAnswer.Refused r → l ≡ putLists (begunLists o) l
@@ -157,15 +141,12 @@ pub begun-put : (o : Begun) (x : Recovery) (l after : List ℕ) → o .answer �
 unfolding begunLists
 begun-put o x l after e h = rw e h
 
-pub replied-refused : (p : Replied) (rows : List Row) (r : Refusal) (l : List ℕ) → p .answer ≡ RecoveryAnswer.Refused r → l ≡ putLists (recoveredLists (filled p rows)) l
-unfolding recoveredLists
-replied-refused p rows r l e = put-none l ∙ ap (λ (x : RecoveryAnswer). putLists (recoveredBy x (idsIn x rows (p .places))) l) (sym e)
-
-module _ (p : Replied) (x : AbortReport) (e : p .answer ≡ RecoveryAnswer.Report x) where
-  pub replied-few : manyIn (p .answer) ≤ 128 → x .completed + x .aborted ≤ 128
-  replied-few h = fill-few p x e h
-
-  pub replied-put : (rows : List Row) (l after : List ℕ) → after ≡ putLists (partLists rows (p .places) (x .completed) (x .aborted)) l
-      → after ≡ putLists (recoveredLists (filled p rows)) l
+module _ (p : Replied) (rows : List Row) (l : List ℕ) where
+  pub replied-refused : (r : Refusal) → p .answer ≡ RecoveryAnswer.Refused r → l ≡ putLists (recoveredLists p rows) l
   unfolding recoveredLists
-  replied-put rows l after h = h ∙ ap (λ (y : RecoveryAnswer). putLists (recoveredBy y (idsIn y rows (p .places))) l) (sym e)
+  replied-refused r e = rw e (put-none l)
+
+  pub replied-put : (x : AbortReport) (after : List ℕ) → p .answer ≡ RecoveryAnswer.Report x
+      → after ≡ putLists (partLists rows (p .places) (x .completed) (x .aborted)) l → after ≡ putLists (recoveredLists p rows) l
+  unfolding recoveredLists
+  replied-put x after e h = rw e h

@@ -32,7 +32,7 @@ pub endpoints-set : (slot : ℕ) (e l x : List ℕ) → length l ≡ busWords �
 unfolding setEndpoints
 endpoints-set slot e l x sized h few f = passes (After Verdict Bus) _ _ _ _ (le-ltb _ _ few) (rw (put-endpoints l x slot e sized h few f))
 
--- what the words of a list say: as many as the count, 30 at the most
+-- a list has as many endpoints as its count, 30 at the most
 listed-length : (q : List ℕ) → length q ≡ 31 → length (readEndpoints q) ≡ min (getD q 0 0) 30
 unfolding readEndpoints
 listed-length q n =

@@ -11,11 +11,11 @@ use Rattle.chain.specs.Lists.{find, anyIn}
 use Rattle.chain.proofs.Lists.{find-on, find-here}
 use Rattle.words.specs.Words.{readFlag}
 use Rattle.models.specs.Codes.{readTransfer, readDirection}
+use Rattle.models.specs.Values.{readError, readOptionError, readDeviceId}
 use Rattle.models.specs.declared.{BackendCompletion.BackendCompletion, DeviceId.DeviceId, Direction.Direction, OperationError.OperationError, OptionError.OptionError, OptionSetup.OptionSetup, OptionStage.OptionStage, TransferType.TransferType}
 use Rattle.rows.specs.Codec.{readSetupWords}
 use Rattle.recovery.specs.declared.{RecoveryReply.RecoveryReply}
-use Rattle.session_words.specs.State.{readDeviceId}
-use Rattle.scope.specs.Returned.{readError, readOptionError, readCompletion}
+use Rattle.scope.specs.Returned.{readCompletion}
 use Rattle.polls.specs.declared.{PollReply.PollReply}
 use Rattle.call_words.specs.Arguments.{readSpec, readRecoveryReply}
 

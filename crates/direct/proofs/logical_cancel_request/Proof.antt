@@ -1,4 +1,5 @@
-use Rattle.direct.proofs.Laws.{change-on, change-stop}
+use Rattle.direct.proofs.Laws.{change-stop, cancel-on}
+use Rattle.ledger.proofs.in_place.Laws.{cancel-inside}
 use Rattle.rows.specs.Store.{storeOf}
 use borrow.Author.Needs.{needs}
 use Rattle.direct.proofs.logical_cancel_request.Statement.{statement}
@@ -10,7 +11,7 @@ returns c = search change-stop
 
 returns-2 : tie.Need-returns-2
 unfolding storeOf
-returns-2 c = search change-on
+returns-2 c = search cancel-on
 
 pub logical-cancel-request-spec : {M : Type 1} → statement M
 logical-cancel-request-spec =
@@ -21,7 +22,7 @@ logical-cancel-request-spec =
     (λ c κs. search needs)
     (λ c. search needs)
     (λ c κs. search needs)
-    (λ c κs. search needs)
+    (λ c κs. search cancel-inside)
     (λ c. search needs)
     returns
     (λ c. search needs)

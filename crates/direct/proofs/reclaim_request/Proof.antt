@@ -1,4 +1,5 @@
 use Rattle.direct.proofs.Laws.{change-stop, reclaim-on}
+use Rattle.ledger.proofs.in_place.Laws.{reclaim-inside}
 use Rattle.rows.specs.Store.{storeOf}
 use borrow.Author.Needs.{needs}
 use Rattle.direct.proofs.reclaim_request.Statement.{statement}
@@ -21,7 +22,7 @@ reclaim-request-spec =
     (λ c κs. search needs)
     (λ c. search needs)
     (λ c κs. search needs)
-    (λ c κs. search needs)
+    (λ c κs. search reclaim-inside)
     (λ c. search needs)
     returns
     (λ c. search needs)

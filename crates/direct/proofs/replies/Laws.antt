@@ -5,30 +5,27 @@ use mathlib.Core.List.{List}
 use mathlib.Core.Path.{_≡_, refl, sym, ap, _∙_}
 use lib.ListN.{length, getD, drop}
 use native.Mathlib.Omega.{arith}
-use mir.Syntax.{w64}
-use mir.Val.{Fits}
 use borrow.Author.Tests.{not-true, ne-eqb}
 use Rattle.chain.specs.After.{After, after}
 use Rattle.chain.specs.Chain.{_if_else_}
 use Rattle.chain.specs.Lists.{foundIn}
 use Rattle.chain.specs.declared.{Found.Found}
 use Rattle.chain.proofs.Chain.{caseB, both, takes, passes, not-through, fits-told}
-use Rattle.words.specs.Records.{spliceCut}
 use Rattle.words.specs.declared.{OptionU32.OptionU32}
 use Rattle.models.specs.Refusals.{refusalOf, fromBackend}
 use Rattle.models.specs.Requests.{isPending}
+use Rattle.models.specs.Values.{readError}
 use Rattle.models.specs.declared.{BackendCompletion.BackendCompletion, OperationError.OperationError, OptionError.OptionError, Refusal.Refusal, RequestId.RequestId}
-use Rattle.models.specs.declared.RequestState.the-variants.{Completed, Failed}
 use Rattle.rows.specs.InPlace.{completedRow}
-use Rattle.rows.specs.Table.{readRows, rowIn, rowAt, reportOf, isPendingRow, withState}
+use Rattle.rows.specs.Table.{readRows, rowIn, rowAt, reportOf, isPendingRow}
 use Rattle.rows.specs.Store.{Store, storeOf, putIn}
 use Rattle.rows.specs.declared.{Row.Row}
 use Rattle.rules.specs.Rules.{moved, completed, failed, changeRow}
 use Rattle.rules.specs.declared.{Change.Change, Step.Step}
-use Rattle.ledger.specs.Apply.{applyOf}
+use Rattle.ledger.specs.Apply.{applyBy, changedAt}
 use Rattle.ledger.specs.Search.{isAt}
-use Rattle.ledger.specs.InPlace.{reportedAt, PlacedIn}
-use Rattle.ledger.specs.declared.{in_place.Placed.Placed}
+use Rattle.ledger.specs.InPlace.{applyPlaced, reportedAt, PlacedIn}
+use Rattle.ledger.specs.declared.{Applied.Applied, in_place.Placed.Placed}
 use Rattle.ledger.proofs.Found.{found-in}
 use Rattle.ledger.proofs.in_place.Laws.{placed-in}
 use Rattle.ledger.proofs.in_place.Laws as places
@@ -36,8 +33,8 @@ use Rattle.checks.specs.Completion.{testCompletion}
 use Rattle.checks.specs.declared.{completion.CompletionTest.CompletionTest}
 use Rattle.session.specs.Lent.{Memory, memory, storeFits, memoryFits}
 use Rattle.session.specs.Session.{isBusy, withFlight}
-use Rattle.session.specs.Sizes.{memorySizes, placeOf}
-use Rattle.session.specs.declared.{InFlight.InFlight, Session.Session, Size.Size, sizes.Place.Place}
+use Rattle.session.specs.Sizes.{dataAt, memorySizes}
+use Rattle.session.specs.declared.{InFlight.InFlight, Session.Session, Size.Size}
 use Rattle.session.proofs.sizes.Laws.{place-in}
 use Rattle.reports.specs.Answers.{isMild, effect, reportRefused}
 use Rattle.reports.specs.declared.{ReportAnswer.ReportAnswer, Reported.Reported}
@@ -50,12 +47,12 @@ use Rattle.submissions.proofs.submit_reply.Laws as submits
 use Rattle.session_words.specs.Fields.{isSubmitFlight, isPollFlight, flightId}
 use Rattle.session_words.specs.State.{readSession, isSession, Kept, keptOf, keptAs}
 use Rattle.session_words.proofs.Own.{written-same}
-use Rattle.scope.specs.Returned.{readError, readCompletion}
+use Rattle.scope.specs.Returned.{readCompletion}
 use Rattle.call_words.specs.Arguments.{readPollReply, readSubmitReply}
 use Rattle.calls.specs.Answers.{outcome, ofReport}
 use Rattle.calls.specs.declared.{Answer.Answer, Outcome.Outcome}
 use Rattle.direct.specs.Direct.{told}
-use Rattle.direct.specs.Replies.{reportedOut, repliedTold, reportedRow, failedRow, dataIn, placedFound, polledIn, polledAt, endingTest, endingBy, endingOf}
+use Rattle.direct.specs.Replies.{reportedOut, repliedTold, reportedRow, failedRow, placedFound, polledIn, polledAt, endingTest, endingBy, endingOf}
 use Rattle.direct.specs.declared.{replies.Ending.Ending}
 
 pub memory-fits-is : (l : List ℕ) (z : Size) (words bytes : ℕ) (r : Bool) → z ≡ readSession l .size → r ≡ memorySizes z words bytes
@@ -120,7 +117,7 @@ module _ (s : Session) (m : Memory) where
   module _ (r : PollReply) (bytes : List ℕ) where
     abbrev replyPlaced : Placed → After Reported Memory
     replyPlaced (Placed.Refused x) = after (reportRefused s x) m
-    replyPlaced (Placed.At i) = pollReplyAt r (rowIn (m .store .rows) i) (placeOf (s .size) i) bytes (withFlight s InFlight.Nothing) m
+    replyPlaced (Placed.At i) = pollReplyAt r i bytes (withFlight s InFlight.Nothing) m
 
     reply-found : (g : Found) → replyPlaced (placedFound g) ≡ pollReplyBy g r bytes s m
     unfolding pollReplyBy
@@ -222,35 +219,38 @@ module _ (s : Session) (row : Row) (c : BackendCompletion) (given : ℕ) where
   judged-as x e = ap (λ (y : Ending). judgedAs y (judged s row c given)) e ∙ error-judged (c .error)
 
 -- the row takes its change
-module _ (idle : Session) (m : Memory) (row : Row) (p : Place) (bytes : List ℕ) (c : BackendCompletion) (pending : isPending (row .state) ≡ true) (x : Ending)
-    (ex : x ≡ endingOf c (length bytes) (row .metadata .«requested_length»)) where
+module _ (idle : Session) (m : Memory) (i : ℕ) (bytes : List ℕ) (c : BackendCompletion) (pending : isPending (rowIn (m .store .rows) i .state) ≡ true) (x : Ending)
+    (ex : x ≡ endingOf c (length bytes) (rowIn (m .store .rows) i .metadata .«requested_length»)) where
+  abbrev row : Row
+  row = rowIn (m .store .rows) i
+
   settles : (j : Judgement) (next : Row) → j ≡ judged idle row c (length bytes) → changeRow row (j .change) ≡ moved next
-      → after (record { answer = ReportAnswer.Report (reportOf next); session = j .session }) (memory (putIn (m .store) (p .row) next) (storedIn (idle .size) p bytes (j .stored) (m .area)))
-      ≡ pollReplyAt (PollReply.Completion c) row p bytes idle m
-  unfolding moved
+      → after (record { answer = ReportAnswer.Report (reportOf next); session = j .session }) (memory (putIn (m .store) i next) (storedIn (idle .size) i bytes (j .stored) (m .area)))
+      ≡ pollReplyAt (PollReply.Completion c) i bytes idle m
+  unfolding moved changedAt applyBy
   settles j next ej en =
-      polls.at-completion (PollReply.Completion c) row p bytes idle m row refl c j _ refl ej
-      (polls.settled-to j p bytes idle m row (Step.To next (reportOf next)) (sym en) next (reportOf next) (putIn (m .store) (p .row) next)
-      (storedIn (idle .size) p bytes (j .stored) (m .area)) refl refl refl)
+      polls.at-completion (PollReply.Completion c) i bytes idle m row refl c j _ refl ej
+      (polls.settled-done j i bytes idle (m .area) (Applied.Done (reportOf next)) (putIn (m .store) i next) (changedAt i (j .change) (m .store))
+      (ap (λ (t : Step). applyBy t i (m .store)) (sym en)) (reportOf next) (storedIn (idle .size) i bytes (j .stored) (m .area)) refl refl)
 
   pub completed-at : (actual code : ℕ) → x ≡ Ending.Completed actual code
       → after (record { answer = ReportAnswer.Report (reportOf (completedRow row actual code)); session = idle })
-      (memory (putIn (m .store) (p .row) (completedRow row actual code)) (spliceCut (p .start) (idle .size .«row_bytes») bytes (m .area)))
-      ≡ pollReplyAt (PollReply.Completion c) row p bytes idle m
-  unfolding changeRow completed completedRow storedIn _if_else_
+      (memory (putIn (m .store) i (completedRow row actual code)) (dataAt (idle .size) i bytes (m .area)))
+      ≡ pollReplyAt (PollReply.Completion c) i bytes idle m
+  unfolding changeRow completed storedIn _if_else_
   completed-at actual code e =
       settles (polls.judgement (Change.Complete actual code) idle true) (completedRow row actual code)
       (ap (λ (y : Ending). judgedAs idle row c (length bytes) y (judged idle row c (length bytes))) (sym e) ∙ judged-as idle row c (length bytes) x ex)
-      (places.pending (row .state) (λ cancel late. withState row (Completed actual code cancel)) pending)
+      (places.pending (row .state) (moved (completedRow row actual code)) pending)
 
   pub failed-at : (e : OperationError) (code : OptionU32) → x ≡ Ending.Failed e code
-      → after (record { answer = ReportAnswer.Report (reportOf (failedRow row e code)); session = idle }) (memory (putIn (m .store) (p .row) (failedRow row e code)) (m .area))
-      ≡ pollReplyAt (PollReply.Completion c) row p bytes idle m
+      → after (record { answer = ReportAnswer.Report (reportOf (failedRow row e code)); session = idle }) (memory (putIn (m .store) i (failedRow row e code)) (m .area))
+      ≡ pollReplyAt (PollReply.Completion c) i bytes idle m
   unfolding changeRow failed storedIn _if_else_
   failed-at e code h =
       settles (polls.judgement (Change.Fail e code true) idle false) (failedRow row e code)
       (ap (λ (y : Ending). judgedAs idle row c (length bytes) y (judged idle row c (length bytes))) (sym h) ∙ judged-as idle row c (length bytes) x ex)
-      (places.pending (row .state) (λ cancel late. withState row (Failed e code true)) pending)
+      (places.pending (row .state) (moved (failedRow row e code)) pending)
 
 -- l are the session's words, next those after the call, out and after-out the words lent for an answer
 module _ (l next out after-out : List ℕ) where
@@ -301,8 +301,8 @@ module _ (l next out after-out : List ℕ) where
     pub fail-told : Told (storeOf rows') (after (reportedRow row (readSession l)) (putIn (storeOf rows) i row))
     fail-told = ap (λ (z : After (List ℕ) Kept). after z (storeOf rows')) own ∙ ap (after (reportedOut (reportedRow row (readSession l)) l out)) er
 
-    pub complete-told : (bytes area area' : List ℕ) → area' ≡ dataIn (readSession l .size) i bytes area
-        → Told (memory (storeOf rows') area') (after (reportedRow row (readSession l)) (memory (putIn (storeOf rows) i row) (dataIn (readSession l .size) i bytes area)))
+    pub complete-told : (bytes area area' : List ℕ) → area' ≡ dataAt (readSession l .size) i bytes area
+        → Told (memory (storeOf rows') area') (after (reportedRow row (readSession l)) (memory (putIn (storeOf rows) i row) (dataAt (readSession l .size) i bytes area)))
     complete-told bytes area area' ea =
         ap (λ (y : After (List ℕ) Kept). after y (memory (storeOf rows') area')) own
         ∙ ap (λ (y : Store). after (reportedOut (reportedRow row (readSession l)) l out) (memory y area')) er
@@ -322,7 +322,7 @@ module _ (l out after-out : List ℕ) (m : Memory) where
     idle = withFlight (readSession l) InFlight.Nothing
 
     at : (r : PollReply) (bytes : List ℕ) (left : Memory) (o : After Reported Memory)
-        → o ≡ pollReplyAt r (rowIn (m .store .rows) i) (placeOf (readSession l .size) i) bytes idle m
+        → o ≡ pollReplyAt r i bytes idle m
         → Told l next out after-out left o → Told l next out after-out left (pollReplyOf r bytes (readSession l) m)
     at r bytes left o e = by-reply l next out after-out left o _ (e ∙ reply-placed (readSession l) m r bytes (Placed.At i) (sym ep))
 
@@ -331,7 +331,7 @@ module _ (l out after-out : List ℕ) (m : Memory) where
     poll-nothing r bytes er eo =
         let row = rowIn (m .store .rows) i in
         at r bytes m (after (reportedRow row (readSession l)) m)
-        (polls.at-nothing r row (placeOf (readSession l .size) i) bytes idle m row refl (reportOf row) er refl)
+        (polls.at-nothing r i bytes idle m row refl (reportOf row) er refl)
         (ap (λ (z : After (List ℕ) Kept). after z m) eo)
 
     pub poll-mild : (r : PollReply) (bytes : List ℕ) (e : OperationError) (b : Bool) → r ≡ PollReply.Error e → b ≡ isMild (e .category) → not b ≡ false
@@ -341,7 +341,7 @@ module _ (l out after-out : List ℕ) (m : Memory) where
     poll-mild r bytes e b er eb t eo =
         let row = rowIn (m .store .rows) i in
         at r bytes m (after (reportRefused idle (fromBackend 45 e)) m)
-        (polls.at-error r row (placeOf (readSession l .size) i) bytes idle m row refl e idle (fromBackend 45 e) (reportRefused idle (fromBackend 45 e)) er
+        (polls.at-error r i bytes idle m row refl e idle (fromBackend 45 e) (reportRefused idle (fromBackend 45 e)) er
         (takes Session _ _ _ _ (fits-told b _ eb t) refl) refl refl)
         (ap (λ (z : After (List ℕ) Kept). after z m) eo)
 
@@ -357,11 +357,11 @@ module _ (l out after-out : List ℕ) (m : Memory) where
 
       pub poll-completed : (actual code : ℕ) (left : Memory) → x ≡ Ending.Completed actual code
           → Told l next out after-out left (after (reportedRow (completedRow (rowIn (m .store .rows) i) actual code) (readSession l))
-          (memory (putIn (m .store) i (completedRow (rowIn (m .store .rows) i) actual code)) (dataIn (readSession l .size) i bytes (m .area))))
+          (memory (putIn (m .store) i (completedRow (rowIn (m .store .rows) i) actual code)) (dataAt (readSession l .size) i bytes (m .area))))
           → Told l next out after-out left (pollReplyOf (PollReply.Completion c) bytes (readSession l) m)
       poll-completed actual code left e =
           at (PollReply.Completion c) bytes left _
-          (completed-at idle m (rowIn (m .store .rows) i) (placeOf (readSession l .size) i) bytes c pending-state x ending-is actual code e)
+          (completed-at idle m i bytes c pending-state x ending-is actual code e)
 
       pub poll-failed : (e : OperationError) (code : OptionU32) (left : Store) (area : List ℕ) → area ≡ m .area → x ≡ Ending.Failed e code
           → Told l next out after-out left (after (reportedRow (failedRow (rowIn (m .store .rows) i) e code) (readSession l))
@@ -369,7 +369,7 @@ module _ (l out after-out : List ℕ) (m : Memory) where
           → Told l next out after-out (memory left area) (pollReplyOf (PollReply.Completion c) bytes (readSession l) m)
       poll-failed e code left area ea h eo =
           at (PollReply.Completion c) bytes (memory left area) _
-          (failed-at idle m (rowIn (m .store .rows) i) (placeOf (readSession l .size) i) bytes c pending-state x ending-is e code h)
+          (failed-at idle m i bytes c pending-state x ending-is e code h)
           (ap (λ (z : After (After (List ℕ) Kept) Store). after (z .result) (memory (z .lent) area)) eo
           ∙ ap (λ (z : List ℕ). after (reportedOut (reportedRow (failedRow (rowIn (m .store .rows) i) e code) (readSession l)) l out)
           (memory (putIn (m .store) i (failedRow (rowIn (m .store .rows) i) e code)) z)) ea)
@@ -407,23 +407,23 @@ module _ (l next out after-out : List ℕ) (store : Store) (token : ℕ) (h : is
         (submits.reply-unfit (SubmitReply.Token token) (readSession l) store (flightId (readSession l .«in_flight»)) submits-now f ef (reportRefused (readSession l) (refusalOf 3)) tf refl)
         (stays store (refusalOf 3) eo)
 
-    module _ (tf : not f ≡ false) (id : RequestId) (ei : id ≡ flightId (readSession l .«in_flight»)) (p : Placed) (rows : List Row) (left : Store)
-        (ea : after (reportedAt p rows) left ≡ applyOf id (Change.Accept token) store) where
-      accepted : after (acceptedBy (reportedAt p rows) (readSession l)) left ≡ submitReplyOf (SubmitReply.Token token) (readSession l) store
+    module _ (tf : not f ≡ false) (id : RequestId) (ei : id ≡ flightId (readSession l .«in_flight»)) (p : Placed) (left : Store)
+        (ea : after p left ≡ applyPlaced id (Change.Accept token) store) where
+      accepted : after (acceptedBy (reportedAt p (left .rows)) (readSession l)) left ≡ submitReplyOf (SubmitReply.Token token) (readSession l) store
       accepted =
           submits.reply-on (SubmitReply.Token token) (readSession l) store id (submits-now ∙ ap InFlight.Submission (sym ei)) f ef _ tf
-          (submits.reply-token (SubmitReply.Token token) id (readSession l) store left (reportedAt p rows) _ token refl ea refl)
+          (submits.reply-token (SubmitReply.Token token) id (readSession l) store left (reportedAt p (left .rows)) _ token refl (places.accept-reports id store p token left ea) refl)
 
       pub submit-none : (r : Refusal) → p ≡ Placed.Refused r → after-out ≡ told (Answer.Refused (refusalOf 2)) out → Submitted l left
       unfolding acceptedBy
       submit-none r e eo =
-          by-reply l l out after-out left _ _ (ap (λ (z : Placed). after (acceptedBy (reportedAt z rows) (readSession l)) left) (sym e) ∙ accepted)
+          by-reply l l out after-out left _ _ (ap (λ (z : Placed). after (acceptedBy (reportedAt z (left .rows)) (readSession l)) left) (sym e) ∙ accepted)
           (stays left (refusalOf 2) eo)
 
-      pub submit-at : (i : ℕ) → p ≡ Placed.At i → outs l next out after-out ≡ reportedOut (reportedRow (rowIn rows i) (readSession l)) l out → Submitted next left
+      pub submit-at : (i : ℕ) → p ≡ Placed.At i → outs l next out after-out ≡ reportedOut (reportedRow (rowIn (left .rows) i) (readSession l)) l out → Submitted next left
       unfolding acceptedBy
       submit-at i e eo =
-          by-reply l next out after-out left _ _ (ap (λ (z : Placed). after (acceptedBy (reportedAt z rows) (readSession l)) left) (sym e) ∙ accepted)
+          by-reply l next out after-out left _ _ (ap (λ (z : Placed). after (acceptedBy (reportedAt z (left .rows)) (readSession l)) left) (sym e) ∙ accepted)
           (ap (λ (z : After (List ℕ) Kept). after z left) eo)
 
 -- where a row's bytes lie
@@ -431,11 +431,8 @@ module _ (z y : Size) (e : z ≡ y) (i n : ℕ) (h : i * y .«row_bytes» + y .�
   pub size-room : i * z .«row_bytes» + z .«row_bytes» ≤ n
   size-room = rw e h
 
-  pub size-start : Fits w64 n → Fits w64 (i * z .«row_bytes»)
-  size-start f = omega (arith, f, size-room)
-
-  pub data-told : (bytes area area' : List ℕ) → area' ≡ spliceCut (i * z .«row_bytes») (z .«row_bytes») bytes area → area' ≡ dataIn y i bytes area
-  data-told bytes area area' ea = ea ∙ ap (λ (x : Size). dataIn x i bytes area) e
+  pub data-told : (bytes area area' : List ℕ) → area' ≡ dataAt z i bytes area → area' ≡ dataAt y i bytes area
+  data-told bytes area area' ea = ea ∙ ap (λ (x : Size). dataAt x i bytes area) e
 
 -- what the words of a call say
 module _ (w : List ℕ) (kind : ℕ) (ek : kind ≡ getD w 1 0) where

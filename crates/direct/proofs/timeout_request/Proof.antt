@@ -1,4 +1,5 @@
-use Rattle.direct.proofs.Laws.{change-on, change-stop}
+use Rattle.direct.proofs.Laws.{change-stop, timeout-on}
+use Rattle.ledger.proofs.in_place.Laws.{timeout-inside}
 use Rattle.rows.specs.Store.{storeOf}
 use borrow.Author.Needs.{needs}
 use Rattle.direct.proofs.timeout_request.Statement.{statement}
@@ -10,7 +11,7 @@ returns c = search change-stop
 
 returns-2 : tie.Need-returns-2
 unfolding storeOf
-returns-2 c = search change-on
+returns-2 c = search timeout-on
 
 pub timeout-request-spec : {M : Type 1} → statement M
 timeout-request-spec =
@@ -21,7 +22,7 @@ timeout-request-spec =
     (λ c κs. search needs)
     (λ c. search needs)
     (λ c κs. search needs)
-    (λ c κs. search needs)
+    (λ c κs. search timeout-inside)
     (λ c. search needs)
     returns
     (λ c. search needs)

@@ -7,6 +7,7 @@ use Rattle.chain.specs.After.{After, after}
 use Rattle.chain.proofs.Chain.{chain}
 use Rattle.words.specs.Words.{readOptionU64}
 use Rattle.words.specs.declared.{OptionU64.OptionU64}
+use Rattle.models.specs.Values.{readOptionError}
 use Rattle.models.specs.declared.{OptionError.OptionError}
 use Rattle.rows.specs.Store.{Store}
 use Rattle.bus.specs.Tables.{Bus}
@@ -14,7 +15,6 @@ use Rattle.session.specs.Lent.{memory, lent}
 use Rattle.session.specs.Lifecycle.{acquireOf, initializeOf, closeOf}
 use Rattle.session.specs.declared.{Called.Called, Session.Session, lifecycle.AcquireReply.AcquireReply}
 use Rattle.calls.specs.Answers.{outcome, ofVerdict}
-use Rattle.scope.specs.Returned.{readOptionError}
 use Rattle.call_words.specs.Arguments.{readAcquireReply}
 use Rattle.calls.specs.Calls.{Moving, Acquire, Initialize, Close, Move}
 use Rattle.calls.specs.Step.{World, world, moves, movedOf, stepOf}

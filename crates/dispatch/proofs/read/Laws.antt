@@ -20,11 +20,11 @@ use Rattle.reports.specs.Scan.{reportFrom}
 use Rattle.reports.specs.declared.{PlacedReport.PlacedReport}
 use Rattle.submissions.specs.Submit.{request}
 use Rattle.submissions.specs.Wants.{submitWants, planWants}
-use Rattle.calls.specs.Calls.{Call}
+use Rattle.calls.specs.Calls.{Call, planRequest}
 use Rattle.calls.specs.Step.{World, world, stepOf}
 use Rattle.calls.specs.declared.{Outcome.Outcome}
 use Rattle.session_words.specs.State.{keptOf, readSession, isSession}
-use Rattle.call_words.specs.Arguments.{readSpec, readReadings, readRequest, readPlan}
+use Rattle.call_words.specs.Arguments.{readSpec, readReadings, readRequest, readPlan, readPlanRequest}
 use Rattle.call_words.specs.Decode.{readReporting, readCall}
 use Rattle.call_words.specs.Parts.{readReading}
 use Rattle.answer_words.specs.Encode.{answerWords, written}
@@ -71,8 +71,8 @@ module _ (n : ℕ) (s : Session) (b : Bus) (store : Store) (area w bytes : List 
           → x ≡ planWants q bytes first s (lent b (memory store area)) → Answers (QuestionAnswer.Reading x)
       unfolding questionOf readQuestion
       plan-said q first n27 eq ef h =
-          let c : PlanWants q bytes first ≡ PlanWants (readPlan w) bytes (readReading w 14) = rw (eq, ef) in
-          asked (PlanWants q bytes first) (readQuestion n w bytes) handed (QuestionAnswer.Reading x) (search (chain, c) depth 20) (ap QuestionAnswer.Reading h)
+          let c : PlanWants (planRequest q bytes first) ≡ PlanWants (readPlanRequest w bytes) = rw (eq, ef) in
+          asked (PlanWants (planRequest q bytes first)) (readQuestion n w bytes) handed (QuestionAnswer.Reading x) (search (chain, c) depth 20) (ap QuestionAnswer.Reading h)
 
 -- ---- the answer's words
 -- of a number up to 15 the words are neither a report nor a question

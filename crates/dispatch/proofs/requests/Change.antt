@@ -5,6 +5,7 @@ use mathlib.Core.List.{List}
 use mathlib.Core.Path.{_≡_, refl, sym, ap, _∙_}
 use Rattle.chain.specs.After.{After, after}
 use Rattle.chain.proofs.Chain.{chain, if-all}
+use Rattle.models.specs.Values.{readRequestId}
 use Rattle.models.specs.declared.{RequestId.RequestId}
 use Rattle.rows.specs.Store.{Store}
 use Rattle.bus.specs.Tables.{Bus}
@@ -19,7 +20,7 @@ use Rattle.reports.specs.Change.{reportedBy, changeOf}
 use Rattle.reports.specs.declared.{Reported.Reported}
 use Rattle.calls.specs.Answers.{outcome, ofReport}
 use Rattle.calls.specs.Calls.{Changing, Cancel, Timeout, Reclaim, Withdraw, Change}
-use Rattle.session_words.specs.State.{readRequestId, readSession, isSession, keptOf, keptAs}
+use Rattle.session_words.specs.State.{readSession, isSession, keptOf, keptAs}
 use Rattle.session_words.proofs.Own.{written-same}
 use Rattle.calls.specs.Step.{World, world, reports, changeBy, stepOf}
 use Rattle.calls.specs.declared.{Outcome.Outcome}

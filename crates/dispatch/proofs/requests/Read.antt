@@ -6,6 +6,7 @@ use mathlib.Core.Path.{_≡_, refl, sym, ap, _∙_}
 use lib.ListN.{length}
 use Rattle.chain.specs.After.{after}
 use Rattle.chain.proofs.Chain.{chain}
+use Rattle.models.specs.Values.{readRequestId}
 use Rattle.models.specs.declared.{RequestId.RequestId}
 use Rattle.rows.specs.Store.{Store}
 use Rattle.bus.specs.Tables.{Bus}
@@ -16,7 +17,7 @@ use Rattle.reports.specs.declared.{HeldAnswer.HeldAnswer, NextReport.NextReport
 use Rattle.calls.specs.Answers.{outcome, ofReport, ofNext, ofTally, ofPart}
 use Rattle.call_words.specs.Arguments.{readOptionId}
 use Rattle.calls.specs.Calls.{Reading, Status, Reports, CountReports, CompletedBytes, HeldCount, HeldBytes, Read}
-use Rattle.session_words.specs.State.{readRequestId, readSession, isSession, keptOf}
+use Rattle.session_words.specs.State.{readSession, isSession, keptOf}
 use Rattle.session_words.proofs.Own.{written-same}
 use Rattle.calls.specs.Step.{World, world, reads, readOf, stepOf}
 use Rattle.calls.specs.declared.{Answer.Answer}

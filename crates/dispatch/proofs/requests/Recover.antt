@@ -7,21 +7,20 @@ use lib.ListN.{getD}
 use Rattle.chain.specs.After.{After, after}
 use Rattle.chain.proofs.Chain.{chain}
 use Rattle.words.specs.Words.{readFlag}
+use Rattle.models.specs.Values.{readRequestId}
 use Rattle.models.specs.declared.{RequestId.RequestId}
-use Rattle.rows.specs.Store.{Store}
+use Rattle.rows.specs.Table.{readRows}
+use Rattle.rows.specs.Store.{Store, storeOf}
 use Rattle.bus.specs.Tables.{Bus}
 use Rattle.session.specs.Lent.{Memory, memory, lent}
 use Rattle.session.specs.declared.{RecoveryKind.RecoveryKind, Session.Session}
 use Rattle.recovery.specs.Recover.{recoverOf}
-use Rattle.recovery.specs.RecoveryReply.{ReplyLists, replyLists, recoveryReplyOf}
-use Rattle.recovery.specs.declared.{Begun.Begun, Recovered.Recovered, RecoveryReply.RecoveryReply, Replied.Replied}
-use Rattle.recovery.specs.Reports.{filled}
-use Rattle.rows.specs.declared.{Row.Row}
+use Rattle.recovery.specs.RecoveryReply.{replyLists, recoveryReplyOf}
+use Rattle.recovery.specs.declared.{Begun.Begun, RecoveryReply.RecoveryReply, Replied.Replied}
 use Rattle.calls.specs.Answers.{outcome, ofBegin, ofRecovery}
 use Rattle.call_words.specs.Arguments.{readRecoveryReply, readCompleted, readCompletions, readAborted, readLists}
 use Rattle.calls.specs.Calls.{Recover, ToRecovery, Begin, Reply}
 use Rattle.answer_words.specs.Lists.{begunLists, recoveredLists, listsOf, putLists}
-use Rattle.session_words.specs.State.{readRequestId}
 use Rattle.calls.specs.Step.{World, world, begins, recovers, begunOf, repliedOf, stepOf}
 use Rattle.calls.specs.declared.{Outcome.Outcome}
 use Rattle.dispatch.specs.Apply.{ran, runOf}
@@ -37,25 +36,19 @@ module _ (s : Session) (store : Store) (area w bytes l m : List ℕ) (r : Outcom
   abbrev Runs : ℕ → Memory → Type 0
   Runs n next = (b : Bus) → ran (after r (lent b next)) m ≡ runOf (readRecovering n w bytes) (handed b) l
 
-  reply-run : (next : Memory) (x : Recovered) (reply : RecoveryReply) (tokens words aborted : List ℕ) → reply ≡ readRecoveryReply w
+  pub places-run : (w₁ area₁ : List ℕ) (p : Replied) (reply : RecoveryReply) (tokens words aborted : List ℕ) → reply ≡ readRecoveryReply w
       → tokens ≡ readCompleted w → words ≡ readCompletions w → aborted ≡ readAborted w
-      → after x next ≡ recoveryReplyOf reply (replyLists tokens words aborted bytes) s (memory store area)
-      → m ≡ putLists (recoveredLists x) l → r ≡ outcome (ofRecovery (x .answer)) (x .session) → Runs 24 next
-  unfolding runOf stepOf repliedOf listsOf readRecovering
-  reply-run next x reply tokens words aborted er et ew ea h el eo b =
+      → after p (memory (storeOf w₁) area₁) ≡ recoveryReplyOf reply (replyLists tokens words aborted bytes) s (memory store area)
+      → m ≡ putLists (recoveredLists p (readRows w₁)) l → r ≡ outcome (ofRecovery (p .answer)) (p .session) → Runs 24 (memory (storeOf w₁) area₁)
+  unfolding storeOf runOf stepOf repliedOf listsOf readRecovering
+  places-run w₁ area₁ p reply tokens words aborted er et ew ea h el eo b =
+      let next : Memory = memory (storeOf w₁) area₁ in
       let c : Reply (ToRecovery reply (replyLists tokens words aborted bytes)) ≡ Reply (ToRecovery (readRecoveryReply w) (readLists w bytes)) =
       rw (er, et, ew, ea) in
       ran-said (Reply (ToRecovery reply (replyLists tokens words aborted bytes))) (readRecovering 24 w bytes) (handed b) _ l (search (chain, c) depth 20)
       (ap (λ (z : Outcome). ran (after z (lent b next)) m) eo
-      ∙ ap (ran (recovers (after x next) (handed b))) el
-      ∙ ap (λ (z : After Recovered Memory). ran (recovers z (handed b)) (putLists (recoveredLists (z .result)) l)) h)
-
-  -- the same by the places of rows
-  pub places-run : (next : Memory) (p : Replied) (rows : List Row) (reply : RecoveryReply) (tokens words aborted : List ℕ) → reply ≡ readRecoveryReply w
-      → tokens ≡ readCompleted w → words ≡ readCompletions w → aborted ≡ readAborted w
-      → after (filled p rows) next ≡ recoveryReplyOf reply (replyLists tokens words aborted bytes) s (memory store area)
-      → m ≡ putLists (recoveredLists (filled p rows)) l → r ≡ outcome (ofRecovery (p .answer)) (p .session) → Runs 24 next
-  places-run next p rows reply tokens words aborted er et ew ea h el eo = reply-run next (filled p rows) reply tokens words aborted er et ew ea h el eo
+      ∙ ap (ran (recovers (after p next) (handed b))) el
+      ∙ ap (λ (z : After Replied Memory). ran (recovers z (handed b)) (putLists (recoveredLists (z .result) (z .lent .store .rows)) l)) h)
 
   module _ (n : ℕ) where
     pub replied-run : (next : Memory) → (n ≡ 22 → ⊥) → (n ≡ 23 → ⊥) → Runs 24 next → Runs n next

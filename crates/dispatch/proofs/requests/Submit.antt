@@ -15,9 +15,9 @@ use Rattle.submissions.specs.Submit.{request, submitOf}
 use Rattle.submissions.specs.Plan.{submitPlanOf}
 use Rattle.submissions.specs.declared.{PlanSubmitted.PlanSubmitted, Submitted.Submitted}
 use Rattle.calls.specs.Answers.{outcome, ofSubmit, ofPlan}
-use Rattle.call_words.specs.Arguments.{readSpec, readReadings, readRequest, readPlan}
+use Rattle.call_words.specs.Arguments.{readSpec, readReadings, readRequest, readPlan, readPlanRequest}
 use Rattle.call_words.specs.Parts.{readReading}
-use Rattle.calls.specs.Calls.{Submit, SubmitPlan, Begin}
+use Rattle.calls.specs.Calls.{Submit, SubmitPlan, planRequest, Begin}
 use Rattle.calls.specs.Step.{world, submits, plans, begunOf, stepOf}
 use Rattle.calls.specs.declared.{Outcome.Outcome}
 use Rattle.call_words.specs.Decode.{readSubmission}
@@ -41,6 +41,6 @@ module _ (n : ℕ) (s : Session) (l next : Lent) (w bytes : List ℕ) (r : Outco
       → r ≡ outcome (ofPlan (x .answer)) (x .session) → after x next ≡ submitPlanOf q bytes first s l → Steps
   unfolding stepOf begunOf readSubmission
   plan-step x q first e1 n8 eq er h =
-      let c : Begin (SubmitPlan q bytes first) ≡ Begin (SubmitPlan (readPlan w) bytes (readReading w 14)) = rw (eq, e1) in
-      said (Begin (SubmitPlan q bytes first)) (readSubmission n w bytes) (world s l) _ (search (chain, c) depth 20)
+      let c : Begin (SubmitPlan (planRequest q bytes first)) ≡ Begin (SubmitPlan (readPlanRequest w bytes)) = rw (eq, e1) in
+      said (Begin (SubmitPlan (planRequest q bytes first))) (readSubmission n w bytes) (world s l) _ (search (chain, c) depth 20)
       (ap (λ (z : Outcome). after z next) er ∙ ap plans h)

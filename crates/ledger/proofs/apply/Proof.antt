@@ -1,5 +1,5 @@
 use Rattle.ledger.proofs.Found.{found-in}
-use Rattle.ledger.proofs.Changes.{apply-none, apply-no, apply-to}
+use Rattle.ledger.proofs.Changes.{apply-none, apply-at}
 use Rattle.rows.specs.Store.{storeOf}
 use Rattle.ledger.proofs.Said.{apply-said}
 use borrow.Author.Needs.{needs}
@@ -10,19 +10,12 @@ returns : tie.Need-returns
 unfolding storeOf
 returns c = apply-said _ _ _ _ _ (search apply-none)
 
-read-row-requires : tie.Need-read-row-requires
-read-row-requires c κs = search found-in
-
-write-row-requires : tie.Need-write-row-requires
-write-row-requires c κs = search found-in
+change-at-requires : tie.Need-change-at-requires
+change-at-requires c κs = search found-in
 
 returns-2 : tie.Need-returns-2
 unfolding storeOf
-returns-2 c = apply-said _ _ _ _ _ (search apply-no)
-
-returns-3 : tie.Need-returns-3
-unfolding storeOf
-returns-3 c = apply-said _ _ _ _ _ (search apply-to)
+returns-2 c = apply-said _ _ _ _ _ (search apply-at)
 
 pub apply-spec : {M : Type 1} → statement M
 apply-spec =
@@ -34,12 +27,6 @@ apply-spec =
     (λ c κs. search needs)
     (λ c. search needs)
     returns
-    read-row-requires
-    (λ c κs. search needs)
+    change-at-requires
     (λ c. search needs)
-    (λ c. search needs)
-    write-row-requires
-    (λ c. search needs)
-    returns-2
-    (λ c. search needs)
-    returns-3)
+    returns-2)

@@ -1,5 +1,5 @@
 use borrow.Author.Needs.{needs}
-use Rattle.lines.proofs.Walk.{text-next}
+use Rattle.lines.proofs.Walk.{event-walked}
 use Rattle.lines.proofs.mark_event.Statement.{statement}
 use Rattle.lines.proofs.mark_event.Tie as tie
 
@@ -14,4 +14,4 @@ mark-event-spec =
     (λ c. search needs)
     (λ c. search needs)
     (λ c. search needs)
-    (λ c. search text-next))
+    (λ c. search event-walked))

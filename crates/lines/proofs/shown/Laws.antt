@@ -6,8 +6,7 @@ use Rattle.rows.specs.Store.{Store}
 use Rattle.session.specs.declared.{Session.Session}
 use Rattle.reports.specs.declared.{HeldAnswer.HeldAnswer, OptionId.OptionId, ReportAnswer.ReportAnswer}
 use Rattle.reports.specs.Status.{statusOf, heldCountOf}
-use Rattle.lines.specs.Lines.{stateLetter, noLetter, letterBy, letterOf, heldNumber, heldIn, damagedLine, eventLine}
-use Rattle.line_text.specs.declared.{Line.Line}
+use Rattle.lines.specs.Lines.{stateLetter, noLetter, letterBy, letterOf, heldNumber, heldIn, eventLine}
 use Rattle.marking.specs.declared.{Marked.Marked}
 
 -- a report's letter is its state's
@@ -27,16 +26,8 @@ module _ (s : Session) (store : Store) (n : ℕ) where
   pub held-told : (a : HeldAnswer) → a ≡ heldCountOf s store → n ≡ heldNumber a → n ≡ heldIn s store
   held-told a e h = h ∙ ap heldNumber e
 
-  abbrev lineAs : ℕ → ℕ → ℕ → Line
-  lineAs i refusal letter = record { index = i; refusal = refusal; letter = letter; held = n }
-
-  -- the line of a damaged event
-  pub damaged-told : (i : ℕ) → n ≡ heldIn s store → lineAs i 57 noLetter ≡ damagedLine i s store
-  unfolding damagedLine
-  damaged-told i e = rw e
-
--- the line of any other
+-- an event's line
 pub event-told : (m : Marked) (store : Store) (i letter n : ℕ) → letter ≡ letterOf (m .id) (m .session) store → n ≡ heldIn (m .session) store
-    → lineAs (m .session) store n i (m .refusal) letter ≡ eventLine i m store
+    → record { index = i; refusal = m .refusal; letter = letter; held = n } ≡ eventLine i m store
 unfolding eventLine
 event-told m store i letter n el en = rw (el, en)

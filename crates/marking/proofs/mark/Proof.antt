@@ -1,4 +1,4 @@
-use Rattle.marking.proofs.Laws.{memory-marks, rows-mark}
+use Rattle.marking.proofs.Laws.{damaged-marks, calls-mark}
 use borrow.Author.Needs.{needs}
 use Rattle.marking.proofs.mark.Statement.{statement}
 use Rattle.marking.proofs.mark.Tie as tie
@@ -8,18 +8,9 @@ mark-spec =
     tie.close
     (tie.spec
     (λ c κs. search needs)
-    (λ c. search needs)
-    (λ c. search needs)
-    (λ c. search needs)
-    (λ c. search needs)
+    (λ c. search damaged-marks)
     (λ c κs. search needs)
     (λ c. search needs)
     (λ c. search needs)
-    (λ c. search memory-marks)
-    (λ c κs. search needs)
     (λ c. search needs)
-    (λ c. search needs)
-    (λ c. search memory-marks)
-    (λ c κs. search needs)
-    (λ c. search needs)
-    (λ c. search rows-mark))
+    (λ c. search calls-mark))

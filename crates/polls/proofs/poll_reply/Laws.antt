@@ -9,23 +9,24 @@ use Rattle.chain.specs.After.{After, after}
 use Rattle.chain.specs.Lists.{foundIn}
 use Rattle.chain.specs.declared.{Found.Found}
 use Rattle.chain.proofs.Chain.{takes, passes, not-through}
-use Rattle.words.specs.Records.{spliceCut}
 use Rattle.words.specs.declared.{OptionU32.OptionU32, OptionU64.OptionU64}
 use Rattle.models.specs.Refusals.{refusalOf, fromBackend, invalidCompletion}
 use Rattle.models.specs.declared.{BackendCompletion.BackendCompletion, OperationError.OperationError, OptionError.OptionError, Refusal.Refusal, RequestId.RequestId, RequestMetadata.RequestMetadata, RequestReport.RequestReport}
 use Rattle.standards.specs.Completion.{isStall}
 use Rattle.rows.specs.Table.{readRows, rowIn}
-use Rattle.rows.specs.Store.{Store, putIn}
+use Rattle.rows.specs.Store.{Store}
 use Rattle.rows.specs.declared.{Row.Row}
-use Rattle.rules.specs.Rules.{changeRow, reportOf}
+use Rattle.rules.specs.Rules.{reportOf}
+use Rattle.rules.specs.declared.{Change.Change}
+use Rattle.ledger.specs.Apply.{changedAt}
 use Rattle.ledger.specs.Search.{isAt}
-use Rattle.rules.specs.declared.{Change.Change, Step.Step}
+use Rattle.ledger.specs.declared.{Applied.Applied}
 use Rattle.checks.specs.Completion.{testCompletion}
 use Rattle.checks.specs.declared.{completion.CompletionTest.CompletionTest}
 use Rattle.session.specs.Session.{marked, withFlight, withStall}
-use Rattle.session.specs.Sizes.{memorySizes, placeOf}
+use Rattle.session.specs.Sizes.{dataAt, memorySizes}
 use Rattle.session.specs.Lent.{Memory, memory, memoryFits}
-use Rattle.session.specs.declared.{InFlight.InFlight, OptionStall.OptionStall, Recovery.Recovery, Session.Session, Size.Size, sizes.Place.Place}
+use Rattle.session.specs.declared.{InFlight.InFlight, OptionStall.OptionStall, Recovery.Recovery, Session.Session, Size.Size}
 use Rattle.reports.specs.Answers.{effect, reportRefused}
 use Rattle.polls.specs.PollReply.{isRecovery, codeIsStall, isScopedStall, stallOf, failedAs, invalidAs, judgedTest, judgedBy, judged, storedIn, settled, pollReplyAt, pollReplyBy, pollReplyFound, pollReplyIn, pollReplyOf}
 use Rattle.polls.specs.declared.{PollReply.PollReply, poll_reply.Judgement.Judgement}
@@ -103,41 +104,39 @@ module _ (s : Session) (c : BackendCompletion) where
     judged-test t f et ej = ej ∙ ap (λ (x : CompletionTest). judgedTest x s c) et ∙ sym (ap (λ (o : OptionError). judgedBy o s row c given) f)
 
 -- the data
-module _ (z : Size) (p : Place) (bytes : List ℕ) (stored : Bool) (area : List ℕ) where
-  pub data-left : not stored ≡ true → area ≡ storedIn z p bytes stored area
+module _ (z : Size) (i : ℕ) (bytes : List ℕ) (stored : Bool) (area : List ℕ) where
+  pub data-left : not stored ≡ true → area ≡ storedIn z i bytes stored area
   unfolding storedIn
   data-left t = passes (List ℕ) _ _ _ _ (not-true stored t) refl
 
-  pub data-stored : (left : List ℕ) → not stored ≡ false → left ≡ spliceCut (p .start) (z .«row_bytes») bytes area → left ≡ storedIn z p bytes stored area
+  pub data-stored : (left : List ℕ) → not stored ≡ false → left ≡ dataAt z i bytes area → left ≡ storedIn z i bytes stored area
   unfolding storedIn
   data-stored left t ea = takes (List ℕ) _ _ _ _ (not-false stored t) ea
 
--- the row takes the change
-module _ (j : Judgement) (p : Place) (bytes : List ℕ) (idle : Session) (m : Memory) (row : Row) (d : Step) (ed : d ≡ changeRow row (j .change)) where
-  pub settled-no : (r : Refusal) (x : Reported) → d ≡ Step.Refused r → x ≡ reportRefused idle r
-      → after x m ≡ settled (changeRow row (j .change)) j p bytes idle m
+-- the row took the change
+module _ (j : Judgement) (i : ℕ) (bytes : List ℕ) (idle : Session) (area : List ℕ) (a : Applied) (left : Store) (o : After Applied Store) (eo : after a left ≡ o) where
+  pub settled-no : (r : Refusal) (x : Reported) → a ≡ Applied.Refused r → x ≡ reportRefused idle r → after x (memory left area) ≡ settled o j i bytes idle area
   unfolding settled
-  settled-no r x e ex = rw (ex, ← ed, e)
+  settled-no r x e ex = rw (← eo, e, ex)
 
-  pub settled-to : (next : Row) (x : RequestReport) (store : Store) (area : List ℕ) → d ≡ Step.To next x → store ≡ putIn (m .store) (p .row) next
-      → area ≡ storedIn (idle .size) p bytes (j .stored) (m .area)
-      → after (reportedAs (ReportAnswer.Report x) (j .session)) (memory store area) ≡ settled (changeRow row (j .change)) j p bytes idle m
+  pub settled-done : (x : RequestReport) (next : List ℕ) → a ≡ Applied.Done x → next ≡ storedIn (idle .size) i bytes (j .stored) area
+      → after (reportedAs (ReportAnswer.Report x) (j .session)) (memory left next) ≡ settled o j i bytes idle area
   unfolding settled
-  settled-to next x store area e es ea = rw (es, ea, ← ed, e)
+  settled-done x next e ea = rw (← eo, e, ea)
 
 -- by the reply
-module _ (r : PollReply) (row : Row) (p : Place) (bytes : List ℕ) (idle : Session) (m : Memory) (own : Row) (eo : own ≡ row) where
-  pub at-nothing : (x : RequestReport) → r ≡ PollReply.Nothing → x ≡ reportOf own → after (reportedAs (ReportAnswer.Report x) idle) m ≡ pollReplyAt r row p bytes idle m
+module _ (r : PollReply) (i : ℕ) (bytes : List ℕ) (idle : Session) (m : Memory) (own : Row) (eo : own ≡ rowIn (m .store .rows) i) where
+  pub at-nothing : (x : RequestReport) → r ≡ PollReply.Nothing → x ≡ reportOf own → after (reportedAs (ReportAnswer.Report x) idle) m ≡ pollReplyAt r i bytes idle m
   unfolding pollReplyAt
   at-nothing x e ex = rw (e, ex, eo)
 
   pub at-error : (e : OperationError) (next : Session) (f : Refusal) (x : Reported) → r ≡ PollReply.Error e → next ≡ effect e idle → f ≡ fromBackend 45 e
-      → x ≡ reportRefused next f → after x m ≡ pollReplyAt r row p bytes idle m
+      → x ≡ reportRefused next f → after x m ≡ pollReplyAt r i bytes idle m
   unfolding pollReplyAt
   at-error e next f x t en ef ex = rw (ex, t, en, ef)
 
   pub at-completion : (c : BackendCompletion) (j : Judgement) (y : After Reported Memory) → r ≡ PollReply.Completion c → j ≡ judged idle own c (length bytes)
-      → y ≡ settled (changeRow own (j .change)) j p bytes idle m → y ≡ pollReplyAt r row p bytes idle m
+      → y ≡ settled (changedAt i (j .change) (m .store)) j i bytes idle (m .area) → y ≡ pollReplyAt r i bytes idle m
   unfolding pollReplyAt
   at-completion c j y t ej ey = ey ∙ rw (t, ej, eo)
 
@@ -153,14 +152,14 @@ module _ (id : RequestId) (r : PollReply) (bytes : List ℕ) (s : Session) (m : 
     found-none x e ex = passes (After Reported Memory) _ _ _ _ (not-through f _ false ef t) (rw (sym eg ∙ e, ex))
 
     pub found-at : (i : ℕ) (idle : Session) (y : After Reported Memory) → g ≡ Found.At i → idle ≡ withFlight s InFlight.Nothing
-        → y ≡ pollReplyAt r (rowIn (m .store .rows) i) (placeOf (s .size) i) bytes idle m → y ≡ pollReplyFound id r bytes s m
+        → y ≡ pollReplyAt r i bytes idle m → y ≡ pollReplyFound id r bytes s m
     unfolding pollReplyFound pollReplyBy
     found-at i idle y e ei ey = passes (After Reported Memory) _ _ _ _ (not-through f _ false ef t) (ey ∙ rw (sym eg ∙ e, ei))
 
 -- the session with another operation in flight, or none, has the same sizes
 pub idle-place : (s idle : Session) (k : InFlight) (w : List ℕ) (size : ℕ) (f : Bool) → f ≡ memorySizes (s .size) (length w) size → not f ≡ false
     → (p : Row → Bool) (g : Found) (i : ℕ) → g ≡ foundIn p (readRows w) → g ≡ Found.At i → idle ≡ withFlight s k
-    → i * s .size .«row_bytes» + idle .size .«row_bytes» ≤ size
+    → i * idle .size .«row_bytes» + idle .size .«row_bytes» ≤ size
 idle-place s idle k w size f ef t p g i eg e ei = rw ei (found-place (s .size) w size f ef t p g i eg e)
 
 -- by what is in flight

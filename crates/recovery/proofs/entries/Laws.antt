@@ -6,8 +6,8 @@ use mathlib.Core.List.{List, [], _∷_, _++_, map}
 use native.Mathlib.Omega.{arith}
 use native.Mathlib.Numerals.{add-one}
 use lib.Dec.{ltb}
-use lib.ListN.{length, getD, take, drop, set, replicate, length-append, length-drop, List·getD-eq-default, drop-of-length-le}
-use lib.Seq.{take-all, drop-cons, drop-drop}
+use lib.ListN.{length, getD, take, drop, set, replicate, length-append, List·getD-eq-default, drop-of-length-le}
+use lib.Seq.{drop-cons, drop-drop}
 use borrow.Author.Tests.{ltb-true, ltb-false, eqb-true}
 use mir.Syntax.{w64}
 use mir.Val.{Fits}
@@ -15,38 +15,40 @@ use Rattle.chain.specs.After.{After, after}
 use Rattle.chain.specs.Lists.{sumBy}
 use Rattle.chain.proofs.Chain.{caseB, both}
 use Rattle.chain.proofs.Listed.{list-on}
-use Rattle.words.specs.Records.{tab, spliceCut}
+use Rattle.words.specs.Records.{tab}
+use Rattle.words.proofs.Parts.{rest-some}
 use Rattle.words.proofs.Records.{record-in, length-tab, getD-tab}
 use Rattle.models.specs.Refusals.{refusalOf, invalidCompletion}
 use Rattle.models.specs.declared.{BackendCompletion.BackendCompletion, Refusal.Refusal, RequestReport.RequestReport, Verdict.Verdict}
 use Rattle.rows.specs.Table.{emptyRow, readRows, rowCount}
-use Rattle.rows.specs.Store.{Store, putIn, storeOf}
+use Rattle.rows.specs.Store.{Store, storeOf}
 use Rattle.rows.specs.declared.{Row.Row}
 use Rattle.rows.proofs.Rows.{length-readRows}
-use Rattle.rules.specs.Rules.{changeRow}
-use Rattle.rules.specs.declared.{Change.Change, Step.Step}
+use Rattle.rules.specs.declared.{Change.Change}
+use Rattle.ledger.specs.Apply.{changedAt}
+use Rattle.ledger.specs.declared.{Applied.Applied}
 use Rattle.checks.specs.Completion.{testCompletion}
 use Rattle.checks.specs.declared.{completion.CompletionTest.CompletionTest}
 use Rattle.session.specs.Lent.{Memory, memory}
+use Rattle.session.specs.Sizes.{dataAt}
 use Rattle.session.specs.declared.{Size.Size}
 use Rattle.session.proofs.sizes.Laws.{place-in, place-small}
 use Rattle.scope.specs.Scope.{slotOf, meant}
-use Rattle.scope.specs.Returned.{completionWords, broughtAt, givenOf, listsAgree}
+use Rattle.scope.specs.Returned.{completionWords, broughtAt, returnedAt, readReturned, givenOf, listsAgree}
 use Rattle.scope.specs.declared.{returned.Brought.Brought}
-use Rattle.recovery.specs.Entries.{rowCompletedBy, testedBy, completeOne, abortedBy, abortOne, onwardBy, entryAt, readEntries, completeAll, abortAll}
+use Rattle.recovery.specs.Entries.{rowCompletedBy, testedBy, completeOne, abortedBy, abortOne, onwardBy, itself, completeAll, abortAll}
 use Rattle.recovery.specs.Places.{Below, Fit}
 
 -- ---- a completion of row i
-module _ (d : Step) (z : Size) (i : ℕ) (bytes : List ℕ) (store : Store) (area : List ℕ) where
-  pub completed-no : (r : Refusal) → d ≡ Step.Refused r → after (Verdict.Refused r) (memory store area) ≡ rowCompletedBy d z i bytes (memory store area)
+module _ (z : Size) (i : ℕ) (bytes area : List ℕ) (a : Applied) (left : Store) (o : After Applied Store) (eo : after a left ≡ o) where
+  pub completed-no : (r : Refusal) → a ≡ Applied.Refused r → after (Verdict.Refused r) (memory left area) ≡ rowCompletedBy o z i bytes area
   unfolding rowCompletedBy
-  completed-no r e = rw e
+  completed-no r e = rw (← eo, e)
 
-  pub completed-to : (next : Row) (x : RequestReport) (left : Store) (areaLeft : List ℕ) → d ≡ Step.To next x → left ≡ putIn store i next
-      → areaLeft ≡ spliceCut (i * z .«row_bytes») (z .«row_bytes») bytes area
-      → after Verdict.Pass (memory left areaLeft) ≡ rowCompletedBy d z i bytes (memory store area)
+  pub completed-to : (x : RequestReport) (next : List ℕ) → a ≡ Applied.Done x → next ≡ dataAt z i bytes area
+      → after Verdict.Pass (memory left next) ≡ rowCompletedBy o z i bytes area
   unfolding rowCompletedBy
-  completed-to next x left areaLeft e es ea = rw (es, ea, e)
+  completed-to x next e ea = rw (← eo, e, ea)
 
 module _ (z : Size) (i : ℕ) (c : BackendCompletion) (bytes : List ℕ) (m : Memory) (row : Row) (t : CompletionTest)
     (er : row ≡ getD (m .store .rows) i emptyRow) (et : t ≡ testCompletion c (length bytes) (row .metadata .«requested_length»)) where
@@ -58,22 +60,20 @@ module _ (z : Size) (i : ℕ) (c : BackendCompletion) (bytes : List ℕ) (m : Me
   unfolding completeOne testedBy
   one-invalid r e ex = rw (ex, ← er, ← et, e)
 
-  pub one-valid : (actual n : ℕ) (d : Step) (y : After Verdict Memory) → t ≡ CompletionTest.Valid actual n → d ≡ changeRow row (Change.Complete actual n) → y ≡ rowCompletedBy d z i bytes m
-      → y ≡ completeOne z i c bytes m
+  pub one-valid : (actual n : ℕ) (y : After Verdict Memory) → t ≡ CompletionTest.Valid actual n
+      → y ≡ rowCompletedBy (changedAt i (Change.Complete actual n) (m .store)) z i bytes (m .area) → y ≡ completeOne z i c bytes m
   unfolding completeOne testedBy
-  one-valid actual n d y e ed ey =
-      ey ∙ ap (λ (x : Step). rowCompletedBy x z i bytes m) ed
-      ∙ rw (← er, ← et, e) (ap (λ (r : Row). rowCompletedBy (changeRow r (Change.Complete actual n)) z i bytes m) er)
+  one-valid actual n y e ey = ey ∙ rw (← er, ← et, e)
 
 -- ---- an abort of row i
-module _ (i : ℕ) (store : Store) (row : Row) (d : Step) (er : row ≡ getD (store .rows) i emptyRow) (ed : d ≡ changeRow row Change.ConfirmAbort) where
-  pub abort-no : (r : Refusal) → d ≡ Step.Refused r → after (Verdict.Refused r) store ≡ abortOne i store
+module _ (i : ℕ) (store : Store) (a : Applied) (left : Store) (eo : after a left ≡ changedAt i Change.ConfirmAbort store) where
+  pub abort-no : (r : Refusal) → a ≡ Applied.Refused r → after (Verdict.Refused r) left ≡ abortOne i store
   unfolding abortOne abortedBy
-  abort-no r e = rw (← er, ← ed, e)
+  abort-no r e = rw (← eo, e)
 
-  pub abort-to : (next : Row) (x : RequestReport) (left : Store) → d ≡ Step.To next x → left ≡ putIn store i next → after Verdict.Pass left ≡ abortOne i store
+  pub abort-to : (x : RequestReport) → a ≡ Applied.Done x → after Verdict.Pass left ≡ abortOne i store
   unfolding abortOne abortedBy
-  abort-to next x left e es = rw (es, ← er, ← ed, e)
+  abort-to x e = rw (← eo, e)
 
 -- ---- the row that a token means
 module _ (affected own : List ℕ) (t j : ℕ) (e : j ≡ slotOf own t) where
@@ -120,34 +120,34 @@ module _ (w w₀ places : List ℕ) (n k : ℕ) (e : length w ≡ length w₀) (
 
 -- ---- the loop over the aborts
 abbrev pub Aborting : List ℕ → List ℕ → ℕ → List ℕ → ℕ → Type 0
-Aborting is w₀ n w k = (n ≡ length is) × (k ≤ n) × (length w ≡ length w₀) × (abortAll (drop k is) (storeOf w) ≡ abortAll is (storeOf w₀))
+Aborting is w₀ n w k = (n ≡ length is) × (k ≤ n) × (length w ≡ length w₀) × (abortAll itself (drop k is) (storeOf w) ≡ abortAll itself is (storeOf w₀))
 
-module _ (is w₀ : List ℕ) (n : ℕ) (w : List ℕ) (k : ℕ) (e : n ≡ length is) (h : abortAll (drop k is) (storeOf w) ≡ abortAll is (storeOf w₀)) where
+module _ (is w₀ : List ℕ) (n : ℕ) (w : List ℕ) (k : ℕ) (e : n ≡ length is) (h : abortAll itself (drop k is) (storeOf w) ≡ abortAll itself is (storeOf w₀)) where
   module _ (lt : k < n) (v : Verdict) (w′ : List ℕ) (ev : after v (storeOf w′) ≡ abortOne (getD is k 0) (storeOf w)) where
-    abort-next : onwardBy v (after v (storeOf w′)) (λ (s : Store). abortAll (drop (suc k) is) s) ≡ abortAll is (storeOf w₀)
+    abort-next : onwardBy v (after v (storeOf w′)) (λ (s : Store). abortAll itself (drop (suc k) is) s) ≡ abortAll itself is (storeOf w₀)
     abort-next =
-        ap (λ (x : After Verdict Store). onwardBy (x .result) x (λ (s : Store). abortAll (drop (suc k) is) s)) ev ∙ (rw (drop-cons is k 0 (omega arith)) at h)
+        ap (λ (x : After Verdict Store). onwardBy (x .result) x (λ (s : Store). abortAll itself (drop (suc k) is) s)) ev ∙ (rw (drop-cons is k 0 (omega arith)) at h)
 
-    pub abort-on : v ≡ Verdict.Pass → abortAll (drop (k + 1) is) (storeOf w′) ≡ abortAll is (storeOf w₀)
+    pub abort-on : v ≡ Verdict.Pass → abortAll itself (drop (k + 1) is) (storeOf w′) ≡ abortAll itself is (storeOf w₀)
     abort-on q = rw add-one (rw q at abort-next)
 
-    pub abort-stop : (r : Refusal) → v ≡ Verdict.Refused r → after v (storeOf w′) ≡ abortAll is (storeOf w₀)
+    pub abort-stop : (r : Refusal) → v ≡ Verdict.Refused r → after v (storeOf w′) ≡ abortAll itself is (storeOf w₀)
     abort-stop r q = rw q (rw q at abort-next)
 
-  pub abort-end : n ≤ k → after Verdict.Pass (storeOf w) ≡ abortAll is (storeOf w₀)
+  pub abort-end : n ≤ k → after Verdict.Pass (storeOf w) ≡ abortAll itself is (storeOf w₀)
   abort-end o = let q : length is ≤ k = omega arith in let z : drop k is ≡ [] = drop-of-length-le is q in rw z at h
 
 -- ---- the loop over the completions
 module _ (places words : List ℕ) where
-  entries-length : length (readEntries places words) ≡ length places
-  unfolding readEntries
-  entries-length = length-tab (entryAt places words) (length places)
+  entries-length : length (readReturned places words) ≡ length places
+  unfolding readReturned
+  entries-length = length-tab (returnedAt places words) (length places)
 
-  entries-drop : (k : ℕ) → k < length places → drop k (readEntries places words) ≡ entryAt places words k ∷ drop (suc k) (readEntries places words)
-  unfolding readEntries
+  entries-drop : (k : ℕ) → k < length places → drop k (readReturned places words) ≡ returnedAt places words k ∷ drop (suc k) (readReturned places words)
+  unfolding readReturned
   entries-drop k lt =
-      drop-cons (readEntries places words) k (entryAt places words k) (omega (arith, entries-length))
-      ∙ rw (getD-tab (entryAt places words) (length places) k (entryAt places words k) lt)
+      drop-cons (readReturned places words) k (returnedAt places words k) (omega (arith, entries-length))
+      ∙ rw (getD-tab (returnedAt places words) (length places) k (returnedAt places words k) lt)
 
 -- the words of n completions, and their data lengths, where the lists agree
 module _ (n : ℕ) (words : List ℕ) where
@@ -162,14 +162,10 @@ module _ (n : ℕ) (words : List ℕ) where
   left-next k lt =
       rw (drop-cons (tab (broughtAt words) n) k (broughtAt words k) (omega (arith, length-tab (broughtAt words) n)), getD-tab (broughtAt words) n k (broughtAt words k) lt)
 
--- what is left of the bytes, as `&bytes[at..]` says it
-rest-is : {A : Type 0} (at : ℕ) (bytes : List A) → take (length bytes - at) (drop at bytes) ≡ drop at bytes
-rest-is at bytes = take-all (length bytes - at) (drop at bytes) (rw length-drop (omega arith))
-
 abbrev pub Completing : Size → List ℕ → List ℕ → List ℕ → List ℕ → List ℕ → ℕ → List ℕ → List ℕ → ℕ → ℕ → Type 0
 Completing z places words bytes w₀ area₀ n w area at k =
     (n ≡ length places) × (k ≤ n) × (length w ≡ length w₀) × (length area ≡ length area₀) × (at + left n words k ≡ length bytes)
-    × (completeAll z (drop k (readEntries places words)) (drop at bytes) (memory (storeOf w) area) ≡ completeAll z (readEntries places words) bytes (memory (storeOf w₀) area₀))
+    × (completeAll z itself (drop k (readReturned places words)) (drop at bytes) (memory (storeOf w) area) ≡ completeAll z itself (readReturned places words) bytes (memory (storeOf w₀) area₀))
 
 pub begin-given : (places words : List ℕ) (n size : ℕ) → n ≡ length places → listsAgree (length places) words size ≡ true → 0 + left n words 0 ≡ size
 begin-given places words n size e f = rw e (omega (arith, agreed (length places) words size f .1))
@@ -186,22 +182,22 @@ module _ (words : List ℕ) (n k : ℕ) (lt : k < n) (size at : ℕ) (g : at + l
   given-fits f = omega (arith, f, given-on)
 
 module _ (z : Size) (places words bytes w₀ area₀ : List ℕ) (n : ℕ) (w area : List ℕ) (at k : ℕ) (e : n ≡ length places)
-    (h : completeAll z (drop k (readEntries places words)) (drop at bytes) (memory (storeOf w) area) ≡ completeAll z (readEntries places words) bytes (memory (storeOf w₀) area₀)) where
+    (h : completeAll z itself (drop k (readReturned places words)) (drop at bytes) (memory (storeOf w) area) ≡ completeAll z itself (readReturned places words) bytes (memory (storeOf w₀) area₀)) where
   abbrev whole : After Verdict Memory
-  whole = completeAll z (readEntries places words) bytes (memory (storeOf w₀) area₀)
+  whole = completeAll z itself (readReturned places words) bytes (memory (storeOf w₀) area₀)
 
   module _ (lt : k < n) (b : Brought) (v : Verdict) (w′ area′ : List ℕ) (eb : b ≡ broughtAt words k)
       (ev : after v (memory (storeOf w′) area′)
       ≡ completeOne z (getD places k 0) (b .completion) (take (b .given) (take (length bytes - at) (drop at bytes))) (memory (storeOf w) area)) where
-    complete-next : onwardBy v (after v (memory (storeOf w′) area′)) (λ (m : Memory). completeAll z (drop (suc k) (readEntries places words)) (drop (at + b .given) bytes) m) ≡ whole
+    complete-next : onwardBy v (after v (memory (storeOf w′) area′)) (λ (m : Memory). completeAll z itself (drop (suc k) (readReturned places words)) (drop (at + b .given) bytes) m) ≡ whole
     complete-next =
         let one : after v (memory (storeOf w′) area′)
-        ≡ completeOne z (getD places k 0) (b .completion) (take (b .given) (drop at bytes)) (memory (storeOf w) area) = ev ∙ rw (rest-is at bytes) in
+        ≡ completeOne z (getD places k 0) (b .completion) (take (b .given) (drop at bytes)) (memory (storeOf w) area) = ev ∙ rw (rest-some bytes at) in
         rw (← drop-drop (b .given) at bytes)
-        (ap (λ (x : After Verdict Memory). onwardBy (x .result) x (λ (m : Memory). completeAll z (drop (suc k) (readEntries places words)) (drop (b .given) (drop at bytes)) m)) one
+        (ap (λ (x : After Verdict Memory). onwardBy (x .result) x (λ (m : Memory). completeAll z itself (drop (suc k) (readReturned places words)) (drop (b .given) (drop at bytes)) m)) one
         ∙ (rw (entries-drop places words k (omega arith), ← eb) at h))
 
-    pub complete-on : v ≡ Verdict.Pass → completeAll z (drop (k + 1) (readEntries places words)) (drop (at + b .given) bytes) (memory (storeOf w′) area′) ≡ whole
+    pub complete-on : v ≡ Verdict.Pass → completeAll z itself (drop (k + 1) (readReturned places words)) (drop (at + b .given) bytes) (memory (storeOf w′) area′) ≡ whole
     complete-on q = rw add-one (rw q at complete-next)
 
     pub complete-stop : (r : Refusal) → v ≡ Verdict.Refused r → after v (memory (storeOf w′) area′) ≡ whole
@@ -209,6 +205,6 @@ module _ (z : Size) (places words bytes w₀ area₀ : List ℕ) (n : ℕ) (w ar
 
   pub complete-end : n ≤ k → after Verdict.Pass (memory (storeOf w) area) ≡ whole
   complete-end o =
-      let q : length (readEntries places words) ≤ k = omega (arith, entries-length places words) in
-      let y : drop k (readEntries places words) ≡ [] = drop-of-length-le (readEntries places words) q in
+      let q : length (readReturned places words) ≤ k = omega (arith, entries-length places words) in
+      let y : drop k (readReturned places words) ≡ [] = drop-of-length-le (readReturned places words) q in
       rw y at h

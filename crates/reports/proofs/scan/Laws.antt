@@ -1,38 +1,27 @@
 -- One law for each way out of reports in the order of the rows: its premises are the facts in hand there. Assumes nothing.
 use Prim.Native.Nat.{ℕ, _+_, _-_, _<_, _≤_}
-use mathlib.Core.Bool.{Bool, true, false, not, _&&_}
+use mathlib.Core.Bool.{Bool, true, false, not}
 use mathlib.Core.List.{List}
 use mathlib.Core.Path.{_≡_, sym, ap, _∙_}
 use native.Mathlib.Omega.{arith}
 use lib.ListN.{length, getD, drop, length-drop}
 use lib.Seq.{getD-drop}
-use borrow.Author.Tests.{not-true, not-false, lt-ltb, le-ltb, ltb-true}
+use borrow.Author.Tests.{lt-ltb, le-ltb, ltb-true}
 use Rattle.chain.specs.Lists.{find, anyIn}
 use Rattle.chain.specs.declared.{Found.Found}
 use Rattle.chain.proofs.Chain.{caseB, takes, passes, not-through}
 use Rattle.chain.proofs.Lists.{find-on, find-here}
 use Rattle.models.specs.Refusals.{refusalOf}
-use Rattle.models.specs.declared.{Refusal.Refusal, RequestId.RequestId, RequestReport.RequestReport}
+use Rattle.models.specs.declared.{Refusal.Refusal, RequestReport.RequestReport}
 use Rattle.rows.specs.Table.{emptyRow}
 use Rattle.rows.specs.Store.{Store}
 use Rattle.rows.specs.declared.{Row.Row}
 use Rattle.rules.specs.Rules.{reportOf}
 use Rattle.session.specs.Lent.{storeFits}
 use Rattle.session.specs.declared.{InFlight.InFlight, Session.Session}
-use Rattle.reports.specs.Status.{isSubmitting, isShown}
+use Rattle.reports.specs.Status.{isShown}
 use Rattle.reports.specs.Scan.{shownFrom, placedBy, reportFrom}
 use Rattle.reports.specs.declared.{PlacedReport.PlacedReport}
-
--- whether a row has a report, by its status word and its id
-module _ (f : InFlight) (row : Row) (u : Bool) (eu : u ≡ row .used) where
-  pub free-none : not u ≡ true → false ≡ isShown f row
-  unfolding isShown
-  free-none t = sym (ap (λ (z : Bool). z && not (isSubmitting f (row .id))) (sym eu ∙ not-true u t))
-
-  pub used-shown : (id : RequestId) (a : Bool) → not u ≡ false → id ≡ row .id → a ≡ isSubmitting f id → not a ≡ isShown f row
-  unfolding isShown
-  used-shown id a t ei ea =
-      ap not (ea ∙ ap (isSubmitting f) ei) ∙ sym (ap (λ (z : Bool). z && not (isSubmitting f (row .id))) (sym eu ∙ not-false u t))
 
 -- a search from `place` on that has come to row i of n
 abbrev pub Scanned : InFlight → List Row → ℕ → ℕ → ℕ → Type 0

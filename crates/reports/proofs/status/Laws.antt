@@ -1,5 +1,5 @@
 -- One law for each way out of reports, completed bytes and tallies: its premises are the facts in hand there. Assumes nothing.
-use Prim.Native.Nat.{ℕ, suc, zero, _+_, _-_, _*_, _<_, _≤_, min}
+use Prim.Native.Nat.{ℕ, suc, zero, _+_, _-_, _<_, _≤_, min}
 use mathlib.Core.Bool.{Bool, true, false, cond, not, _&&_}
 use mathlib.Core.List.{List, [], _∷_}
 use mathlib.Core.Path.{_≡_, refl, sym, ap, _∙_}
@@ -27,8 +27,8 @@ use Rattle.ledger.specs.Search.{isAt}
 use Rattle.ledger.specs.Tally.{heldCount, heldBytes}
 use Rattle.ledger.proofs.Found.{found-in}
 use Rattle.session.specs.Lent.{storeFits}
-use Rattle.session.specs.Sizes.{memorySizes}
-use Rattle.session.specs.declared.{InFlight.InFlight, Session.Session}
+use Rattle.session.specs.Sizes.{placeOf, memorySizes}
+use Rattle.session.specs.declared.{InFlight.InFlight, Session.Session, sizes.Place.Place}
 use Rattle.session.proofs.sizes.Laws.{place-in}
 use Rattle.reports.specs.Status.{isSubmitting, shownAt, statusBy, statusOf, isShown, comesAfter, beats, isBetter, better, bestFrom, reportAt, betterAt, nextOf, shownCount, completedLength, bytesPart, partBy, completedPart, partOf, bytesOf, heldCountOf, heldBytesOf}
 use Rattle.reports.specs.Said.{partNumber}
@@ -231,10 +231,10 @@ module _ (id : RequestId) (size : ℕ) (s : Session) (store : Store) (f : Bool) 
     unfolding completedPart partBy
     part-none r e er = passes PartAnswer _ _ _ _ (not-through f _ false ef t) (rw (sym eg ∙ e, er))
 
-    pub part-at : (i len n : ℕ) (row : Row) → g ≡ Found.At i → row ≡ getD (store .rows) i emptyRow → len ≡ completedLength (row .state)
-        → n ≡ min len (s .size .«row_bytes») → PartAnswer.Part (bytesPart (i * s .size .«row_bytes») n) ≡ completedPart id size s store
+    pub part-at : (i len n : ℕ) (row : Row) (p : Place) → g ≡ Found.At i → row ≡ getD (store .rows) i emptyRow → p ≡ placeOf (s .size) i
+        → len ≡ completedLength (row .state) → n ≡ min len (s .size .«row_bytes») → PartAnswer.Part (bytesPart (p .start) n) ≡ completedPart id size s store
     unfolding completedPart partBy
-    part-at i len n row e er el en = passes PartAnswer _ _ _ _ (not-through f _ false ef t) (rw (sym eg ∙ e, en, el, er))
+    part-at i len n row p e er ep el en = passes PartAnswer _ _ _ _ (not-through f _ false ef t) (rw (sym eg ∙ e, en, el, er, ep))
 
 pub part-empty : (a : PartAnswer) (r : Refusal) → a ≡ PartAnswer.Refused r → bytesPart 0 0 ≡ partOf a
 part-empty a r e = rw e

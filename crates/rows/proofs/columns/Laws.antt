@@ -10,7 +10,7 @@ use lib.Dec.{eqb}
 use borrow.Author.Tests.{ne-eqb, le-ltb, eqb-true, eqb-false}
 use Rattle.chain.proofs.Chain.{caseB}
 use Rattle.words.specs.Words.{readFlag}
-use Rattle.models.specs.Requests.{deviceMayAccess, isPending, isUncertainFailure}
+use Rattle.models.specs.Requests.{deviceMayAccess, isPending, isUncertainFailure, noId}
 use Rattle.models.specs.declared.{DeviceId.DeviceId, RequestId.RequestId}
 use Rattle.rows.specs.Codec.{readRow, readMetadata, stateByKind, kindBy}
 use Rattle.rows.specs.Table.{wordsAt, wordAt, readRows, rowCount, emptyRow, rowAt, idIn, tokenIn, isHeld, isUncertain, isPendingRow}
@@ -63,9 +63,9 @@ module _ (l : List ℕ) (i n : ℕ) (en : n ≡ length (readRows l)) (h : n ≤ 
   outside : rowAt l i ≡ emptyRow
   outside = let q : length (readRows l) ≤ i = omega arith in List·getD-eq-default (readRows l) emptyRow q
 
-  pub id-out : _≡_ {A = RequestId} (record { session = 0; generation = 0; sequence = 0 }) (idIn (readRows l) i)
+  pub id-out : (x : RequestId) → x ≡ noId → x ≡ idIn (readRows l) i
   unfolding emptyRow readRow
-  id-out = sym (ap (λ (r : Row). r .id) outside)
+  id-out x e = e ∙ sym (ap (λ (r : Row). r .id) outside)
 
   pub token-out : 0 ≡ tokenIn (readRows l) i
   unfolding emptyRow readRow

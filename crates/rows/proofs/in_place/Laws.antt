@@ -14,7 +14,7 @@ use Rattle.words.specs.Records.{splice}
 use Rattle.words.proofs.Options.{low, flag-back}
 use Rattle.models.specs.Codes.{readTransfer, transferWord, readDirection, directionWord}
 use Rattle.models.specs.Values.{setupWords, setupTail, metadataTail}
-use Rattle.models.specs.declared.{RequestState.RequestState, SetupWords.SetupWords}
+use Rattle.models.specs.declared.{RequestMetadata.RequestMetadata, RequestState.RequestState, SetupWords.SetupWords}
 use Rattle.models.specs.declared.RequestState.the-variants.{Pending, Completed}
 use Rattle.models.proofs.Enums.{transfer-back, direction-back}
 use Rattle.rows.specs.Codec.{readSetupWords, setupIn, readMetadata, stateByKind, kindBy, stateIn, stateWords, statusWords, statusTail, readRow, recordOf}
@@ -36,7 +36,7 @@ metadata-is : (w : List ℕ) → readMetadata (take 13 (drop 2 w)) ≡ record {
   «transfer_type» = readTransfer (getD w 6 0);
   direction = readDirection (getD w 7 0);
   «requested_length» = getD w 8 0;
-  setup = setupAt w;
+  setup = readSetupWords (getD w 9 0) (getD w 10 0) (getD w 11 0) (getD w 12 0) (getD w 13 0) (getD w 14 0);
 }
 unfolding readMetadata
 metadata-is w =
@@ -57,6 +57,10 @@ metadata-is w =
       m 12 (omega arith),
     )
 
+pub setup-is : (w : List ℕ) → readSetupWords (getD w 9 0) (getD w 10 0) (getD w 11 0) (getD w 12 0) (getD w 13 0) (getD w 14 0) ≡ setupAt w
+unfolding readRow
+setup-is w = ap (λ (m : RequestMetadata). m .setup) (sym (metadata-is w))
+
 module _ (w : List ℕ) (y d : ℕ) (p : SetupWords) (ey : y ≡ transferWord (readTransfer (getD w 6 0))) (ed : d ≡ directionWord (readDirection (getD w 7 0)))
     (ep : p ≡ setupWords (setupAt w)) where
   -- the metadata's words made anew
@@ -64,7 +68,7 @@ module _ (w : List ℕ) (y d : ℕ) (p : SetupWords) (ey : y ≡ transferWord (r
   metaTail rest = getD w 2 0 ∷ getD w 3 0 ∷ getD w 4 0 % 2 ^ 8 ∷ getD w 5 0 % 2 ^ 8 ∷ y ∷ d ∷ getD w 8 0 ∷ setupTail p rest
 
   meta-anew : (rest : List ℕ) → metaTail rest ≡ metadataTail (readMetadata (take 13 (drop 2 w))) rest
-  meta-anew rest = rw (metadata-is w, ey, ed, ep)
+  meta-anew rest = rw (metadata-is w, setup-is w, ey, ed, ep)
 
   pub values-are : (s t a b : ℕ) (z : StateWords) → z ≡ stateWords (stateAt t w) → a ≡ flagWord (readFlag (getD w 16 0)) → b ≡ flagWord (readFlag (getD w 17 0))
       → (getD w 0 0 ∷ getD w 1 0 ∷ s ∷ metaTail (stateTail z (a ∷ b ∷ []))) ≡ reportValues (reportOf (readRow (s ∷ t ∷ w)))
@@ -134,10 +138,10 @@ pub cancelled-is : (w r : List ℕ) (late own : Bool) (y : RequestState) → y �
 unfolding readRow cancelled
 cancelled-is w r late own y ey el eo e = rw (ey, el, eo) at e
 
-pub late-is : (w r : List ℕ) (cancel own : Bool) (y : RequestState) → y ≡ Pending cancel true → cancel ≡ readFlag (getD w 18 0) → own ≡ readFlag (getD w 16 0)
+pub timed-out-is : (w r : List ℕ) (cancel own : Bool) (y : RequestState) → y ≡ Pending cancel true → cancel ≡ readFlag (getD w 18 0) → own ≡ readFlag (getD w 16 0)
     → r ≡ recordOf (restated (withToken (readRow (0 ∷ 1 ∷ w)) (getD w 15 0)) own true y) → r ≡ recordOf (timedOut (readRow (0 ∷ 1 ∷ w)))
 unfolding readRow timedOut
-late-is w r cancel own y ey ec eo e = rw (ey, ec, eo) at e
+timed-out-is w r cancel own y ey ec eo e = rw (ey, ec, eo) at e
 
 pub accepted-is : (w r : List ℕ) (token : ℕ) (sc st c t : Bool) (y : RequestState) → y ≡ Pending sc st → sc ≡ readFlag (getD w 18 0) → st ≡ readFlag (getD w 19 0)
     → c ≡ readFlag (getD w 16 0) → t ≡ readFlag (getD w 17 0)
@@ -211,9 +215,9 @@ module _ (l : List ℕ) (i at : ℕ) (h : i < length (readRows l)) (pending : is
     cancel-put hw =
         put-kept (getD recorded 15 0) true (readFlag (getD recorded 19 0)) true (readFlag (getD recorded 17 0)) hw ∙ ap (λ (y : Row). putIn (storeOf l) i (cancelled y)) same-row
 
-    pub late-put : w ≡ recordOf (timedOut (readRow (0 ∷ 1 ∷ recorded))) → storeOf x ≡ putIn (storeOf l) i (timedOut (rowAt l i))
+    pub timed-out-put : w ≡ recordOf (timedOut (readRow (0 ∷ 1 ∷ recorded))) → storeOf x ≡ putIn (storeOf l) i (timedOut (rowAt l i))
     unfolding readRow timedOut
-    late-put hw =
+    timed-out-put hw =
         put-kept (getD recorded 15 0) (readFlag (getD recorded 18 0)) true (readFlag (getD recorded 16 0)) true hw ∙ ap (λ (y : Row). putIn (storeOf l) i (timedOut y)) same-row
 
     pub accept-put : (token : ℕ) → w ≡ recordOf (withToken (readRow (0 ∷ 1 ∷ recorded)) token)

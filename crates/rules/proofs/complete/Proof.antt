@@ -1,4 +1,4 @@
-use Rattle.rules.proofs.Rules.{settled, pending}
+use Rattle.rules.proofs.Rules.{settled, complete-to}
 use Rattle.rules.specs.Rules.{completed}
 use borrow.Author.Needs.{needs}
 use Rattle.rules.proofs.complete.Statement.{statement}
@@ -9,8 +9,7 @@ unfolding completed
 returns c = search settled
 
 returns-2 : tie.Need-returns-2
-unfolding completed
-returns-2 c = search pending
+returns-2 c = search complete-to
 
 pub complete-spec : {M : Type 1} → statement M
 complete-spec = tie.close (tie.spec (λ c. search needs) (λ c κs. search needs) returns (λ c κs. search needs) returns-2)

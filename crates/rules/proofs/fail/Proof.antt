@@ -1,4 +1,4 @@
-use Rattle.rules.proofs.Rules.{settled, pending}
+use Rattle.rules.proofs.Rules.{settled, fail-to}
 use Rattle.rules.specs.Rules.{failed}
 use borrow.Author.Needs.{needs}
 use Rattle.rules.proofs.fail.Statement.{statement}
@@ -9,8 +9,7 @@ unfolding failed
 returns c = search settled
 
 returns-2 : tie.Need-returns-2
-unfolding failed
-returns-2 c = search pending
+returns-2 c = search fail-to
 
 pub fail-spec : {M : Type 1} → statement M
 fail-spec = tie.close (tie.spec (λ c. search needs) (λ c κs. search needs) returns (λ c κs. search needs) returns-2)

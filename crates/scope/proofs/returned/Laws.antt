@@ -1,7 +1,7 @@
 -- Laws of what a reply brings, in words. Assumes nothing.
 use Prim.Native.Nat.{ℕ, suc, _+_, _-_, _*_, _/_, _%_, _<_, _≤_}
 use mathlib.Core.Path.{_≡_, refl, sym, ap, _∙_}
-use mathlib.Core.Bool.{Bool, true, false, cond, not, _||_, true≢false, false≢true}
+use mathlib.Core.Bool.{Bool, true, false, not, _||_, true≢false, false≢true}
 use mathlib.Core.List.{List}
 use native.Mathlib.Omega.{arith}
 use native.Mathlib.Numerals.{add-one}
@@ -15,14 +15,6 @@ use Rattle.words.specs.Records.{tab, part}
 use Rattle.words.proofs.Records.{part-getD, length-tab, getD-tab}
 use Rattle.scope.specs.Returned.{completionWords, readBrought, broughtAt, givenOf, listsAgree}
 use Rattle.scope.specs.declared.{returned.Brought.Brought}
-
--- what a tag r, read as v, says: x where it is k, y where not
-module _ (A : Type 0) (x y z : A) (r v k : ℕ) where
-  pub tagged : r ≡ v → r ≡ k → z ≡ x → z ≡ cond (eqb v k) x y
-  tagged e f q = rw (eq-eqb v k (sym e ∙ f)) q
-
-  pub untagged : r ≡ v → (r ≡ k → ⊥) → z ≡ y → z ≡ cond (eqb v k) x y
-  untagged e f q = rw (ne-eqb v k (λ g. f (e ∙ g))) q
 
 -- ---- one completion
 module _ (w : List ℕ) where

@@ -2,7 +2,7 @@
 use Prim.Native.Nat.{ℕ, _+_, _*_, _<_, _≤_}
 use mathlib.Core.Bool.{Bool, true, false, not, _&&_}
 use mathlib.Core.List.{List}
-use mathlib.Core.Path.{_≡_}
+use mathlib.Core.Path.{_≡_, ap, _∙_}
 use native.Mathlib.Nat.{mul-le-mul}
 use native.Mathlib.Omega.{arith}
 use borrow.Author.Tests.{leb-true, eqb-true, not-true, not-false}
@@ -11,12 +11,13 @@ use lib.Dec.{eqb}
 use mir.Syntax.{w64}
 use mir.Val.{Fits}
 use Rattle.chain.proofs.Chain.{both, fits-told}
+use Rattle.words.specs.Records.{spliceCut}
 use Rattle.words.proofs.Records.{record-in}
 use Rattle.rows.specs.Table.{rowWords, rowCount, readRows}
 use Rattle.rows.proofs.Rows.{length-readRows}
 use Rattle.bus.specs.Layout.{busWords}
-use Rattle.session.specs.Sizes.{sized, rowsFit, areaFits, busFits, memorySizes, lentSizes}
-use Rattle.session.specs.declared.{Size.Size}
+use Rattle.session.specs.Sizes.{sized, rowsFit, areaFits, busFits, placeOf, dataAt, memorySizes, lentSizes}
+use Rattle.session.specs.declared.{Size.Size, sizes.Place.Place}
 
 -- 1 to 1,024 rows of 1 to 65,536 bytes
 pub record Sized (z : Size) : Type 0 where
@@ -93,3 +94,11 @@ module _ (s p t : Bool) (e : s ≡ p) where
 
   pub fit-last : not s ≡ false → t ≡ (p && t)
   fit-last n = rw (← e, not-false s n)
+
+-- a row's bytes by its place
+module _ (z : Size) (i : ℕ) (p : Place) (e : p ≡ placeOf z i) where
+  pub data-in : (n : ℕ) → i * z .«row_bytes» + z .«row_bytes» ≤ n → p .start + z .«row_bytes» ≤ n
+  data-in n h = rw e h
+
+  pub data-put : (bytes area left : List ℕ) → left ≡ spliceCut (p .start) (z .«row_bytes») bytes area → left ≡ dataAt z i bytes area
+  data-put bytes area left ea = ea ∙ ap (λ (q : Place). spliceCut (q .start) (z .«row_bytes») bytes area) e

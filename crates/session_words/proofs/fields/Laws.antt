@@ -10,12 +10,12 @@ use borrow.Author.Tests.{eqb-true, not-true}
 use Rattle.chain.proofs.Chain.{caseB, both, passes, eq-not}
 use Rattle.words.specs.Records.{splice}
 use Rattle.models.specs.Codes.{readController}
-use Rattle.models.specs.Values.{requestIdWords}
+use Rattle.models.specs.Values.{requestIdWords, readRequestId}
 use Rattle.models.specs.declared.{ControllerState.ControllerState, RequestId.RequestId}
 use Rattle.session.specs.Session.{isBusy, isInitialized, withFlight}
 use Rattle.session.specs.declared.{InFlight.InFlight, Session.Session, Size.Size}
 use Rattle.session_words.specs.Fields.{isSubmitFlight, isPollFlight, flightId}
-use Rattle.session_words.specs.State.{readRequestId, readSession, sessionWords, sessionSize, standsAt, isSession, Kept, keptOf, keptAs}
+use Rattle.session_words.specs.State.{readSession, sessionWords, sessionSize, standsAt, isSession, Kept, keptOf, keptAs}
 use Rattle.session_words.proofs.Own.{own-words}
 
 module _ (l : List ℕ) where

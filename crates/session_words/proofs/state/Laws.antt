@@ -11,9 +11,10 @@ use Rattle.words.specs.Words.{readOptionU64, optionU64Words}
 use Rattle.words.specs.declared.{OptionU64.OptionU64, OptionWords.OptionWords}
 use Rattle.words.proofs.Options.{low}
 use Rattle.models.specs.Codes.{readController, controllerWord}
+use Rattle.models.specs.Values.{readDeviceWords, readRequestWords, readDeviceId, readRequestId}
 use Rattle.models.specs.declared.{ControllerState.ControllerState, DeviceId.DeviceId, OptionPorts.OptionPorts, Ports.Ports, RequestId.RequestId}
 use Rattle.session.specs.declared.{InFlight.InFlight, OptionStall.OptionStall, RecoverableStall.RecoverableStall, Recovery.Recovery, RecoveryKind.RecoveryKind, Session.Session}
-use Rattle.session_words.specs.State.{readPorts, portsWords, readDeviceWords, readRequestWords, readStall, stallWords, readKind, readFlight, readDeviceId, readRequestId, portsIn, stallIn, flightIn, recoveryFlight, flightWords, readSession, sessionWords, portsTail, revisionTail, stallTail, flightTail, Kept, keptOf, keptAs}
+use Rattle.session_words.specs.State.{readPorts, portsWords, readStall, stallWords, readKind, readFlight, portsIn, stallIn, flightIn, recoveryFlight, flightWords, readSession, sessionWords, portsTail, revisionTail, stallTail, flightTail, Kept, keptOf, keptAs}
 use Rattle.session_words.specs.declared.{state.FlightWords.FlightWords, state.PortsWords.PortsWords, state.StallWords.StallWords}
 
 pub ports-back : (p : Ports) → p .count < 2 ^ 8 → readPorts 1 (p .session) (p .count) ≡ OptionPorts.Some p

@@ -3,9 +3,14 @@ use Prim.Native.Nat.{ℕ, _*_}
 use mathlib.Core.Bool.{Bool, true}
 use mathlib.Core.List.{List}
 use mathlib.Core.Path.{_≡_, refl, _∙_}
+use native.Mathlib.Omega.{arith}
+use lib.ListN.{length}
+use mir.Syntax.{w64}
+use mir.Val.{Fits}
 use Rattle.chain.specs.declared.{Found.Found}
 use Rattle.models.specs.Refusals.{refusalOf}
 use Rattle.models.specs.declared.{ControlPlan.ControlPlan, Refusal.Refusal, RequestMetadata.RequestMetadata, RequestSpec.RequestSpec, Verdict.Verdict}
+use Rattle.rows.specs.Table.{readRows}
 use Rattle.rows.specs.declared.{Row.Row}
 use Rattle.checks.specs.Packets.{packetsChecked}
 use Rattle.checks.specs.Plan.{planned}
@@ -14,19 +19,24 @@ use Rattle.checks.specs.declared.{plan.Planned.Planned, plan.ValidatedControlPl
 use Rattle.session.specs.Lent.{Lent, lentFits}
 use Rattle.session.specs.Sizes.{memorySizes, lentSizes}
 use Rattle.session.specs.Start.{readyOf}
-use Rattle.session.specs.declared.{Session.Session, sizes.Place.Place}
-use Rattle.session.proofs.sizes.Laws.{lent-memory}
+use Rattle.session.specs.declared.{Session.Session, Size.Size, sizes.Place.Place}
+use Rattle.session.proofs.sizes.Laws.{lent-memory, place-small}
 use Rattle.session.proofs.start.Laws.{ready-sizes, guard-stop, guard-on}
 use Rattle.submissions.specs.Admit.{placeIn, admitPrepared, admitRoom, admitPackets, admitOf, admitPlanned, admitPlanRoom, admitPlanOf}
 use Rattle.submissions.specs.Begin.{roomIn}
 use Rattle.submissions.specs.declared.{admit.Admitted.Admitted, admit.AdmittedPlan.AdmittedPlan, admit.Room.Room}
+use Rattle.submissions.proofs.begin.Laws.{room-in}
 
 -- what the sizes leave to the row and its part of the area
 pub ready-memory : (s : Session) (v : Verdict) (words area bus : ℕ) → v ≡ readyOf s (lentSizes (s .size) words area bus) → v ≡ Verdict.Pass
     → memorySizes (s .size) words area ≡ true
 ready-memory s v words area bus ev e = lent-memory (s .size) words area bus (ready-sizes s _ v ev e)
 
--- 5
+-- 5, and where the row's bytes start
+pub room-fits : (z : Size) (l : List ℕ) (area : ℕ) → memorySizes z (length l) area ≡ true → (f : Found) (i : ℕ) → f ≡ roomIn (readRows l) → f ≡ Found.At i
+    → Fits w64 (i * z .«row_bytes»)
+room-fits z l area e f i ef fi = omega (arith, place-small z l area e i (room-in (readRows l) f i ef fi))
+
 module _ (s : Session) (rows : List Row) (f : Found) (ef : f ≡ roomIn rows) where
   pub place-none : (r : Refusal) → f ≡ Found.Nothing → r ≡ refusalOf 5 → Room.Refused r ≡ placeIn s rows
   unfolding placeIn

@@ -15,6 +15,7 @@ use Rattle.chain.specs.declared.{Found.Found}
 use Rattle.chain.proofs.Chain.{caseB, takes, passes, through}
 use Rattle.words.specs.Records.{splice}
 use Rattle.models.specs.Kinds.{isIn}
+use Rattle.models.specs.Requests.{heldMost}
 use Rattle.models.specs.declared.{Refusal.Refusal, RequestId.RequestId, RequestMetadata.RequestMetadata, Verdict.Verdict}
 use Rattle.rows.specs.Table.{isHeld}
 use Rattle.rows.specs.Store.{Store, putIn}
@@ -37,23 +38,23 @@ use Rattle.submissions.specs.declared.{begin.Start.Start, begin.Started.
 
 -- the row for a new request
 module _ (rows : List Row) (n : ℕ) (e : n ≡ heldCount 8 rows) where
-  pub room-full : 128 ≤ n → Found.Nothing ≡ roomIn rows
+  pub room-full : heldMost ≤ n → Found.Nothing ≡ roomIn rows
   unfolding roomIn heldCount
   room-full h =
       let z : n ≡ saturate 8 (count isHeld rows) = e in
       let l = saturate-le 8 (count isHeld rows) in
-      takes Found _ _ _ _ (le-leb 128 (count isHeld rows) (omega arith)) refl
+      takes Found _ _ _ _ (le-leb heldMost (count isHeld rows) (omega arith)) refl
 
-  pub room-first : (f : Found) → n < 128 → f ≡ foundIn isFree rows → f ≡ roomIn rows
+  pub room-first : (f : Found) → n < heldMost → f ≡ foundIn isFree rows → f ≡ roomIn rows
   unfolding roomIn heldCount
   room-first f h ef =
       let z : n ≡ saturate 8 (count isHeld rows) = e in
-      passes Found _ _ _ _ (lt-leb 128 (count isHeld rows) (saturate-under 8 (count isHeld rows) 128 (omega arith) (omega arith))) ef
+      passes Found _ _ _ _ (lt-leb heldMost (count isHeld rows) (saturate-under 8 (count isHeld rows) heldMost (omega arith) (omega arith))) ef
 
 found-free : (rows : List Row) (i : ℕ) → roomIn rows ≡ Found.At i → foundIn isFree rows ≡ Found.At i
 unfolding roomIn _if_else_
 found-free rows i =
-    caseB (leb 128 (count isHeld rows)) (λ t. rw t λ e. let z : _≡_ {A = ℕ} 0 1 = cc in absurd (omega arith)) (λ t. rw t λ e. e)
+    caseB (leb heldMost (count isHeld rows)) (λ t. rw t λ e. let z : _≡_ {A = ℕ} 0 1 = cc in absurd (omega arith)) (λ t. rw t λ e. e)
 
 -- it is inside
 pub room-in : (rows : List Row) (f : Found) (i : ℕ) → f ≡ roomIn rows → f ≡ Found.At i → i < length rows
@@ -81,7 +82,7 @@ module _ (p : Place) (q : RequestMetadata) (bytes : List ℕ) (s : Session) (m :
   unfolding beginOf
   begin-on next id row store area n e ei er es ea en = rw (en, es, er, ea, ei, ← ev, e, beginOf)
 
--- device and endpoint, then the rest
+-- device and endpoint, then the sequence number
 module _ (d : Draft) (x : Readings) (s : Session) (b seen : Bus) (m : Memory) (t : Bool) (v : Verdict) (et : t ≡ isInitialized (s .state)) (ev : after v seen ≡ checkTarget t (s .ports) (d .metadata) x b) where
   pub target-stop : (r : Refusal) (y : Started) → v ≡ Verdict.Refused r → y ≡ startRefused s r → after y (lent seen m) ≡ targetOf d x s (lent b m)
   unfolding targetOf targetBy

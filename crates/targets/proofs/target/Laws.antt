@@ -11,6 +11,7 @@ use Rattle.models.specs.Refusals.{rejected}
 use Rattle.models.specs.Requests.{sameDevice}
 use Rattle.models.specs.declared.{DeviceId.DeviceId, DeviceSnapshot.DeviceSnapshot, OptionDevice.OptionDevice, OptionPorts.OptionPorts, PortReading.PortReading, Refusal.Refusal, RequestMetadata.RequestMetadata, TransferType.TransferType, Verdict.Verdict}
 use Rattle.standards.specs.Ports.{portSpeed}
+use Rattle.standards.specs.Speeds.{lowSpeed}
 use Rattle.bus.specs.Tables.{Bus, deviceAt, markAt}
 use Rattle.bus.specs.Ports.{freshPort}
 use Rattle.bus.specs.Endpoints.{hasEndpoint}
@@ -84,16 +85,16 @@ module _ (i : Bool) (o : OptionPorts) (id : DeviceId) (reading : PortReading) (b
 
 -- 37, 58 and 38
 module _ (raw slot endpoint : ℕ) (type : TransferType) (b : Bus) (speed : ℕ) (bulk : Bool) (es : speed ≡ portSpeed raw) (eb : bulk ≡ isBulk type) where
-  pub speed-bulk : (r : Verdict) → (eqb speed 2 && bulk) ≡ true → r ≡ rejected 37 → r ≡ speedChecked raw slot endpoint type b
+  pub speed-bulk : (r : Verdict) → (eqb speed lowSpeed && bulk) ≡ true → r ≡ rejected 37 → r ≡ speedChecked raw slot endpoint type b
   unfolding speedChecked
   speed-bulk r e er = takes Verdict _ _ _ _ (rw (es, eb) at e) er
 
-  module _ (noBulk : (eqb speed 2 && bulk) ≡ false) (isochronous : Bool) (ei : isochronous ≡ isIsochronous type) where
-    pub speed-isochronous : (r : Verdict) → (eqb speed 2 && isochronous) ≡ true → r ≡ rejected 58 → r ≡ speedChecked raw slot endpoint type b
+  module _ (noBulk : (eqb speed lowSpeed && bulk) ≡ false) (isochronous : Bool) (ei : isochronous ≡ isIsochronous type) where
+    pub speed-isochronous : (r : Verdict) → (eqb speed lowSpeed && isochronous) ≡ true → r ≡ rejected 58 → r ≡ speedChecked raw slot endpoint type b
     unfolding speedChecked
     speed-isochronous r e er = passes Verdict _ _ _ _ (rw (es, eb) at noBulk) (takes Verdict _ _ _ _ (rw (es, ei) at e) er)
 
-    module _ (neither : (eqb speed 2 && isochronous) ≡ false) where
+    module _ (neither : (eqb speed lowSpeed && isochronous) ≡ false) where
       pub placed-by : (r : Verdict) → r ≡ (rejected 38 if not (hasEndpoint slot endpoint type b) else Verdict.Pass) → r ≡ speedChecked raw slot endpoint type b
       unfolding speedChecked
       placed-by r er = passes Verdict _ _ _ _ (rw (es, eb) at noBulk) (passes Verdict _ _ _ _ (rw (es, ei) at neither) er)

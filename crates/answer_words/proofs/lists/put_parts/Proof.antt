@@ -1,18 +1,9 @@
 use native.Mathlib.Omega.{arith}
 use lib.ListN.{length-take}
-use Rattle.answer_words.proofs.lists.Laws.{parts-put}
+use Rattle.answer_words.proofs.lists.Laws.{two-short, two-put}
 use borrow.Author.Needs.{needs}
 use Rattle.answer_words.proofs.lists.put_parts.Statement.{statement}
 use Rattle.answer_words.proofs.lists.put_parts.Tie as tie
-
-slice-aggregate-put-two : tie.Need-slice-aggregate-put-two
-slice-aggregate-put-two c = simp length-take (omega arith)
-
-put-two-requires : tie.Need-put-two-requires
-put-two-requires c κs = simp length-take (omega arith)
-
-returns : tie.Need-returns
-returns c = search parts-put
 
 pub put-parts-spec : {M : Type 1} → statement M
 put-parts-spec =
@@ -20,7 +11,18 @@ put-parts-spec =
     (tie.spec
     (λ c. search needs)
     (λ c. search needs)
-    slice-aggregate-put-two
-    put-two-requires
     (λ c. search needs)
-    returns)
+    (λ c. search needs)
+    (λ c. search needs)
+    (λ c. search needs)
+    (λ c. search two-short)
+    (λ c. search needs)
+    (λ c. simp length-take (omega arith))
+    (λ c κs. simp length-take (omega arith))
+    (λ c. search needs)
+    (λ c. search needs)
+    (λ c. search needs)
+    (λ c. search needs)
+    (λ c κs. search needs)
+    (λ c. search needs)
+    (λ c. search two-put))

@@ -1,4 +1,5 @@
-use Rattle.answer_words.proofs.lists.Laws.{replied-refused, replied-few, replied-put}
+use Rattle.recovery.proofs.recovery_reply.Laws.{fill-few}
+use Rattle.answer_words.proofs.lists.Laws.{replied-refused, replied-put}
 use borrow.Author.Needs.{needs}
 use Rattle.answer_words.proofs.lists.write_replied.Statement.{statement}
 use Rattle.answer_words.proofs.lists.write_replied.Tie as tie
@@ -9,7 +10,7 @@ write-replied-spec =
     (tie.spec
     (λ c. search needs)
     (λ c. search needs)
-    (λ c κs. search replied-few)
+    (λ c κs. search fill-few)
     (λ c. search replied-refused)
     (λ c. search needs)
     (λ c. search replied-put))

@@ -1,5 +1,5 @@
 use borrow.Author.Needs.{needs}
-use Rattle.scope.proofs.returned.Laws.{tagged, untagged}
+use Rattle.models.proofs.values.Laws.{tagged, untagged}
 use Rattle.call_words.proofs.arguments.Laws.{flag-read}
 use Rattle.call_words.specs.Arguments.{readAcquireReply}
 use Rattle.call_words.proofs.arguments.acquire_reply.Statement.{statement}

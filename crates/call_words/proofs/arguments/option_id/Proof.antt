@@ -1,5 +1,5 @@
 use borrow.Author.Needs.{needs}
-use Rattle.scope.proofs.returned.Laws.{tagged, untagged}
+use Rattle.models.proofs.values.Laws.{tagged, untagged}
 use Rattle.call_words.specs.Arguments.{readOptionId}
 use Rattle.call_words.proofs.arguments.option_id.Statement.{statement}
 use Rattle.call_words.proofs.arguments.option_id.Tie as tie

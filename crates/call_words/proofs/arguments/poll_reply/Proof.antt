@@ -1,6 +1,6 @@
 use borrow.Author.Needs.{needs}
+use Rattle.models.proofs.values.Laws.{tagged, untagged}
 use Rattle.call_words.proofs.arguments.Laws.{completion-read}
-use Rattle.scope.proofs.returned.Laws.{tagged, untagged}
 use Rattle.call_words.specs.Arguments.{readPollReply}
 use Rattle.call_words.proofs.arguments.poll_reply.Statement.{statement}
 use Rattle.call_words.proofs.arguments.poll_reply.Tie as tie

@@ -11,6 +11,7 @@ check-payload-spec =
     tie.close
     (tie.spec
     (λ c κs. search needs)
+    (λ c κs. search needs)
     (λ c. search chain depth 20)
     (λ c κs. search needs)
     (λ c. search chain depth 20)

@@ -1,8 +1,7 @@
 -- `checks::plan::check_stages` meets its contract: at each `return` the tests that led there walk the chain. Assumes nothing.
 use borrow.Author.Needs.{needs}
-use Rattle.chain.proofs.Chain.{chain, takes, passes}
+use Rattle.chain.proofs.Chain.{chain}
 use Rattle.checks.specs.Plan.{stagesChecked}
-use Rattle.checks.proofs.Answers.{status-through}
 use Rattle.checks.proofs.plan.check_stages.Statement.{statement}
 use Rattle.checks.proofs.plan.check_stages.Tie as tie
 
@@ -12,11 +11,11 @@ check-stages-spec =
     tie.close
     (tie.spec
     (λ c κs. search needs)
+    (λ c κs. search needs)
+    (λ c. search chain depth 20)
+    (λ c κs. search needs)
     (λ c. search chain depth 20)
     (λ c κs. search needs)
     (λ c. search chain depth 20)
     (λ c κs. search needs)
-    (λ c κs. search needs)
-    (λ c. search (takes, passes, status-through) depth 20)
-    (λ c κs. search needs)
-    (λ c. search (takes, passes, status-through) depth 20))
+    (λ c. search chain depth 20))

@@ -19,6 +19,7 @@ check-control-spec =
     (λ c κs. search needs)
     (λ c. search chain depth 20)
     (λ c κs. search needs)
+    (λ c κs. search needs)
     (λ c. search chain depth 20)
     (λ c κs. search needs)
     (λ c. search chain depth 20)

@@ -11,5 +11,6 @@ check-data-spec =
     tie.close
     (tie.spec
     (λ c κs. search needs)
+    (λ c κs. search needs)
     (λ c. search chain depth 20)
     (λ c. search chain depth 20))

@@ -1,6 +1,6 @@
 use Rattle.direct.proofs.replies.Laws.{submit-at, submit-none, submit-other, submit-unfit}
 use Rattle.direct.proofs.Laws.{submission-busy}
-use Rattle.ledger.proofs.in_place.Laws.{placed-in}
+use Rattle.ledger.proofs.in_place.Laws.{accept-inside}
 use Rattle.rows.specs.Store.{storeOf}
 use borrow.Author.Needs.{needs}
 use Rattle.direct.proofs.replies.submit_accepted.Statement.{statement}
@@ -22,7 +22,7 @@ unfolding storeOf
 returns-3 c = search submit-none
 
 end-flight-requires : tie.Need-end-flight-requires
-end-flight-requires c κs = search placed-in
+end-flight-requires c κs = (search needs, accept-inside _ _ _ _ _ _ (c .before .before .before .before .before .before .before .before .accept .ensures .0) (c .before .before .before .before .placed .given .1))
 
 returns-4 : tie.Need-returns-4
 unfolding storeOf

@@ -18,4 +18,4 @@ recovered-spec =
     (λ c. search needs)
     (λ c. search needs)
     (λ c. search needs)
-    (λ c. search places-run))
+    (λ c. search (places-run, c .before .before .before .before .before .before .before .before .before .before .reply-by-places .ensures .0, c .before .before .before .before .before .before .before .before .before .before .before .before .before .before .before .before .backend-abort .ensures)))

@@ -1,23 +1,23 @@
 use Rattle.rows.specs.Store.{storeOf}
 use Rattle.ledger.proofs.Found.{found-in}
-use Rattle.ledger.proofs.Changes.{apply-none}
-use Rattle.ledger.proofs.in_place.Laws.{reclaim-no, reclaim-at}
+use Rattle.ledger.proofs.Said.{reclaim-said}
+use Rattle.ledger.proofs.in_place.Laws.{reclaim-none, reclaim-no, reclaim-at}
 use borrow.Author.Needs.{needs}
 use Rattle.ledger.proofs.in_place.reclaimable.Statement.{statement}
 use Rattle.ledger.proofs.in_place.reclaimable.Tie as tie
 
 returns : tie.Need-returns
 unfolding storeOf
-returns c = (search apply-none, tt)
+returns c = reclaim-said _ _ _ _ (search reclaim-none)
 
 held-at-requires : tie.Need-held-at-requires
 held-at-requires c κs = search found-in
 
 returns-2 : tie.Need-returns-2
-returns-2 c = (search reclaim-no, tt)
+returns-2 c = reclaim-said _ _ _ _ (search reclaim-no)
 
 returns-3 : tie.Need-returns-3
-returns-3 c = reclaim-at _ _ _ _ (c .before .before .before .before .before .find .ensures) (c .before .before .before .found .given .1) _ (c .before .held-at .ensures) (c .if1 .left)
+returns-3 c = reclaim-said _ _ _ _ (reclaim-at _ _ _ _ (c .before .before .before .before .before .find .ensures) (c .before .before .before .found .given .1) _ (c .before .held-at .ensures) (c .if1 .left))
 
 pub reclaimable-spec : {M : Type 1} → statement M
 reclaimable-spec =

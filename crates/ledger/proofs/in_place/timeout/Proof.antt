@@ -1,26 +1,26 @@
 use Rattle.rows.specs.Store.{storeOf}
 use Rattle.ledger.proofs.Found.{found-in}
-use Rattle.ledger.proofs.Changes.{apply-none}
-use Rattle.ledger.proofs.in_place.Laws.{timeout-no, pending-in, timeout-done}
+use Rattle.ledger.proofs.Said.{placed-said}
+use Rattle.ledger.proofs.in_place.Laws.{placed-none, timeout-no, pending-in, timeout-done}
 use borrow.Author.Needs.{needs}
 use Rattle.ledger.proofs.in_place.timeout.Statement.{statement}
 use Rattle.ledger.proofs.in_place.timeout.Tie as tie
 
 returns : tie.Need-returns
 unfolding storeOf
-returns c = (search apply-none, tt)
+returns c = placed-said _ _ _ _ _ (search placed-none)
 
 pending-at-requires : tie.Need-pending-at-requires
 pending-at-requires c κs = search found-in
 
 returns-2 : tie.Need-returns-2
-returns-2 c = (search timeout-no, tt)
+returns-2 c = placed-said _ _ _ _ _ (search timeout-no)
 
-late-row-requires : tie.Need-late-row-requires
-late-row-requires c κs = pending-in _ _ _ _ (c .before .before .before .before .before .before .before .find .ensures) (c .before .before .before .before .before .found .given .1) _ (c .before .before .pending-at .ensures) (c .before .if1 .left)
+time-out-row-requires : tie.Need-time-out-row-requires
+time-out-row-requires c κs = pending-in _ _ _ _ (c .before .before .before .before .before .before .before .find .ensures) (c .before .before .before .before .before .found .given .1) _ (c .before .before .pending-at .ensures) (c .before .if1 .left)
 
 returns-3 : tie.Need-returns-3
-returns-3 c = timeout-done _ _ _ _ (c .before .before .before .before .before .before .before .before .before .before .find .ensures) (c .before .before .before .before .before .before .before .before .found .given .1) _ (c .before .before .before .before .before .pending-at .ensures) _ (c .before .before .before .before .if1 .left) (c .before .before .late-row .ensures)
+returns-3 c = placed-said _ _ _ _ _ (timeout-done _ _ _ _ (c .before .before .before .before .before .before .before .before .before .before .find .ensures) (c .before .before .before .before .before .before .before .before .found .given .1) _ (c .before .before .before .before .before .pending-at .ensures) _ (c .before .before .before .before .if1 .left) (c .before .before .time-out-row .ensures))
 
 pub timeout-spec : {M : Type 1} → statement M
 timeout-spec =
@@ -36,6 +36,6 @@ timeout-spec =
     (λ c κs. search needs)
     (λ c. search needs)
     returns-2
-    late-row-requires
+    time-out-row-requires
     (λ c. search needs)
     returns-3)

@@ -1,6 +1,5 @@
 use Rattle.ledger.proofs.Found.{found-in}
 use Rattle.polls.proofs.poll_reply.Laws.{found-unfit, found-none, found-at, idle-place}
-use Rattle.reports.proofs.Bytes.{place-fits}
 use Rattle.rows.specs.Store.{storeOf}
 use borrow.Author.Needs.{needs}
 use Rattle.polls.proofs.poll_reply.reply_found.Statement.{statement}
@@ -13,9 +12,6 @@ returns c = search found-unfit
 returns-2 : tie.Need-returns-2
 unfolding storeOf
 returns-2 c = search found-none
-
-mul-start : tie.Need-mul-start
-mul-start c = search (place-fits, found-in)
 
 reply-at-requires : tie.Need-reply-at-requires
 reply-at-requires c κs = (search found-in, search idle-place)
@@ -37,7 +33,6 @@ reply-found-spec =
     (λ c κs. search needs)
     (λ c. search needs)
     returns-2
-    mul-start
     (λ c κs. search needs)
     reply-at-requires
     (λ c. search needs)

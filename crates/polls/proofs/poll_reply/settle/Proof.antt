@@ -1,4 +1,4 @@
-use Rattle.polls.proofs.poll_reply.Laws.{settled-no, settled-to}
+use Rattle.polls.proofs.poll_reply.Laws.{settled-no, settled-done}
 use borrow.Author.Needs.{needs}
 use Rattle.polls.proofs.poll_reply.settle.Statement.{statement}
 use Rattle.polls.proofs.poll_reply.settle.Tie as tie
@@ -7,7 +7,7 @@ returns : tie.Need-returns
 returns c = search settled-no
 
 returns-2 : tie.Need-returns-2
-returns-2 c = search settled-to
+returns-2 c = search settled-done
 
 pub settle-spec : {M : Type 1} → statement M
 settle-spec =
@@ -18,7 +18,7 @@ settle-spec =
     (λ c κs. search needs)
     (λ c. search needs)
     (λ c κs. search needs)
-    (λ c κs. search needs)
+    (λ c. search needs)
     returns
     (λ c. search needs)
     (λ c. search needs)

@@ -17,7 +17,6 @@ complete-one-spec =
     (λ c κs. search needs)
     (λ c. search needs)
     (λ c κs. search needs)
-    (λ c κs. search needs)
     (λ c. search needs)
     (λ c. search one-missing)
     (λ c. search needs)

@@ -1,5 +1,5 @@
 use borrow.Author.Needs.{needs}
-use Rattle.recovery.proofs.entries.Laws.{row-room, row-small, completed-no, completed-to}
+use Rattle.recovery.proofs.entries.Laws.{row-room, completed-no, completed-to}
 use Rattle.recovery.proofs.entries.complete_row.Statement.{statement}
 use Rattle.recovery.proofs.entries.complete_row.Tie as tie
 
@@ -7,11 +7,11 @@ pub complete-row-spec : {M : Type 1} → statement M
 complete-row-spec =
     tie.close
     (tie.spec
-    (λ c. search needs)
-    (λ c. search needs)
     (λ c κs. search needs)
-    (λ c. search row-small)
+    (λ c. search needs)
+    (λ c. search needs)
     (λ c κs. search row-room)
+    (λ c. search needs)
     (λ c. search completed-no)
     (λ c. search needs)
     (λ c. search needs)

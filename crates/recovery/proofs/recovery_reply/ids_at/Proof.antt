@@ -1,7 +1,7 @@
 use native.Mathlib.Omega.{arith}
 use lib.ListN.{length-take}
 use borrow.Author.Needs.{needs}
-use Rattle.recovery.proofs.recovery_reply.Laws.{parted-first, parted-is}
+use Rattle.recovery.proofs.recovery_reply.Laws.{parted-is}
 use Rattle.recovery.proofs.recovery_reply.ids_at.Statement.{statement}
 use Rattle.recovery.proofs.recovery_reply.ids_at.Tie as tie
 
@@ -12,5 +12,10 @@ ids-at-spec =
     (λ c. search needs)
     (λ c. search needs)
     (λ c. simp length-take (omega arith))
-    (λ c κs. search parted-first)
+    (λ c κs. search needs)
+    (λ c. search needs)
+    (λ c. search needs)
+    (λ c. search needs)
+    (λ c. search needs)
+    (λ c κs. search needs)
     (λ c. search parted-is))

@@ -2,7 +2,7 @@ use borrow.Author.Needs.{needs}
 use Prim.Native.Nat.{_-_}
 use Rattle.chain.proofs.Listed.{Listing, list-on, list-start, list-end}
 use Rattle.rows.specs.Table.{readRows, idIn}
-use Rattle.recovery.specs.Reports.{noId}
+use Rattle.models.specs.Requests.{noId}
 use Rattle.recovery.proofs.recovery_reply.ids_of.Statement.{statement}
 use Rattle.recovery.proofs.recovery_reply.ids_of.Tie as tie
 

@@ -1,6 +1,5 @@
 use borrow.Author.Needs.{needs}
 use Rattle.recovery.proofs.Few.{few-told}
-use Rattle.recovery.proofs.Said.{recovery-reply-said}
 use Rattle.recovery.proofs.recovery_reply.Laws.{filled-told}
 use Rattle.recovery.proofs.recovery_reply.recovery_reply.Statement.{statement}
 use Rattle.recovery.proofs.recovery_reply.recovery_reply.Tie as tie
@@ -13,4 +12,4 @@ recovery-reply-spec =
     (λ c κs. search few-told)
     (λ c. search needs)
     (λ c. search needs)
-    (λ c. recovery-reply-said _ _ _ _ _ _ (search filled-told)))
+    (λ c. filled-told _ _ _ _ _ (c .fill .ensures) (c .before .before .before .before .before .before .reply-by-places .ensures)))

@@ -1,5 +1,5 @@
 use Rattle.reports.proofs.status.Laws.{shown-in, part-unfit, part-none, part-at}
-use Rattle.reports.proofs.Bytes.{place-fits}
+use Rattle.reports.proofs.Bytes.{place-below}
 use Rattle.rows.specs.Store.{storeOf}
 use Rattle.reports.proofs.Said.{part-said}
 use borrow.Author.Needs.{needs}
@@ -17,8 +17,8 @@ returns-2 c = part-said _ _ _ _ _ (search part-none)
 read-row-requires : tie.Need-read-row-requires
 read-row-requires c κs = search shown-in
 
-mul-start : tie.Need-mul-start
-mul-start c = search (place-fits, shown-in)
+place-of-requires : tie.Need-place-of-requires
+place-of-requires c κs = search (place-below, shown-in)
 
 returns-3 : tie.Need-returns-3
 unfolding storeOf
@@ -37,7 +37,7 @@ completed-part-spec =
     (λ c κs. search needs)
     returns-2
     read-row-requires
-    mul-start
+    place-of-requires
     (λ c κs. search needs)
     (λ c κs. search needs)
     returns-3)

@@ -1,4 +1,4 @@
-use Rattle.rules.proofs.Rules.{settled, pending}
+use Rattle.rules.proofs.Rules.{settled, cancel-to}
 use Rattle.rules.specs.Rules.{logicalCancel}
 use borrow.Author.Needs.{needs}
 use Rattle.rules.proofs.flags.logical_cancel.Statement.{statement}
@@ -9,8 +9,7 @@ unfolding logicalCancel
 returns c = search settled
 
 returns-2 : tie.Need-returns-2
-unfolding logicalCancel
-returns-2 c = search pending
+returns-2 c = search cancel-to
 
 pub logical-cancel-spec : {M : Type 1} → statement M
 logical-cancel-spec = tie.close (tie.spec (λ c. search needs) (λ c κs. search needs) returns (λ c κs. search needs) returns-2)

@@ -1,4 +1,4 @@
-use Rattle.rules.proofs.Rules.{settled, pending}
+use Rattle.rules.proofs.Rules.{settled, timeout-to}
 use Rattle.rules.specs.Rules.{timeOut}
 use borrow.Author.Needs.{needs}
 use Rattle.rules.proofs.flags.timeout.Statement.{statement}
@@ -9,8 +9,7 @@ unfolding timeOut
 returns c = search settled
 
 returns-2 : tie.Need-returns-2
-unfolding timeOut
-returns-2 c = search pending
+returns-2 c = search timeout-to
 
 pub timeout-spec : {M : Type 1} → statement M
 timeout-spec = tie.close (tie.spec (λ c. search needs) (λ c κs. search needs) returns (λ c κs. search needs) returns-2)

@@ -1,4 +1,4 @@
-use Rattle.rules.proofs.Rules.{withdrawal}
+use Rattle.rules.proofs.Rules.{settled, withdraw-none, withdraw-to}
 use Rattle.rules.specs.Rules.{cancelWithdrawn}
 use borrow.Author.Needs.{needs}
 use Rattle.rules.proofs.flags.withdraw_cancel.Statement.{statement}
@@ -6,15 +6,13 @@ use Rattle.rules.proofs.flags.withdraw_cancel.Tie as tie
 
 returns : tie.Need-returns
 unfolding cancelWithdrawn
-returns c = search withdrawal depth 20
+returns c = search settled
 
 returns-2 : tie.Need-returns-2
-unfolding cancelWithdrawn
-returns-2 c = search withdrawal depth 20
+returns-2 c = search withdraw-none
 
 returns-3 : tie.Need-returns-3
-unfolding cancelWithdrawn
-returns-3 c = search withdrawal depth 20
+returns-3 c = search withdraw-to
 
 pub withdraw-cancel-spec : {M : Type 1} → statement M
 withdraw-cancel-spec =

@@ -1,5 +1,4 @@
-use Rattle.submissions.proofs.Room.{room-fits}
-use Rattle.submissions.proofs.admit.Laws.{place-none, place-at}
+use Rattle.submissions.proofs.admit.Laws.{room-fits, place-none, place-at}
 use borrow.Author.Needs.{needs}
 use Rattle.submissions.proofs.admit.find_place.Statement.{statement}
 use Rattle.submissions.proofs.admit.find_place.Tie as tie

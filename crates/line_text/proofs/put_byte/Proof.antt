@@ -1,7 +1,0 @@
-use borrow.Author.Needs.{needs}
-use Rattle.line_text.proofs.Decimal.{byte-put}
-use Rattle.line_text.proofs.put_byte.Statement.{statement}
-use Rattle.line_text.proofs.put_byte.Tie as tie
-
-pub put-byte-spec : {M : Type 1} → statement M
-put-byte-spec = tie.close (tie.spec (λ c. search needs) (λ c. search needs) (λ c. search needs) (λ c. byte-put _ _ _ (search needs)))
