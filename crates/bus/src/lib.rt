@@ -1,4 +1,6 @@
 // Ports, devices, endpoint lists and reconciliation marks (the Rust's `raw_coherence.slots`), in lent words of a fixed number.
+#![tactic(auto)]
+
 ghost use Rattle.std.specs.Prelude.{◌≡◌, ◌++◌, length, drop};
 ghost use Rattle.bus.specs.Layout.{port_count, devices_at, bus_words};
 ghost use Rattle.bus.specs.Tables.{bus_of, new_ports, cleared};

@@ -1,4 +1,6 @@
 // Every call of the library with one type of answer, so that one C function and one theorem over lists of calls serve them all.
+#![tactic(auto)]
+
 use models::{Refusal, RequestReport};
 use recovery::AbortReport;
 use reports::Part;

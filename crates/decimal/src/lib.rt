@@ -1,4 +1,6 @@
 // Numbers as decimal text, put into a list of bytes at a place.
+#![tactic(auto)]
+
 ghost use Rattle.std.specs.Prelude.{◌≡◌, [], ◌∷◌, ◌++◌, ◌+◌, ◌≤◌, length};
 ghost use Rattle.chain.specs.After.{after};
 ghost use Rattle.decimal.specs.Text.{decimal, appended};

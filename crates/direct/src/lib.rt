@@ -1,5 +1,7 @@
 // The calls on one request that C makes most, in place: they read and write words, and carry no session, row or report by value. Each
 // leaves what the plain call leaves.
+#![tactic(auto)]
+
 ghost use Rattle.std.specs.Prelude.{true, false, ◌≡◌, ◌<◌, length};
 ghost use Rattle.chain.specs.After.{after};
 ghost use Rattle.models.specs.Refusals.{refusal_of};

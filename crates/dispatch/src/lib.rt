@@ -1,4 +1,6 @@
 // One call on lent words. What C links is the step that the theorem over lists of calls speaks of.
+#![tactic(auto)]
+
 ghost use Rattle.std.specs.Prelude.{true, ◌≡◌, get_or};
 ghost use Rattle.chain.specs.After.{after};
 ghost use Rattle.session.specs.Lent.{lent_out};

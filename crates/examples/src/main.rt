@@ -1,4 +1,6 @@
 // Worked cases of USB 2.0 chapter 9, of xHCI 5.4.8 and of docs/CALLS.md. Each prints its name, what is computed, and whether that is the value written here.
+#![tactic(auto)]
+
 ghost use Rattle.std.specs.Prelude.{◌≡◌};
 ghost use Rattle.examples.specs.Status.{same_status};
 

@@ -1,5 +1,7 @@
 // The key of a paper (document 02, M-100): the paper on standard input, its lines on standard output and nothing else. Nothing is printed before the
 // paper's end was seen, or a byte more than the largest has. Where the input fails there is no key: standard error says so.
+#![tactic(auto)]
+
 use libc::{STDERR_FILENO, STDOUT_FILENO};
 use lines::TEXT_ROOM;
 use paper_input::PAPER_ROOM;

@@ -1,4 +1,6 @@
 // What the Rust's `RequestLedger` does, over rows in lent words.
+#![tactic(auto)]
+
 ghost use Rattle.std.specs.Prelude.{◌≡◌, ◌<◌, length};
 ghost use Rattle.chain.specs.After.{after};
 ghost use Rattle.models.specs.Said.{Tabled};

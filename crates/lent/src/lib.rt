@@ -1,5 +1,7 @@
 // Document 01's lent form: poll, cancel, its withdrawal, timeout and reclaim over a session that is lent for change. Each is the
 // call by value.
+#![tactic(auto)]
+
 ghost use Rattle.std.specs.Prelude.{◌≡◌};
 ghost use Rattle.chain.specs.After.{after};
 ghost use Rattle.models.specs.Said.{Tabled};

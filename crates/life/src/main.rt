@@ -1,4 +1,6 @@
 // A whole life of a session on small stores. Every answer is printed: a refusal by its number in document 01's table, a report by its state.
+#![tactic(auto)]
+
 mod calls; // calls.rt: calls whose answers are printed
 mod fixtures; // fixtures.rt: the opening, the device, ids, requests and replies
 mod full; // full.rt: a store of 130 rows, of which 128 may be held

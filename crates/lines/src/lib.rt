@@ -1,4 +1,6 @@
 // A paper's key: the calls of each event, made one by one on a store of its own, and a line of text for each.
+#![tactic(auto)]
+
 ghost use Rattle.std.specs.Prelude.{◌≡◌, false, ◌+◌, ◌≤◌, length};
 ghost use Rattle.io.specs.Counts.{IsPrefixLen};
 ghost use Rattle.chain.specs.After.{after};

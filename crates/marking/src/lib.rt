@@ -1,4 +1,6 @@
 // The calls of an event, made one by one, each with the backend's reply that the event brings.
+#![tactic(auto)]
+
 ghost use Rattle.std.specs.Prelude.{◌<◌, ◌≤◌, ◌≡◌, [], take};
 ghost use Rattle.chain.specs.After.{after};
 ghost use Rattle.session.specs.Lent.{memory_in, memory_out, lent_in, lent_out};

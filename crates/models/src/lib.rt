@@ -1,5 +1,7 @@
 // The plain types of the Rust's models.rs, models/requests.rs, models/control_plan.rs, models/ports.rs and services/usb.rs,
 // under the Rust's names. A message text is a number here, a `usize` length a `u64`, and bytes stand beside the value.
+#![tactic(auto)]
+
 ghost use Rattle.std.specs.Prelude.{◌≡◌};
 ghost use Rattle.models.specs.Requests.{device_may_access, is_pending, no_id, same_request, same_device, request_before};
 ghost use Rattle.models.specs.Refusals.{own_error, table_category, refusal_of, rejected, from_backend, invalid_completion};

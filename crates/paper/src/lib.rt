@@ -1,4 +1,6 @@
 // A paper of the examination board: events of 64 bits, most significant bit first (document 02, M-100).
+#![tactic(auto)]
+
 pub mod events; // events.rt: an event's word, and the events of a paper
 pub mod form; // form.rt: 56 and 57, and an event's flags
 pub mod reader; // reader.rt: a paper with a position in it

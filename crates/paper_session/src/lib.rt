@@ -1,4 +1,6 @@
 // The session that a paper's events are put to: opened, Initialized, and a device with bulk endpoints in every slot.
+#![tactic(auto)]
+
 ghost use Rattle.std.specs.Prelude.{◌≡◌};
 ghost use Rattle.session.specs.Lent.{memory, lent, bus_out, store_out, lent_in};
 ghost use Rattle.calls.specs.Calls.{Open};

@@ -1,4 +1,6 @@
 // A poll and its reply: the Rust's services/requests.rs. A poll is two calls: one says what the backend is asked, one brings its reply.
+#![tactic(auto)]
+
 use models::{BackendCompletion, OperationError, Refusal, RequestReport};
 use session::Session;
 

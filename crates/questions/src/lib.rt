@@ -1,4 +1,6 @@
 // What a session is asked, beside its calls: nothing changes, so no history holds it.
+#![tactic(auto)]
+
 ghost use Rattle.std.specs.Prelude.{◌≡◌};
 ghost use Rattle.questions.specs.Question.{of_placed};
 

@@ -1,5 +1,7 @@
 // Document 01's examples of recoveries, each run on a store of two rows of 8 bytes. A line has the example, then the answer, the states of the two
 // rows by ascending id, how many are held and the controller's state.
+#![tactic(auto)]
+
 use crate::fixtures::{bulk, device, id_of, opening};
 use models::{OptionError, PortReading};
 use recovery::{Outcome, Recovered, RecoveryReply, recover, recovery_reply};

@@ -1,4 +1,6 @@
 // Endpoint recovery: the Rust's services/recovery.rs. A recovery is two calls: one says what the backend is to do, one brings its reply.
+#![tactic(auto)]
+
 use models::{DeviceId, OperationError, OptionError, Refusal, RequestId};
 use session::{Recovery, Session};
 

@@ -2,6 +2,8 @@
 // A line of input is a call: its words, and after `/` its lent bytes, as decimal numbers. `=` prints the controller's state and what the
 // device holds. `#` begins a comment. A line that is none of these is answered by `bad line`, and nothing is run. Input of over 2 MiB is
 // answered by `input too long` alone.
+#![tactic(auto)]
+
 use libc::STDIN_FILENO;
 use texts::parse::Count;
 use texts::{answers, parse, print};

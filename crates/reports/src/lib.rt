@@ -1,4 +1,6 @@
 // Changes of one request and what the ledger reports: the Rust's services/requests.rs.
+#![tactic(auto)]
+
 use models::{Refusal, RequestId, RequestReport};
 use session::Session;
 

@@ -1,4 +1,6 @@
 // Request rows, kept as words of a slice that the caller lends.
+#![tactic(auto)]
+
 ghost use Rattle.std.specs.Prelude.{◌≡◌, ◌+◌, ◌*◌, ◌<◌, ◌≤◌, length, set};
 ghost use Rattle.rows.specs.Table.{row_words, read_rows, row_at, empty_row};
 ghost use Rattle.rows.specs.Store.{store_of, put_in, emptied};

@@ -1,4 +1,6 @@
 // The rules of one row, by value: what a change leaves, or its refusal.
+#![tactic(auto)]
+
 ghost use Rattle.std.specs.Prelude.{◌≡◌};
 ghost use Rattle.models.specs.Said.{Tabled};
 ghost use Rattle.rules.specs.Rules.{report_of, pending_row, spend_sequence, refused_by, moved, freed, accepted, completed, failed, abort_confirmed, reclaimed, change_row};

@@ -1,4 +1,6 @@
 // The session: it goes in and comes out by value. The Rust's `Session`, and what its `UsbSession` keeps beside the rows and the bus.
+#![tactic(auto)]
+
 ghost use Rattle.std.specs.Prelude.{◌≡◌};
 ghost use Rattle.session.specs.Session.{is_closed, is_acquired, is_initialized, may_recover, is_busy, raised, with_controller, with_flight, with_stall, spent, marked};
 

@@ -1,5 +1,7 @@
 // Submissions: the Rust's services/requests.rs and `submit_control_plan` of services/explicit.rs. One call answers with what the
 // backend is to do, one takes its reply.
+#![tactic(auto)]
+
 use checks::plan::ValidatedControlPlan;
 use models::{OperationError, Refusal, RequestId, RequestMetadata};
 use session::Session;

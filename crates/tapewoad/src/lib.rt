@@ -1,4 +1,6 @@
 // The C boundary: functions over numbers and slices. Each slice is a pointer and a length. include/tapewoad.h has their prototypes.
+#![tactic(auto)]
+
 ghost use Rattle.std.specs.Prelude.{◌≡◌};
 ghost use Rattle.chain.specs.After.{after};
 ghost use Rattle.dispatch.specs.Apply.{dispatch_of};

@@ -1,4 +1,6 @@
 // The checks of a submission's device and endpoint, in the order of document 01's table.
+#![tactic(auto)]
+
 use models::PortReading;
 
 pub mod target; // target.rt: 26 to 38 and 58

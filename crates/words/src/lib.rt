@@ -1,4 +1,6 @@
 // Encoding of small values in the words of a lent `&[u64]`, one word a field. Decoding is total.
+#![tactic(auto)]
+
 ghost use Rattle.std.specs.Prelude.{◌≡◌, ◌<◌};
 ghost use Rattle.words.specs.Words.{read_flag, flag_word, read_option_u32, option_u32_word, read_option_u64, option_u64_words, read_signed, signed_word, read_option_i32, option_i32_word};
 

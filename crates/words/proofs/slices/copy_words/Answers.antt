@@ -1,0 +1,8 @@
+use native.Mathlib.Omega.{arith}
+use lib.ListN.{length-take, length-drop}
+use borrow.Author.Rules.{rules}
+use Rattle.words.proofs.Parts.{copied}
+use Rattle.words.proofs.slices.copy_words.Goals as goal
+
+pub returns : goal.returns
+returns c = search copied

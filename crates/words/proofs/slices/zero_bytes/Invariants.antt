@@ -1,0 +1,11 @@
+use Prim.Native.Nat.{◌-◌}
+use lib.ListN.{length, replicate}
+use borrow.Author.Rules.{rules}
+use Rattle.words.proofs.Parts.{Filled, clear_step, clear_end}
+use Rattle.words.proofs.slices.zero_bytes.Given as goal
+
+abbrev pub invariant-loop-k : goal.invariant-loop-k
+invariant-loop-k l = Filled (length l.initial.dst) l.k (replicate (length l.initial.dst) 0) l.dst
+
+abbrev pub decreases-loop-k : goal.decreases-loop-k
+decreases-loop-k l = length l.initial.dst - l.k
