@@ -37,7 +37,7 @@ const MARKS: usize = 10494;
 const SLOTS: usize = WORDS - DEVICES;
 
 // A root port: its generation, and its last reading or none.
-#[derive(Drop)]
+#[derive(Clone, Copy)]
 pub struct PortRow {
     pub generation: u64,
     pub reading: OptionU32,

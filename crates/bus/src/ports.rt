@@ -16,14 +16,14 @@ use words::{OptionU32, slices};
 const LAST_GENERATION: u64 = 18446744073709551615;
 
 // A port that was validated, with its reading.
-#[derive(Drop)]
+#[derive(Clone, Copy)]
 pub enum PortChecked {
     Refused(Refusal),
     Read(u32),
 }
 
 // A row after a reading.
-#[derive(Drop)]
+#[derive(Clone, Copy)]
 pub enum Observed {
     Refused(Refusal),
     To(PortRow),

@@ -10,7 +10,7 @@ use submissions::{PlanSubmission, Submission};
 pub mod answers; // answers.rt: the answer of each call as one type
 
 // What a call answers.
-#[derive(Drop)]
+#[derive(Clone, Copy)]
 pub enum Answer {
     Refused(Refusal),
     Pass,
@@ -26,7 +26,7 @@ pub enum Answer {
 }
 
 // An answer with the session after it.
-#[derive(Drop)]
+#[derive(Clone, Copy)]
 pub struct Outcome {
     pub answer: Answer,
     pub session: Session,

@@ -4,7 +4,7 @@
 
 
 // Where a search found what it looked for.
-#[derive(Drop)]
+#[derive(Clone, Copy)]
 pub enum Found {
     At(usize),
     Nothing,

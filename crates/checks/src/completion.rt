@@ -9,7 +9,7 @@ use standards::completion::is_finished;
 use words::{OptionU32, OptionU64};
 
 // A completion: valid with its length and code, or why not.
-#[derive(Drop)]
+#[derive(Clone, Copy)]
 pub enum CompletionTest {
     Valid(u64, u32),
     MissingLength,

@@ -13,7 +13,7 @@ use models::{
 use standards::setup;
 
 // A plan that passed. Its SETUP bytes are `standards::setup::setup_bytes` of the metadata's packet.
-#[derive(Drop)]
+#[derive(Clone, Copy)]
 pub struct ValidatedControlPlan {
     pub metadata: RequestMetadata,
     pub has_data: bool,
@@ -22,14 +22,14 @@ pub struct ValidatedControlPlan {
     pub profile: ControlProfile,
 }
 
-#[derive(Drop)]
+#[derive(Clone, Copy)]
 pub enum Planned {
     Refused(Refusal),
     Ready(ValidatedControlPlan),
 }
 
 // What the checks look at.
-#[derive(Drop)]
+#[derive(Clone, Copy)]
 pub struct PlanFacts {
     pub has_status: bool,
     pub status_in: bool,

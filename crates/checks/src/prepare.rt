@@ -11,14 +11,14 @@ use standards::setup;
 pub(crate) const LONGEST: u64 = 65536;
 
 // A request that passed, or its refusal. Its buffer is zeros of the length (IN) or the data (OUT).
-#[derive(Drop)]
+#[derive(Clone, Copy)]
 pub enum Prepared {
     Refused(Refusal),
     Ready(RequestMetadata),
 }
 
 // What the checks look at: the request's fields, and the parts of its bytes that the standard names.
-#[derive(Drop)]
+#[derive(Clone, Copy)]
 pub struct SpecFacts {
     pub length: u64,
     pub row_bytes: u64,

@@ -43,7 +43,7 @@ use words::slices::word_at;
 use words::{OptionU32, slices};
 
 // What a completion does to a Pending row, where it leaves the session but for the poll; else by value.
-#[derive(Drop)]
+#[derive(Clone, Copy)]
 pub enum Ending {
     ByValue,
     Completed(u64, u32),

@@ -14,7 +14,7 @@ use models::{Refusal, RequestId};
 use rows::{Row, columns, in_place};
 
 // Where the row of a change stands.
-#[derive(Drop)]
+#[derive(Clone, Copy)]
 pub enum Placed {
     Refused(Refusal),
     At(usize),

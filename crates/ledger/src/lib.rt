@@ -19,7 +19,7 @@ pub mod search; // search.rt: the row of an id, the first free row, an uncertain
 pub mod tally; // tally.rt: how many rows are held, and how many bytes
 
 // What a change of the row of an id answers.
-#[derive(Drop)]
+#[derive(Clone, Copy)]
 pub enum Applied {
     Refused(Refusal),
     Done(RequestReport),

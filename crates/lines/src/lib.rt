@@ -20,7 +20,7 @@ mod shown; // shown.rt: what a line shows after an event
 mod text; // text.rt: a line as text
 
 // What is printed of an event. The letter is ASCII.
-#[derive(Drop)]
+#[derive(Clone, Copy)]
 pub struct Line {
     pub index: u64,
     pub refusal: u16,
@@ -29,7 +29,7 @@ pub struct Line {
 }
 
 // Where a walk over a paper stands: the session, and where the text ends.
-#[derive(Drop)]
+#[derive(Clone, Copy)]
 pub struct Walked {
     pub session: Session,
     pub at: usize,

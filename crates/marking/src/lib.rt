@@ -23,7 +23,7 @@ use words::slices;
 mod said; // said.rt: what an event's fields say
 
 // What an event's calls leave: the refusal's number or 0, the id whose state is shown, and the session.
-#[derive(Drop)]
+#[derive(Clone, Copy)]
 pub struct Marked {
     pub refusal: u16,
     pub id: OptionId,

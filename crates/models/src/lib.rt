@@ -15,7 +15,7 @@ pub mod values; // values.rt: ids and errors, read from words
 // So many requests are held at most, and a list of requests has so many places.
 pub const HELD_MOST: usize = 128;
 
-#[derive(Drop)]
+#[derive(Clone, Copy)]
 pub enum ControllerState {
     Closed,
     AcquiredUnknown,
@@ -24,7 +24,7 @@ pub enum ControllerState {
     RecoveryRequired,
 }
 
-#[derive(Drop)]
+#[derive(Clone, Copy)]
 pub enum DeviceState {
     Observed,
     PortReset,
@@ -35,7 +35,7 @@ pub enum DeviceState {
     Disconnected,
 }
 
-#[derive(Drop)]
+#[derive(Clone, Copy)]
 pub enum ErrorCategory {
     Validation,
     Unsupported,
@@ -46,7 +46,7 @@ pub enum ErrorCategory {
     RecoveryRequired,
 }
 
-#[derive(Drop)]
+#[derive(Clone, Copy)]
 pub struct OperationError {
     pub category: ErrorCategory,
     pub message: u16,
@@ -54,41 +54,41 @@ pub struct OperationError {
     pub completion_code: OptionU32,
 }
 
-#[derive(Drop)]
+#[derive(Clone, Copy)]
 pub enum OptionError {
     None,
     Some(OperationError),
 }
 
 // A call that is refused: its number in document 01's table, and its error.
-#[derive(Drop)]
+#[derive(Clone, Copy)]
 pub struct Refusal {
     pub number: u16,
     pub error: OperationError,
 }
 
-#[derive(Drop)]
+#[derive(Clone, Copy)]
 pub struct RequestId {
     pub session: u64,
     pub generation: u64,
     pub sequence: u64,
 }
 
-#[derive(Drop)]
+#[derive(Clone, Copy)]
 pub struct DeviceId {
     pub session: u64,
     pub generation: u64,
     pub slot: u8,
 }
 
-#[derive(Drop)]
+#[derive(Clone, Copy)]
 pub struct PortId {
     pub session: u64,
     pub generation: u64,
     pub number: u8,
 }
 
-#[derive(Drop)]
+#[derive(Clone, Copy)]
 pub enum RequestState {
     Pending {
         logical_cancel: bool,
@@ -107,13 +107,13 @@ pub enum RequestState {
     Aborted,
 }
 
-#[derive(Drop)]
+#[derive(Clone, Copy)]
 pub enum Direction {
     In,
     Out,
 }
 
-#[derive(Drop)]
+#[derive(Clone, Copy)]
 pub enum TransferType {
     Control,
     Bulk,
@@ -121,7 +121,7 @@ pub enum TransferType {
     Isochronous,
 }
 
-#[derive(Drop)]
+#[derive(Clone, Copy)]
 pub struct SetupPacket {
     pub request_type: u8,
     pub request: u8,
@@ -130,14 +130,14 @@ pub struct SetupPacket {
     pub length: u16,
 }
 
-#[derive(Drop)]
+#[derive(Clone, Copy)]
 pub enum OptionSetup {
     None,
     Some(SetupPacket),
 }
 
 // An optional SETUP packet as words.
-#[derive(Drop)]
+#[derive(Clone, Copy)]
 pub struct SetupWords {
     pub present: u64,
     pub request_type: u64,
@@ -147,7 +147,7 @@ pub struct SetupWords {
     pub length: u64,
 }
 
-#[derive(Drop)]
+#[derive(Clone, Copy)]
 pub struct RequestMetadata {
     pub device: DeviceId,
     pub endpoint: u8,
@@ -158,7 +158,7 @@ pub struct RequestMetadata {
 }
 
 // A call's report of a request. The Rust's `data` comes back as a part of the lent area, from a call of its own.
-#[derive(Drop)]
+#[derive(Clone, Copy)]
 pub struct RequestReport {
     pub id: RequestId,
     pub metadata: RequestMetadata,
@@ -168,7 +168,7 @@ pub struct RequestReport {
 }
 
 // What the backend brings of a request. The data's bytes are lent beside it, and are not read where `has_data` is false.
-#[derive(Drop)]
+#[derive(Clone, Copy)]
 pub struct BackendCompletion {
     pub actual_length: OptionU64,
     pub completion_code: OptionU32,
@@ -178,20 +178,20 @@ pub struct BackendCompletion {
 }
 
 // What a check answers.
-#[derive(Drop)]
+#[derive(Clone, Copy)]
 pub enum Verdict {
     Refused(Refusal),
     Pass,
 }
 
-#[derive(Drop)]
+#[derive(Clone, Copy)]
 pub enum OptionDirection {
     None,
     Some(Direction),
 }
 
 // A request as it is asked for. The data's bytes are lent beside it.
-#[derive(Drop)]
+#[derive(Clone, Copy)]
 pub struct RequestSpec {
     pub device: DeviceId,
     pub endpoint: u8,
@@ -201,26 +201,26 @@ pub struct RequestSpec {
     pub setup: OptionSetup,
 }
 
-#[derive(Drop)]
+#[derive(Clone, Copy)]
 pub enum ControlProfile {
     Compliant,
     DeviceCompatibility,
 }
 
-#[derive(Drop)]
+#[derive(Clone, Copy)]
 pub struct DataStage {
     pub direction: Direction,
     pub length: u64,
 }
 
-#[derive(Drop)]
+#[derive(Clone, Copy)]
 pub enum OptionStage {
     None,
     Some(DataStage),
 }
 
 // A control transfer with its stages declared. The data's bytes are lent beside it.
-#[derive(Drop)]
+#[derive(Clone, Copy)]
 pub struct ControlPlan {
     pub device: DeviceId,
     pub profile: ControlProfile,
@@ -230,33 +230,33 @@ pub struct ControlPlan {
 }
 
 // The ports of an opening: the session number that their ids carry, and how many there are.
-#[derive(Drop)]
+#[derive(Clone, Copy)]
 pub struct Ports {
     pub session: u64,
     pub count: u8,
 }
 
-#[derive(Drop)]
+#[derive(Clone, Copy)]
 pub enum OptionPorts {
     None,
     Some(Ports),
 }
 
-#[derive(Drop)]
+#[derive(Clone, Copy)]
 pub struct DeviceSnapshot {
     pub id: DeviceId,
     pub port: PortId,
     pub state: DeviceState,
 }
 
-#[derive(Drop)]
+#[derive(Clone, Copy)]
 pub enum OptionDevice {
     None,
     Some(DeviceSnapshot),
 }
 
 // What reading a port's status register brought.
-#[derive(Drop)]
+#[derive(Clone, Copy)]
 pub enum PortReading {
     Word(u32),
     Error(OperationError),

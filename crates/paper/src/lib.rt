@@ -6,7 +6,7 @@ pub mod form; // form.rt: 56 and 57, and an event's flags
 pub mod reader; // reader.rt: a paper with a position in it
 
 // One event by its fields. Kinds: 0 submit, 1 poll with its reply, 2 cancel, 3 timeout, 4 reclaim, 5 abort.
-#[derive(Drop)]
+#[derive(Clone, Copy)]
 pub struct PaperEvent {
     pub kind: u8,
     pub slot: u8,
@@ -17,7 +17,7 @@ pub struct PaperEvent {
     pub flags: u8,
 }
 
-#[derive(Drop)]
+#[derive(Clone, Copy)]
 pub enum OptionEvent {
     None,
     Some(PaperEvent),

@@ -10,7 +10,7 @@ use libc::STDIN_FILENO;
 pub const PAPER_ROOM: usize = 65537;
 
 // How many bytes came, and whether a read failed.
-#[derive(Drop)]
+#[derive(Clone, Copy)]
 pub struct Input {
     pub count: usize,
     pub failed: bool,

@@ -25,7 +25,7 @@ use standards::completion::is_stall;
 use words::{OptionU32, OptionU64};
 
 // What a completion does: the change of the row, the session after it, and whether the data is stored.
-#[derive(Drop)]
+#[derive(Clone, Copy)]
 pub struct Judgement {
     pub change: Change,
     pub session: Session,

@@ -10,7 +10,7 @@ use session::Session;
 use targets::wants::Wanted;
 
 // What a question is answered by.
-#[derive(Drop)]
+#[derive(Clone, Copy)]
 pub enum QuestionAnswer {
     Refused(Refusal),
     Status(Session),

@@ -8,14 +8,14 @@ mod entries; // entries.rt: a reply's entries, applied in order
 pub mod recover; // recover.rt: the start: abort, or reset of an endpoint
 pub mod recovery_reply; // recovery_reply.rt: the backend's reply, by row indices and by request ids
 
-#[derive(Drop)]
+#[derive(Clone, Copy)]
 pub enum BeginAnswer {
     Refused(Refusal),
     Recover(Recovery),
 }
 
 // A recovery's start; beside its answer the tokens of the affected requests by ascending id, and how many they are.
-#[derive(Drop)]
+#[derive(Clone, Copy)]
 pub struct Begun {
     pub answer: BeginAnswer,
     pub session: Session,
@@ -24,21 +24,21 @@ pub struct Begun {
 }
 
 // What the backend says of a recovery beside its lists: whether the endpoint may be used again, and what went wrong on the way.
-#[derive(Drop)]
+#[derive(Clone, Copy)]
 pub struct Outcome {
     pub restart_ready: bool,
     pub error: OptionError,
 }
 
 // The backend's reply to a recovery. What it completed and aborted is lent beside it.
-#[derive(Drop)]
+#[derive(Clone, Copy)]
 pub enum RecoveryReply {
     Error(OperationError),
     Done(Outcome),
 }
 
 // How many requests were completed and aborted; their ids stand beside the answer.
-#[derive(Drop)]
+#[derive(Clone, Copy)]
 pub struct AbortReport {
     pub target: RequestId,
     pub device: DeviceId,
@@ -49,20 +49,20 @@ pub struct AbortReport {
     pub error: OptionError,
 }
 
-#[derive(Drop)]
+#[derive(Clone, Copy)]
 pub enum RecoveryAnswer {
     Refused(Refusal),
     Report(AbortReport),
 }
 
 // The ids of completed and of aborted requests, in the order of the reply; places past their number are 0.
-#[derive(Drop)]
+#[derive(Clone, Copy)]
 pub struct Ids {
     pub completed: [RequestId; 128],
     pub aborted: [RequestId; 128],
 }
 
-#[derive(Drop)]
+#[derive(Clone, Copy)]
 pub struct Recovered {
     pub answer: RecoveryAnswer,
     pub session: Session,
@@ -70,7 +70,7 @@ pub struct Recovered {
 }
 
 // A recovery's result by row index: completed rows first, then aborted ones; the rest, and all of a refusal's, are 0.
-#[derive(Drop)]
+#[derive(Clone, Copy)]
 pub struct Replied {
     pub answer: RecoveryAnswer,
     pub session: Session,

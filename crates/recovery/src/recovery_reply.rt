@@ -28,7 +28,7 @@ use session::{
 use words::{OptionU64, slices};
 
 // A recovery whose reply is in: the session without it, the recovery, and what the backend says.
-#[derive(Drop)]
+#[derive(Clone, Copy)]
 pub struct Ended {
     pub idle: Session,
     pub recovery: Recovery,

@@ -10,26 +10,26 @@ pub mod scan; // scan.rt: reports in the order of the rows
 pub mod status; // status.rt: reports by id, completed bytes and tallies
 
 // A report, or the refusal.
-#[derive(Drop)]
+#[derive(Clone, Copy)]
 pub enum ReportAnswer {
     Refused(Refusal),
     Report(RequestReport),
 }
 
-#[derive(Drop)]
+#[derive(Clone, Copy)]
 pub struct Reported {
     pub answer: ReportAnswer,
     pub session: Session,
 }
 
-#[derive(Drop)]
+#[derive(Clone, Copy)]
 pub enum OptionId {
     None,
     Some(RequestId),
 }
 
 // The next report in the order of ids, if there is one more.
-#[derive(Drop)]
+#[derive(Clone, Copy)]
 pub enum NextReport {
     Refused(Refusal),
     None,
@@ -37,7 +37,7 @@ pub enum NextReport {
 }
 
 // The report of a row with the row's number, if there is one.
-#[derive(Drop)]
+#[derive(Clone, Copy)]
 pub enum PlacedReport {
     Refused(Refusal),
     None,
@@ -45,28 +45,28 @@ pub enum PlacedReport {
 }
 
 // A number of the store's, or the refusal.
-#[derive(Drop)]
+#[derive(Clone, Copy)]
 pub enum Tally {
     Refused(Refusal),
     Number(u64),
 }
 
 // How many rows are held, or the refusal.
-#[derive(Drop)]
+#[derive(Clone, Copy)]
 pub enum HeldAnswer {
     Refused(Refusal),
     Count(u8),
 }
 
 // Bytes of the lent area, by where they start and how many they are.
-#[derive(Drop)]
+#[derive(Clone, Copy)]
 pub struct Part {
     pub start: u64,
     pub length: u64,
 }
 
 // A part, or the refusal.
-#[derive(Drop)]
+#[derive(Clone, Copy)]
 pub enum PartAnswer {
     Refused(Refusal),
     Part(Part),

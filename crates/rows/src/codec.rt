@@ -25,7 +25,7 @@ const QUIESCENT: u64 = 4;
 const ABORTED: u64 = 6;
 
 // The words of a report's state. What a to f hold depends on the tag.
-#[derive(Drop)]
+#[derive(Clone, Copy)]
 pub struct StateWords {
     pub tag: u64,
     pub a: u64,
@@ -38,7 +38,7 @@ pub struct StateWords {
 
 // The words of a row's state with its status: 0 where the row is free, else the kind. `rest` is what a free row keeps of the kind; what a to f
 // hold depends on the kind.
-#[derive(Drop)]
+#[derive(Clone, Copy)]
 pub struct StatusWords {
     pub status: u64,
     pub rest: u64,

@@ -26,7 +26,7 @@ const STATUS: usize = 1;
 
 // A row of the store: free, where `used` is false, or a request with its metadata, the backend's token, the record's own copies
 // of the two flags, and its state.
-#[derive(Drop)]
+#[derive(Clone, Copy)]
 pub struct Row {
     pub used: bool,
     pub id: RequestId,

@@ -13,14 +13,14 @@ use words::OptionU32;
 mod flags; // flags.rt: cancel, its withdrawal and timeout
 
 // What a change of a row leaves: the next row, and what is reported of the request.
-#[derive(Drop)]
+#[derive(Clone, Copy)]
 pub enum Step {
     Refused(Refusal),
     To(Row, RequestReport),
 }
 
 // A change of one row. Accept and Discard end a submission, with the backend's token or with its error.
-#[derive(Drop)]
+#[derive(Clone, Copy)]
 pub enum Change {
     Accept(u64),
     Discard,
@@ -34,7 +34,7 @@ pub enum Change {
 }
 
 // The next sequence number once one is spent.
-#[derive(Drop)]
+#[derive(Clone, Copy)]
 pub enum Spent {
     Refused(Refusal),
     Next(u64),

@@ -8,7 +8,7 @@ use models::{BackendCompletion, values};
 use words::slices::word_at;
 
 // A completion, and how many bytes of the data area are its own.
-#[derive(Drop)]
+#[derive(Clone, Copy)]
 pub struct Brought {
     pub completion: BackendCompletion,
     pub given: u64,

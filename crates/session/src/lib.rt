@@ -16,28 +16,28 @@ pub mod start; // start.rt: 1 and 3, at the start of a call
 const LAST_REVISION: u64 = 18446744073709551615;
 
 // What a poll found that a reset of the same endpoint may undo: document 01's stall note.
-#[derive(Drop)]
+#[derive(Clone, Copy)]
 pub struct RecoverableStall {
     pub revision: u64,
     pub device: DeviceId,
     pub endpoint: u8,
 }
 
-#[derive(Drop)]
+#[derive(Clone, Copy)]
 pub enum OptionStall {
     None,
     Some(RecoverableStall),
 }
 
 // What a recovery asks of the backend; a reset may preserve the data toggle.
-#[derive(Drop)]
+#[derive(Clone, Copy)]
 pub enum RecoveryKind {
     Abort,
     Reset(bool),
 }
 
 // A recovery: the request that it is for, the device and the endpoint that it affects, and what the backend is to do.
-#[derive(Drop)]
+#[derive(Clone, Copy)]
 pub struct Recovery {
     pub target: RequestId,
     pub device: DeviceId,
@@ -46,7 +46,7 @@ pub struct Recovery {
 }
 
 // The operation that waits for the backend's reply: document 01's errand.
-#[derive(Drop)]
+#[derive(Clone, Copy)]
 pub enum InFlight {
     Nothing,
     Submission(RequestId),
@@ -55,13 +55,13 @@ pub enum InFlight {
 }
 
 // How many rows the store has, and how many bytes each.
-#[derive(Drop)]
+#[derive(Clone, Copy)]
 pub struct Size {
     pub row_count: u64,
     pub row_bytes: u64,
 }
 
-#[derive(Drop)]
+#[derive(Clone, Copy)]
 pub struct Session {
     pub number: u64,
     pub generation: u64,
@@ -75,7 +75,7 @@ pub struct Session {
 }
 
 // The result of a call: its verdict and the session it leaves.
-#[derive(Drop)]
+#[derive(Clone, Copy)]
 pub struct Called {
     pub answer: Verdict,
     pub session: Session,

@@ -15,7 +15,7 @@ use models::{ControllerState, OperationError, OptionError, OptionPorts, Ports, R
 use words::OptionU64;
 
 // What an opening sets.
-#[derive(Drop)]
+#[derive(Clone, Copy)]
 pub struct Opening {
     pub session: u64,
     pub first_sequence: u64,
@@ -25,14 +25,14 @@ pub struct Opening {
     pub size: Size,
 }
 
-#[derive(Drop)]
+#[derive(Clone, Copy)]
 pub enum Opened {
     Refused(Refusal),
     Open(Session),
 }
 
 // The backend's reply to acquire: a failure says whether resources are retained.
-#[derive(Drop)]
+#[derive(Clone, Copy)]
 pub enum AcquireReply {
     Acquired,
     Failed(OperationError, bool),

@@ -8,7 +8,7 @@ use words::slices;
 const ROW_WORDS: u64 = rows::ROW_WORDS as u64;
 
 // A row of the store, and where its bytes start in the area.
-#[derive(Drop)]
+#[derive(Clone, Copy)]
 pub struct Place {
     pub row: usize,
     pub start: usize,

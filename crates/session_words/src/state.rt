@@ -22,14 +22,14 @@ pub(crate) const REQUEST: u8 = 16;
 const DEVICE: u8 = 19;
 
 // The words of optional ports, of an optional stall and of what is in flight.
-#[derive(Drop)]
+#[derive(Clone, Copy)]
 pub struct PortsWords {
     pub present: u64,
     pub session: u64,
     pub count: u64,
 }
 
-#[derive(Drop)]
+#[derive(Clone, Copy)]
 pub struct StallWords {
     pub present: u64,
     pub revision: u64,
@@ -39,7 +39,7 @@ pub struct StallWords {
     pub endpoint: u64,
 }
 
-#[derive(Drop)]
+#[derive(Clone, Copy)]
 pub struct FlightWords {
     pub tag: u64,
     pub session: u64,

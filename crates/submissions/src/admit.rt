@@ -15,21 +15,21 @@ use session::sizes::Place;
 use session::{Session, start};
 
 // The row of a new request with its part of the area, or the refusal.
-#[derive(Drop)]
+#[derive(Clone, Copy)]
 pub enum Room {
     Refused(Refusal),
     At(Place),
 }
 
 // An admitted request with its row, or the refusal.
-#[derive(Drop)]
+#[derive(Clone, Copy)]
 pub enum Admitted {
     Refused(Refusal),
     Ready(Place, RequestMetadata),
 }
 
 // An admitted control plan with its row, or the refusal.
-#[derive(Drop)]
+#[derive(Clone, Copy)]
 pub enum AdmittedPlan {
     Refused(Refusal),
     Ready(Place, ValidatedControlPlan),

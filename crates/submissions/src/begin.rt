@@ -19,14 +19,14 @@ use words::slices;
 const HELD_MOST: u8 = models::HELD_MOST as u8;
 
 // A submission in flight, with its id and row, or the refusal.
-#[derive(Drop)]
+#[derive(Clone, Copy)]
 pub enum Start {
     Refused(Refusal),
     At(RequestId, u64),
 }
 
 // The answer and the session it leaves.
-#[derive(Drop)]
+#[derive(Clone, Copy)]
 pub struct Started {
     pub answer: Start,
     pub session: Session,

@@ -14,7 +14,7 @@ pub mod submit_reply; // submit_reply.rt: the backend's reply to either
 pub mod wants; // wants.rt: which port reading a submission lacks
 
 // What the backend is to do for a request. Its buffer is the first bytes of the row's part of the area; packets are the caller's list.
-#[derive(Drop)]
+#[derive(Clone, Copy)]
 pub struct Submission {
     pub id: RequestId,
     pub row: u64,
@@ -22,40 +22,40 @@ pub struct Submission {
     pub has_packets: bool,
 }
 
-#[derive(Drop)]
+#[derive(Clone, Copy)]
 pub enum SubmitAnswer {
     Refused(Refusal),
     Begun(Submission),
 }
 
-#[derive(Drop)]
+#[derive(Clone, Copy)]
 pub struct Submitted {
     pub answer: SubmitAnswer,
     pub session: Session,
 }
 
 // What the backend is to do for a control plan. Its SETUP bytes are `standards::setup::setup_bytes` of the metadata's packet.
-#[derive(Drop)]
+#[derive(Clone, Copy)]
 pub struct PlanSubmission {
     pub id: RequestId,
     pub row: u64,
     pub plan: ValidatedControlPlan,
 }
 
-#[derive(Drop)]
+#[derive(Clone, Copy)]
 pub enum PlanAnswer {
     Refused(Refusal),
     Begun(PlanSubmission),
 }
 
-#[derive(Drop)]
+#[derive(Clone, Copy)]
 pub struct PlanSubmitted {
     pub answer: PlanAnswer,
     pub session: Session,
 }
 
 // The backend's reply to a submission.
-#[derive(Drop)]
+#[derive(Clone, Copy)]
 pub enum SubmitReply {
     Token(u64),
     Error(OperationError),

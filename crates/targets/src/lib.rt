@@ -7,7 +7,7 @@ pub mod target; // target.rt: 26 to 38 and 58
 pub mod wants; // wants.rt: which port reading these checks lack
 
 // The port readings that come with a submission; control takes the first alone.
-#[derive(Drop)]
+#[derive(Clone, Copy)]
 pub struct Readings {
     pub first: PortReading,
     pub second: PortReading,

@@ -17,7 +17,7 @@ use models::{
 use standards::ports::{LOW_SPEED, port_speed};
 
 // A device that may take a request, or the refusal.
-#[derive(Drop)]
+#[derive(Clone, Copy)]
 pub enum DeviceChecked {
     Refused(Refusal),
     Ready(DeviceSnapshot),

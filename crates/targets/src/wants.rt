@@ -10,7 +10,7 @@ use bus::ports::{PortChecked, peek_word, validate};
 use models::{DeviceSnapshot, OptionPorts, PortReading, RequestMetadata, kinds};
 
 // The reading, with its port's number.
-#[derive(Drop)]
+#[derive(Clone, Copy)]
 pub enum Wanted {
     Nothing,
     First(u8),

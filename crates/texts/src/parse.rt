@@ -3,13 +3,13 @@ ghost use Rattle.std.specs.Prelude.{◌≤◌, length};
 ghost use Rattle.texts.specs.Count.{count_of};
 
 // How many numbers a part of a line has: `Bad` where it holds anything else, a number that is too great, or more than there is room for.
-#[derive(Drop)]
+#[derive(Clone, Copy)]
 pub enum Count {
     Of(usize),
     Bad,
 }
 
-#[derive(Drop)]
+#[derive(Clone, Copy)]
 enum Value {
     Of(u64),
     Bad,

@@ -16,26 +16,26 @@ const ONES: u64 = 4294967295;
 const VALUES: u64 = 4294967296;
 
 // The Rust's `Option` of three types.
-#[derive(Drop)]
+#[derive(Clone, Copy)]
 pub enum OptionU32 {
     None,
     Some(u32),
 }
 
-#[derive(Drop)]
+#[derive(Clone, Copy)]
 pub enum OptionU64 {
     None,
     Some(u64),
 }
 
-#[derive(Drop)]
+#[derive(Clone, Copy)]
 pub enum OptionI32 {
     None,
     Some(i32),
 }
 
 // The two words of an optional `u64`: every value of the second is taken.
-#[derive(Drop)]
+#[derive(Clone, Copy)]
 pub struct OptionWords {
     pub present: u64,
     pub value: u64,

@@ -1,0 +1,6 @@
+use Rattle.rows.proofs.columns.Laws.{held_is}
+use borrow.Author.Rules.{rules}
+use Rattle.rows.proofs.columns.held_at.Goals as goal
+
+pub returns : goal.returns
+returns c = search held_is

@@ -1,0 +1,7 @@
+use native.Mathlib.Omega.{arith}
+use Rattle.rows.proofs.columns.Laws.{held_word}
+use borrow.Author.Rules.{rules}
+use Rattle.rows.proofs.columns.held_word_at.Goals as goal
+
+pub returns : goal.returns
+returns c = (search held_word, omega arith)

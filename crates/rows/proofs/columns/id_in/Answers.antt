@@ -1,0 +1,6 @@
+use Rattle.rows.proofs.columns.Laws.{id_out}
+use borrow.Author.Rules.{rules}
+use Rattle.rows.proofs.columns.id_in.Goals as goal
+
+pub returns : goal.returns
+returns c = search id_out

@@ -1,0 +1,6 @@
+use Rattle.rows.proofs.columns.Laws.{sequence_is}
+use borrow.Author.Rules.{rules}
+use Rattle.rows.proofs.columns.sequence_at.Goals as goal
+
+pub returns : goal.returns
+returns c = search sequence_is

@@ -1,0 +1,7 @@
+use Rattle.rows.proofs.Rows.{row_at_lem}
+use mathlib.Core.Path.{◌∙◌}
+use borrow.Author.Rules.{rules}
+use Rattle.rows.proofs.read_row.Goals as goal
+
+pub returns : goal.returns
+returns c = c.decode.ensures ∙ search row_at_lem
