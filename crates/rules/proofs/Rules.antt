@@ -1,15 +1,10 @@
 -- What only a Pending row takes, by its state: how a rule's returns are read. Assumes nothing.
 use Prim.Native.Nat.{ℕ}
-use mathlib.Core.Path.{◌≡◌}
+use mathlib.Core.Path.{◌≡◌, refl}
 use mathlib.Core.Bool.{Bool, true, false, not}
 use mathlib.Core.List.{[], ◌∷◌}
-use mathlib.Core.Logic.{⊎_elim}
-use native.Mathlib.Omega.{arith}
-use denote.Enum.Declared.{tag_of}
-use types.Run.{OneOf}
 use Rattle.chain.proofs.Chain.{takes, passes}
 use Rattle.words.specs.declared.{OptionU32.OptionU32}
-use Rattle.models.specs.contracts.RequestState.{the_type}
 use Rattle.models.specs.declared.{OperationError.OperationError, RequestState.RequestState}
 use Rattle.models.specs.declared.RequestState.TheVariants.{Pending, Completed, Failed, Aborted}
 use Rattle.rows.specs.InPlace.{cancelled, timed_out, completed_row}
@@ -17,13 +12,9 @@ use Rattle.rows.specs.declared.{Row.Row}
 use Rattle.rules.specs.Rules.{refused_by, moved, with_state, flagged, while_pending, logical_cancel, cancel_withdrawn, time_out, completed, failed}
 use Rattle.rules.specs.declared.{Step.Step}
 
--- a tag other than that of Pending
-other_tag : OneOf (1 ∷ 2 ∷ 3 ∷ []) 0 → ⊥
-other_tag t = ⊎_elim (λ n. omega arith) (⊎_elim (λ n. omega arith) (λ n. omega arith)) t
-
-pub settled : (s next : Step) (x : RequestState) → OneOf (1 ∷ 2 ∷ 3 ∷ []) (tag_of the_type x) → s ≡ refused_by 41 → s ≡ while_pending x next
+pub settled : (s next : Step) (x : RequestState) → ((cancel late : Bool) → x ≡ Pending cancel late → ⊥) → s ≡ refused_by 41 → s ≡ while_pending x next
 unfolding while_pending
-settled s next (Pending cancel late) t e = absurd (other_tag t)
+settled s next (Pending cancel late) t e = absurd (t cancel late refl)
 settled s next (Completed actual code cancel) t e = e
 settled s next (Failed error code quiescent) t e = e
 settled s next Aborted t e = e

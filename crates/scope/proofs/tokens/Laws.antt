@@ -1,7 +1,7 @@
 -- Laws of the scope: where a token stands, the marks, and what they say. Assumes nothing.
 use Prim.Native.Nat.{ℕ, zero, suc, ◌+◌, ◌-◌, ◌<◌, ◌≤◌}
 use mathlib.Core.Path.{◌≡◌, refl, sym, ap, ◌∙◌}
-use mathlib.Core.Bool.{Bool, true, false, cond, not, ◌&&◌, ◌||◌, or_true, false≢true}
+use mathlib.Core.Bool.{Bool, true, false, cond, not, ◌&&◌, ◌||◌, or-true, false≢true}
 use mathlib.Core.List.{List, [], ◌∷◌, ◌++◌}
 use native.Mathlib.Omega.{arith}
 use native.Mathlib.Numerals.{add-one}
@@ -214,7 +214,7 @@ module _ (whole : Bool) (own a b : List ℕ) where
       scope_full h =
           let y : each_once own [] (a ++ b) ≡ true = sym e ∙ not-false r t in
           let f : all_in own (a ++ b) ≡ true = full_each own (a ++ b) y (omega (arith, length-append a b)) in
-          rw (y, f) (sym (or_true (not whole)))
+          rw (y, f) (sym (or-true (not whole)))
 
       pub scope_whole : (x : Bool) → not whole ≡ false → x ≡ all_in own (a ++ b) → x ≡ in_scope whole own (a ++ b)
       unfolding in_scope
