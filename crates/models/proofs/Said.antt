@@ -62,10 +62,6 @@ tabled_in ms ns a x h = within ms ns a x.is_refused x.number (is_table_error x.n
 pub said_of : {A : Type 0} (P : A → Type 0) (x y : A) → x ≡ y → P y → (x ≡ y) × P x
 said_of P x y e h = (e, subst P (sym e) h)
 
--- the second of two that one premise gives
-pub second_of : {P A B : Type 0} → (P → A × B) → P → B
-second_of f p = (f p).1
-
 -- what every number of a list passes, a refusal by one of them passes
 abbrev pub every : (ℕ → Bool) → List ℕ → Bool
 every p [] = true

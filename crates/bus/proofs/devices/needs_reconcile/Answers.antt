@@ -1,0 +1,6 @@
+use Rattle.bus.proofs.Tables.{mark_is}
+use borrow.Author.Rules.{rules}
+use Rattle.bus.proofs.devices.needs_reconcile.Goals as goal
+
+pub returns : goal.returns
+returns c = search mark_is

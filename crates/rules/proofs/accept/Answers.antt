@@ -1,0 +1,7 @@
+use Rattle.rules.specs.Rules.{accepted}
+use borrow.Author.Rules.{rules}
+use Rattle.rules.proofs.accept.Goals as goal
+
+pub returns : goal.returns
+unfolding accepted
+returns c = c.moved_to.ensures

@@ -1,0 +1,7 @@
+use Rattle.rules.specs.Rules.{moved}
+use borrow.Author.Rules.{rules}
+use Rattle.rules.proofs.moved_to.Goals as goal
+
+pub returns : goal.returns
+unfolding moved
+returns c = rw c.report_of.ensures

@@ -1,0 +1,11 @@
+use borrow.Author.Rules.{rules}
+use Prim.Native.Nat.{◌-◌}
+use Rattle.scope.specs.Scope.{Rises}
+use Rattle.scope.proofs.tokens.Laws.{Marking, mark_start, mark_far, mark_twice, mark_on, mark_end}
+use Rattle.scope.proofs.tokens.each_once.Given as goal
+
+abbrev pub invariant-loop-k : goal.invariant-loop-k
+invariant-loop-k l = Rises l.rising l.own × Marking l.own l.tokens l.aborted l.n l.marks l.k
+
+abbrev pub decreases-loop-k : goal.decreases-loop-k
+decreases-loop-k l = l.n - l.k
