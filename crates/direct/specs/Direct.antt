@@ -3,7 +3,6 @@ use Rattle.std.specs.Prelude.{ℕ, List}
 use Rattle.chain.specs.After.{After, after}
 use Rattle.rows.specs.Store.{Store}
 use Rattle.ledger.specs.declared.{Applied.Applied}
-use Rattle.session.specs.Lent.{Slice}
 use Rattle.session.specs.declared.{Session.Session}
 use Rattle.polls.specs.declared.{Polled.Polled}
 use Rattle.reports.specs.declared.{Reported.Reported}
@@ -11,10 +10,6 @@ use Rattle.session_words.specs.State.{Kept, read_session, kept_as}
 use Rattle.calls.specs.Answers.{of_report, of_poll}
 use Rattle.calls.specs.declared.{Answer.Answer}
 use Rattle.answer_words.specs.Encode.{answer_words, written}
-
--- the session that a slice says at the call's start
-abbrev pub session_in : Slice → Session
-session_in w = read_session w.entry.now
 
 -- the words lent for an answer, with the answer
 abbrev pub told : Answer → List ℕ → List ℕ

@@ -14,7 +14,7 @@ use Rattle.ledger.specs.Search.{is_at}
 use Rattle.ledger.specs.declared.{in_place.Placed.Placed}
 use Rattle.checks.specs.Completion.{test_completion}
 use Rattle.checks.specs.declared.{completion.CompletionTest.CompletionTest}
-use Rattle.session.specs.Lent.{Slice, Memory, memory_fits}
+use Rattle.session.specs.Lent.{Memory, memory_fits}
 use Rattle.session.specs.Session.{with_flight}
 use Rattle.session.specs.declared.{InFlight.InFlight, Session.Session}
 use Rattle.reports.specs.declared.{ReportAnswer.ReportAnswer, Reported.Reported}
@@ -24,8 +24,8 @@ use Rattle.direct.specs.Direct.{told}
 use Rattle.direct.specs.declared.{replies.Ending.Ending}
 
 -- the answer's words and the session at the call's end
-abbrev pub told_out : Slice → Slice → After (List ℕ) Kept
-told_out session out = after out.exit.now (kept_of session.exit.now)
+abbrev pub told_of : List ℕ → List ℕ → After (List ℕ) Kept
+told_of session out = after out (kept_of session)
 
 -- the answer and the session of a reply, in the session's words w
 abbrev pub reported_out : Reported → List ℕ → List ℕ → After (List ℕ) Kept

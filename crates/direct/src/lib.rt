@@ -8,7 +8,6 @@ ghost use Rattle.models.specs.Refusals.{refusal_of};
 ghost use Rattle.rows.specs.Table.{read_rows, row_at, report_of};
 ghost use Rattle.rules.specs.declared.Change.TheVariants as Change;
 ghost use Rattle.ledger.specs.InPlace.{reported_at, freed_at, PlacedIn};
-ghost use Rattle.session.specs.Lent.{rows_in, store_in, store_out};
 ghost use Rattle.session.specs.Session.{is_busy};
 ghost use Rattle.session.specs.Sizes.{rows_fit};
 ghost use Rattle.session.specs.Start.{ready_of};
@@ -18,7 +17,8 @@ ghost use Rattle.reports.specs.Status.{is_submitting, shown_at, status_of};
 ghost use Rattle.session_words.specs.State.{read_session, is_session, kept_of};
 ghost use Rattle.calls.specs.Answers.{of_report};
 ghost use Rattle.calls.specs.declared.Answer.TheVariants as Answer;
-ghost use Rattle.direct.specs.Direct.{session_in, told, of_applied, applied_told, reported_told, polled_told};
+ghost use Rattle.direct.specs.Direct.{told, of_applied, applied_told, reported_told, polled_told};
+ghost use Rattle.rows.specs.Store.{store_of};
 
 use answer_words::encode;
 use calls::Answer;
@@ -54,7 +54,7 @@ fn report(rows: &[u64], i: usize, out: &mut [u64])
 }
 
 fn rows_fit(session: &[u64], words: usize) -> bool
-    ensures { result ≡ rows_fit (session_in session).size words }
+    ensures { result ≡ rows_fit (read_session session.now).size words }
 {
     let size = fields::size(session);
     sizes::rows_fit(size, words)
@@ -62,7 +62,7 @@ fn rows_fit(session: &[u64], words: usize) -> bool
 
 // Refuses by 1 while an operation waits for its reply, by 3 if the rows have not the session's size.
 fn rows_ready(session: &[u64], words: usize) -> Verdict
-    ensures { result ≡ ready_of (session_in session) (rows_fit (session_in session).size words) }
+    ensures { result ≡ ready_of (read_session session.now) (rows_fit (read_session session.now).size words) }
 {
     if fields::is_busy(session) {
         return Verdict::Refused(models::refuse(1));
@@ -75,7 +75,7 @@ fn rows_ready(session: &[u64], words: usize) -> Verdict
 
 // The id's submission is in flight.
 fn is_submitting(session: &[u64], id: RequestId) -> bool
-    ensures { result ≡ is_submitting (session_in session).in_flight id }
+    ensures { result ≡ is_submitting (read_session session.now).in_flight id }
 {
     if !fields::is_submitting(session) {
         return false;
@@ -86,7 +86,7 @@ fn is_submitting(session: &[u64], id: RequestId) -> bool
 
 // The row of an id that has a report.
 fn find_shown(session: &[u64], rows: &[u64], id: RequestId) -> Found
-    ensures { result ≡ shown_at (session_in session).in_flight id (rows_in rows) }
+    ensures { result ≡ shown_at (read_session session.now).in_flight id (read_rows rows.now) }
 {
     if is_submitting(session, id) {
         return Found::Nothing;
@@ -96,7 +96,7 @@ fn find_shown(session: &[u64], rows: &[u64], id: RequestId) -> Found
 
 pub fn request_status(session: &[u64], rows: &[u64], id: RequestId, out: &mut [u64])
     ensures { out.new
-        ≡ told (of_report (status_of id (session_in session) (store_in rows))) out.old }
+        ≡ told (of_report (status_of id (read_session session.now) (store_of rows.now))) out.old }
 {
     if !rows_fit(session, rows.len()) {
         return refuse_by(out, 3);
@@ -111,7 +111,7 @@ pub fn request_status(session: &[u64], rows: &[u64], id: RequestId, out: &mut [u
 // What a change answers, with the report of the row as it stands.
 fn answer_placed(rows: &[u64], placed: Placed, out: &mut [u64])
     requires { PlacedIn placed (read_rows rows.now) }
-    ensures { out.new ≡ told (of_applied (reported_at placed (rows_in rows))) out.old }
+    ensures { out.new ≡ told (of_applied (reported_at placed (read_rows rows.now))) out.old }
 {
     match placed {
         Placed::Refused(refusal) => refuse(out, refusal),
@@ -120,8 +120,8 @@ fn answer_placed(rows: &[u64], placed: Placed, out: &mut [u64])
 }
 
 pub fn logical_cancel_request(session: &[u64], rows: &mut [u64], id: RequestId, out: &mut [u64])
-    ensures { after out.new (store_out rows)
-        ≡ reported_told (change_of id Change.LogicalCancel (session_in session) (store_in rows)) out.old }
+    ensures { after out.new (store_of rows.new)
+        ≡ reported_told (change_of id Change.LogicalCancel (read_session session.now) (store_of rows.old)) out.old }
 {
     let verdict = rows_ready(session, rows.len());
     match verdict {
@@ -134,8 +134,8 @@ pub fn logical_cancel_request(session: &[u64], rows: &mut [u64], id: RequestId, 
 }
 
 pub fn timeout_request(session: &[u64], rows: &mut [u64], id: RequestId, out: &mut [u64])
-    ensures { after out.new (store_out rows)
-        ≡ reported_told (change_of id Change.Timeout (session_in session) (store_in rows)) out.old }
+    ensures { after out.new (store_of rows.new)
+        ≡ reported_told (change_of id Change.Timeout (read_session session.now) (store_of rows.old)) out.old }
 {
     let verdict = rows_ready(session, rows.len());
     match verdict {
@@ -150,8 +150,8 @@ pub fn timeout_request(session: &[u64], rows: &mut [u64], id: RequestId, out: &m
 // The row is reported before it is freed.
 fn free_placed(rows: &mut [u64], placed: Placed, out: &mut [u64])
     requires { PlacedIn placed (read_rows rows.old) }
-    ensures { after out.new (store_out rows)
-        ≡ applied_told (freed_at placed (store_in rows)) out.old }
+    ensures { after out.new (store_of rows.new)
+        ≡ applied_told (freed_at placed (store_of rows.old)) out.old }
 {
     match placed {
         Placed::Refused(refusal) => refuse(out, refusal),
@@ -163,8 +163,8 @@ fn free_placed(rows: &mut [u64], placed: Placed, out: &mut [u64])
 }
 
 pub fn reclaim_request(session: &[u64], rows: &mut [u64], id: RequestId, out: &mut [u64])
-    ensures { after out.new (store_out rows)
-        ≡ reported_told (change_of id Change.Reclaim (session_in session) (store_in rows)) out.old }
+    ensures { after out.new (store_of rows.new)
+        ≡ reported_told (change_of id Change.Reclaim (read_session session.now) (store_of rows.old)) out.old }
 {
     let verdict = rows_ready(session, rows.len());
     match verdict {
@@ -181,7 +181,7 @@ fn poll_row(session: &mut [u64], rows: &[u64], i: usize, id: RequestId, out: &mu
     requires { (is_session session.old ≡ true) × (is_busy (read_session session.old).in_flight ≡ false)
         × (i < length (read_rows rows.now)) × ((row_at rows.now i).used ≡ true) }
     ensures { after out.new (kept_of session.new)
-        ≡ polled_told (poll_row (row_at rows.now i) id (session_in session)) session.old out.old }
+        ≡ polled_told (poll_row (row_at rows.now i) id (read_session session.old)) session.old out.old }
 {
     if !columns::pending_at(rows, i) {
         return report(rows, i, out);
@@ -198,7 +198,7 @@ fn poll_row(session: &mut [u64], rows: &[u64], i: usize, id: RequestId, out: &mu
 pub fn poll_request(session: &mut [u64], rows: &[u64], id: RequestId, out: &mut [u64])
     requires { is_session session.old ≡ true }
     ensures { after out.new (kept_of session.new)
-        ≡ polled_told (poll_of id (session_in session) (store_in rows)) session.old out.old }
+        ≡ polled_told (poll_of id (read_session session.old) (store_of rows.now)) session.old out.old }
 {
     let verdict = rows_ready(session, rows.len());
     match verdict {

@@ -6,7 +6,7 @@ ghost use Rattle.rows.specs.InPlace.{completed_row};
 ghost use Rattle.rows.specs.Store.{store_of, put_in};
 ghost use Rattle.rows.specs.Table.{read_rows, row_at, is_pending_row};
 ghost use Rattle.ledger.specs.declared.in_place.Placed.TheVariants as Placed;
-ghost use Rattle.session.specs.Lent.{memory, store_in, store_out, memory_in, memory_out};
+ghost use Rattle.session.specs.Lent.{memory, memory_of};
 ghost use Rattle.session.specs.Session.{with_flight};
 ghost use Rattle.session.specs.Sizes.{data_at, memory_sizes};
 ghost use Rattle.session.specs.declared.InFlight.TheVariants as InFlight;
@@ -17,8 +17,7 @@ ghost use Rattle.submissions.specs.SubmitReply.{submit_reply_of};
 ghost use Rattle.submissions.specs.declared.SubmitReply.TheVariants as SubmitReply;
 ghost use Rattle.session_words.specs.State.{read_session, is_session};
 ghost use Rattle.call_words.specs.Arguments.{read_poll_reply, read_submit_reply};
-ghost use Rattle.direct.specs.Direct.{session_in};
-ghost use Rattle.direct.specs.Replies.{told_out, replied_told, reported_out, reported_row, failed_row, polled_at, ending_test, ending_of};
+ghost use Rattle.direct.specs.Replies.{replied_told, reported_out, reported_row, failed_row, polled_at, ending_test, ending_of, told_of};
 
 use crate::{refuse, refuse_by, report, rows_fit};
 use answer_words::encode;
@@ -51,7 +50,7 @@ pub enum Ending {
 }
 
 fn memory_fits(session: &[u64], words: usize, bytes: usize) -> bool
-    ensures { result ≡ memory_sizes (session_in session).size words bytes }
+    ensures { result ≡ memory_sizes (read_session session.now).size words bytes }
 {
     let size = fields::size(session);
     sizes::memory_fits(size, words, bytes)
@@ -59,7 +58,7 @@ fn memory_fits(session: &[u64], words: usize, bytes: usize) -> bool
 
 // Writes the session and the answer of a reply that was taken by value.
 fn write_reported(session: &mut [u64], reported: Reported, out: &mut [u64])
-    ensures { told_out session out ≡ reported_out reported session.old out.old }
+    ensures { told_of session.new out.new ≡ reported_out reported session.old out.old }
 {
     let outcome = answers::of_reported(reported);
     let next = outcome.session;
@@ -71,7 +70,7 @@ fn write_reported(session: &mut [u64], reported: Reported, out: &mut [u64])
 // The operation ends with the report of row i.
 fn end_flight(session: &mut [u64], rows: &[u64], i: usize, out: &mut [u64])
     requires { (is_session session.old ≡ true) × (i < length (read_rows rows.now)) }
-    ensures { told_out session out ≡ reported_out (reported_row (row_at rows.now i) (session_in session))
+    ensures { told_of session.new out.new ≡ reported_out (reported_row (row_at rows.now i) (read_session session.old))
         session.old out.old }
 {
     fields::end_flight(session);
@@ -86,8 +85,8 @@ fn poll_by_value(
     bytes: &[u8],
     out: &mut [u64],
 )
-    ensures { after (told_out session out) (memory_out rows area)
-        ≡ replied_told (poll_reply_of reply bytes.now (session_in session) (memory_in rows area))
+    ensures { after (told_of session.new out.new) (memory_of rows.new area.new)
+        ≡ replied_told (poll_reply_of reply bytes.now (read_session session.old) (memory_of rows.old area.old))
         session.old out.old }
 {
     let before = state::to_session(session);
@@ -97,7 +96,7 @@ fn poll_by_value(
 
 // The row of the polled id. Refuses by 2 if no poll is in flight or no row has its id, by 3 if a slice has not the session's size.
 fn polled_row(session: &[u64], rows: &[u64], area: &[u8]) -> Placed
-    ensures { result ≡ polled_at (session_in session) (memory_in rows area) }
+    ensures { result ≡ polled_at (read_session session.now) (memory_of rows.now area.now) }
 {
     if !fields::is_polling(session) {
         return Placed::Refused(models::refuse(2));
@@ -146,7 +145,7 @@ fn ending_of(completion: BackendCompletion, given: u64, requested: u64) -> Endin
 fn store_data(session: &[u64], area: &mut [u8], i: usize, bytes: &[u8])
     requires { i * (read_session session.now).size.row_bytes + (read_session session.now).size.row_bytes ≤ length area.old }
     ensures { area.new
-        ≡ data_at (session_in session).size i bytes.now area.old }
+        ≡ data_at (read_session session.now).size i bytes.now area.old }
 {
     let size = fields::size(session);
     sizes::put_data(area, size, i, bytes);
@@ -166,10 +165,10 @@ fn complete(
     requires { (is_session session.old ≡ true) × (i < length (read_rows rows.old))
         × (is_pending_row (row_at rows.old i) ≡ true)
         × (i * (read_session session.old).size.row_bytes + (read_session session.old).size.row_bytes ≤ length area.old) }
-    ensures { after (told_out session out) (memory_out rows area)
-        ≡ replied_told (after (reported_row (completed_row (row_at rows.old i) actual code) (session_in session))
-        (memory (put_in (store_in rows) i (completed_row (row_at rows.old i) actual code))
-        (data_at (session_in session).size i bytes.now area.old)))
+    ensures { after (told_of session.new out.new) (memory_of rows.new area.new)
+        ≡ replied_told (after (reported_row (completed_row (row_at rows.old i) actual code) (read_session session.old))
+        (memory (put_in (store_of rows.old) i (completed_row (row_at rows.old i) actual code))
+        (data_at (read_session session.old).size i bytes.now area.old)))
         session.old out.old }
 {
     store_data(session, area, i, bytes);
@@ -188,9 +187,9 @@ fn fail(
 )
     requires { (is_session session.old ≡ true) × (i < length (read_rows rows.old))
         × (is_pending_row (row_at rows.old i) ≡ true) }
-    ensures { after (told_out session out) (store_out rows)
-        ≡ replied_told (after (reported_row (failed_row (row_at rows.old i) error completion_code) (session_in session))
-        (put_in (store_in rows) i (failed_row (row_at rows.old i) error completion_code)))
+    ensures { after (told_of session.new out.new) (store_of rows.new)
+        ≡ replied_told (after (reported_row (failed_row (row_at rows.old i) error completion_code) (read_session session.old))
+        (put_in (store_of rows.old) i (failed_row (row_at rows.old i) error completion_code)))
         session.old out.old }
 {
     let state = RequestState::Failed {
@@ -205,8 +204,8 @@ fn fail(
 // 45: the operation ends with a backend's error.
 fn refuse_ended(session: &mut [u64], error: OperationError, out: &mut [u64])
     requires { is_session session.old ≡ true }
-    ensures { told_out session out ≡ reported_out
-        (report_refused (with_flight (session_in session) InFlight.Nothing) (from_backend 45 error))
+    ensures { told_of session.new out.new ≡ reported_out
+        (report_refused (with_flight (read_session session.old) InFlight.Nothing) (from_backend 45 error))
         session.old out.old }
 {
     fields::end_flight(session);
@@ -225,8 +224,8 @@ fn poll_completion(
 )
     requires { (is_session session.old ≡ true) × (is_pending_row (row_at rows.old i) ≡ true)
         × (polled_at (read_session session.old) (memory (store_of rows.old) area.old) ≡ Placed.At i) }
-    ensures { after (told_out session out) (memory_out rows area)
-        ≡ replied_told (poll_reply_of (PollReply.Completion completion) bytes.now (session_in session) (memory_in rows area))
+    ensures { after (told_of session.new out.new) (memory_of rows.new area.new)
+        ≡ replied_told (poll_reply_of (PollReply.Completion completion) bytes.now (read_session session.old) (memory_of rows.old area.old))
         session.old out.old }
 {
     let requested = columns::requested_length_at(rows, i);
@@ -258,8 +257,8 @@ fn poll_at(
     out: &mut [u64],
 )
     requires { (is_session session.old ≡ true) × (polled_at (read_session session.old) (memory (store_of rows.old) area.old) ≡ Placed.At i) }
-    ensures { after (told_out session out) (memory_out rows area)
-        ≡ replied_told (poll_reply_of (read_poll_reply call.now) bytes.now (session_in session) (memory_in rows area))
+    ensures { after (told_of session.new out.new) (memory_of rows.new area.new)
+        ≡ replied_told (poll_reply_of (read_poll_reply call.now) bytes.now (read_session session.old) (memory_of rows.old area.old))
         session.old out.old }
 {
     let kind = word_at(call, 1);
@@ -298,8 +297,8 @@ pub fn poll_reply(
     out: &mut [u64],
 )
     requires { is_session session.old ≡ true }
-    ensures { after (told_out session out) (memory_out rows area)
-        ≡ replied_told (poll_reply_of (read_poll_reply call.now) bytes.now (session_in session) (memory_in rows area))
+    ensures { after (told_of session.new out.new) (memory_of rows.new area.new)
+        ≡ replied_told (poll_reply_of (read_poll_reply call.now) bytes.now (read_session session.old) (memory_of rows.old area.old))
         session.old out.old }
 {
     let placed = polled_row(session, rows, area);
@@ -313,8 +312,8 @@ pub fn poll_reply(
 // which has the token.
 fn submit_accepted(session: &mut [u64], rows: &mut [u64], token: u64, out: &mut [u64])
     requires { is_session session.old ≡ true }
-    ensures { after (told_out session out) (store_out rows)
-        ≡ replied_told (submit_reply_of (SubmitReply.Token token) (session_in session) (store_in rows))
+    ensures { after (told_of session.new out.new) (store_of rows.new)
+        ≡ replied_told (submit_reply_of (SubmitReply.Token token) (read_session session.old) (store_of rows.old))
         session.old out.old }
 {
     if !fields::is_submitting(session) {
@@ -334,8 +333,8 @@ fn submit_accepted(session: &mut [u64], rows: &mut [u64], token: u64, out: &mut 
 // The reply to a submission that the words of its call say.
 pub fn submit_reply(session: &mut [u64], rows: &mut [u64], call: &[u64], out: &mut [u64])
     requires { is_session session.old ≡ true }
-    ensures { after (told_out session out) (store_out rows)
-        ≡ replied_told (submit_reply_of (read_submit_reply call.now) (session_in session) (store_in rows))
+    ensures { after (told_of session.new out.new) (store_of rows.new)
+        ≡ replied_told (submit_reply_of (read_submit_reply call.now) (read_session session.old) (store_of rows.old))
         session.old out.old }
 {
     let kind = word_at(call, 1);

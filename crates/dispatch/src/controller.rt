@@ -1,10 +1,12 @@
 // Calls 0 to 7: opening, the placing calls, and those that move the controller's state.
 ghost use Rattle.std.specs.Prelude.{◌≡◌, ◌%◌, ◌^◌, get_or};
 ghost use Rattle.chain.specs.After.{after};
-ghost use Rattle.session.specs.Lent.{memory, lent, store_out, bus_out};
-ghost use Rattle.calls.specs.Step.{step_of};
+ghost use Rattle.session.specs.Lent.{memory, lent, lent_of};
+ghost use Rattle.calls.specs.Step.{step_of, world};
 ghost use Rattle.call_words.specs.Decode.{read_placing, read_moving};
-ghost use Rattle.dispatch.specs.Slices.{world_in, StepsRows};
+ghost use Rattle.dispatch.specs.Slices.{StepsRows};
+ghost use Rattle.bus.specs.Tables.{bus_of};
+ghost use Rattle.rows.specs.Store.{store_of};
 
 use call_words::arguments;
 use calls::{Outcome, answers};
@@ -28,8 +30,8 @@ pub(crate) fn place_call(
     area: &[u8],
     call: &[u64],
 ) -> Outcome
-    ensures { after result (lent (bus_out bus) (memory (store_out rows) area.now))
-        ≡ step_of (read_placing number call.now) (world_in session bus rows area) }
+    ensures { after result (lent (bus_of bus.new) (memory (store_of rows.new) area.now))
+        ≡ step_of (read_placing number call.now) (world session (lent_of bus.old rows.old area.now)) }
 {
     if number == 0 {
         let o = arguments::opening(call);
@@ -55,7 +57,7 @@ pub(crate) fn place_call(
 
 // 5 to 7: the calls that move the controller's state, whatever the bus and the area.
 pub(crate) fn move_call(number: u64, session: Session, rows: &mut [u64], call: &[u64]) -> Outcome
-    ensures { StepsRows result (read_moving number call.now) session rows }
+    ensures { StepsRows result (read_moving number call.now) session rows.old rows.new }
 {
     if number == 5 {
         let reply = arguments::acquire_reply(call);

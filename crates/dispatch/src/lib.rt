@@ -3,11 +3,12 @@
 
 ghost use Rattle.std.specs.Prelude.{true, ◌≡◌, get_or};
 ghost use Rattle.chain.specs.After.{after};
-ghost use Rattle.session.specs.Lent.{lent_out};
+ghost use Rattle.session.specs.Lent.{lent_of};
 ghost use Rattle.session_words.specs.State.{is_session};
 ghost use Rattle.call_words.specs.Decode.{read_call};
 ghost use Rattle.dispatch.specs.Apply.{is_by_value, is_other, ran, run_of, ran_on, dispatch_of};
-ghost use Rattle.dispatch.specs.Slices.{world_in, buffers_in, buffers_out};
+ghost use Rattle.dispatch.specs.Slices.{buffers_of};
+ghost use Rattle.calls.specs.Step.{world};
 
 use answer_words::{encode, lists};
 use call_words::form;
@@ -33,8 +34,8 @@ fn step(
     lists: &mut [u64],
 ) -> Outcome
     requires { is_by_value (get_or call.now 0 0) ≡ true }
-    ensures { ran (after result (lent_out bus rows area)) lists.new
-        ≡ run_of (read_call call.now bytes.now) (world_in session bus rows area)
+    ensures { ran (after result (lent_of bus.new rows.new area.new)) lists.new
+        ≡ run_of (read_call call.now bytes.now) (world session (lent_of bus.old rows.old area.old))
         lists.old }
 {
     let number = word_at(call, 0);
@@ -65,8 +66,8 @@ fn answer_by_value(
     lists: &mut [u64],
 )
     requires { is_by_value (get_or call.now 0 0) ≡ true }
-    ensures { buffers_out session bus rows area out lists
-        ≡ ran_on (read_call call.now bytes.now) (buffers_in session bus rows area out lists) }
+    ensures { buffers_of session.new bus.new rows.new area.new out.new lists.new
+        ≡ ran_on (read_call call.now bytes.now) (buffers_of session.old bus.old rows.old area.old out.old lists.old) }
 {
     let before = state::to_session(session);
     let outcome = step(before, bus, rows, area, call, bytes, lists);
@@ -88,8 +89,8 @@ fn answer_other(
     lists: &mut [u64],
 )
     requires { (is_session session.old ≡ true) × (is_other (get_or call.now 0 0) ≡ true) }
-    ensures { buffers_out session bus rows area out lists
-        ≡ ran_on (read_call call.now bytes.now) (buffers_in session bus rows area out lists) }
+    ensures { buffers_of session.new bus.new rows.new area.new out.new lists.new
+        ≡ ran_on (read_call call.now bytes.now) (buffers_of session.old bus.old rows.old area.old out.old lists.old) }
 {
     let number = word_at(call, 0);
     if number == 10 {
@@ -113,8 +114,8 @@ fn answer(
     lists: &mut [u64],
 )
     requires { is_session session.old ≡ true }
-    ensures { buffers_out session bus rows area out lists
-        ≡ ran_on (read_call call.now bytes.now) (buffers_in session bus rows area out lists) }
+    ensures { buffers_of session.new bus.new rows.new area.new out.new lists.new
+        ≡ ran_on (read_call call.now bytes.now) (buffers_of session.old bus.old rows.old area.old out.old lists.old) }
 {
     let number = word_at(call, 0);
     if (number < 11) | (number == 12) | (number > 21) {
@@ -142,8 +143,8 @@ pub fn apply(
     out: &mut [u64],
     lists: &mut [u64],
 ) -> u64
-    ensures { after result (buffers_out session bus rows area out lists)
-        ≡ dispatch_of call.now bytes.now (buffers_in session bus rows area out lists) }
+    ensures { after result (buffers_of session.new bus.new rows.new area.new out.new lists.new)
+        ≡ dispatch_of call.now bytes.now (buffers_of session.old bus.old rows.old area.old out.old lists.old) }
 {
     if !form::is_call(call) {
         return 1;

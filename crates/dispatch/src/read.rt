@@ -1,7 +1,7 @@
 // Reports and questions, over words that stay as they are.
 ghost use Rattle.std.specs.Prelude.{true, ◌≡◌, drop};
 ghost use Rattle.chain.specs.After.{after};
-ghost use Rattle.session.specs.Lent.{lent_in};
+ghost use Rattle.session.specs.Lent.{lent_of};
 ghost use Rattle.submissions.specs.Wants.{submit_wants};
 ghost use Rattle.session_words.specs.State.{kept_of, read_session, is_session};
 ghost use Rattle.call_words.specs.Arguments.{read_request};
@@ -10,7 +10,8 @@ ghost use Rattle.questions.specs.Question.{question_of};
 ghost use Rattle.question_words.specs.Form.{is_read};
 ghost use Rattle.question_words.specs.Decode.{read_question};
 ghost use Rattle.dispatch.specs.Read.{read_words, reading_of};
-ghost use Rattle.dispatch.specs.Slices.{world_in};
+ghost use Rattle.calls.specs.Step.{world};
+
 
 use crate::requests;
 use answer_words::encode;
@@ -34,7 +35,7 @@ fn submit_wanted(
     bytes: &[u8],
 ) -> Wanted
     ensures { result ≡ submit_wants (drop 27 call.now)
-        (read_request call.now bytes.now) session (lent_in bus rows area) }
+        (read_request call.now bytes.now) session (lent_of bus.now rows.now area.now) }
 {
     let q = arguments::spec(call);
     let given = words::to_flag(word_at(call, 26));
@@ -54,7 +55,7 @@ fn question_answer(
     bytes: &[u8],
 ) -> QuestionAnswer
     ensures { result ≡ question_of (read_question number call.now bytes.now)
-        (world_in session bus rows area) }
+        (world session (lent_of bus.now rows.now area.now)) }
 {
     if number == 25 {
         return QuestionAnswer::Status(session);
@@ -81,7 +82,7 @@ fn answer(
 )
     requires { (is_read call.now ≡ true) × (is_session session.now ≡ true) }
     ensures { out.new ≡ written (read_words call.now bytes.now
-        (world_in (read_session session.now) bus rows area)) out.old }
+        (world (read_session session.now) (lent_of bus.now rows.now area.now))) out.old }
 {
     let number = word_at(call, 0);
     if number <= 21 {
@@ -104,7 +105,7 @@ pub fn read(
     out: &mut [u64],
 ) -> u64
     ensures { after result out.new ≡ reading_of call.now bytes.now
-        (kept_of session.now) (lent_in bus rows area) out.old }
+        (kept_of session.now) (lent_of bus.now rows.now area.now) out.old }
 {
     if !form::is_read(call) {
         return 1;

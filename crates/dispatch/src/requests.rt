@@ -2,13 +2,13 @@
 ghost use Rattle.std.specs.Prelude.{true, ◌≡◌};
 ghost use Rattle.chain.specs.After.{after};
 ghost use Rattle.models.specs.Values.{read_request_id};
-ghost use Rattle.session.specs.Lent.{lent_out};
+ghost use Rattle.session.specs.Lent.{lent_of};
 ghost use Rattle.session_words.specs.State.{is_session};
 ghost use Rattle.calls.specs.Answers.{outcome};
 ghost use Rattle.calls.specs.Calls.{Change, Withdraw};
-ghost use Rattle.calls.specs.Step.{step_of};
+ghost use Rattle.calls.specs.Step.{step_of, world};
 ghost use Rattle.call_words.specs.Decode.{read_submission, read_changing, read_reporting, read_recovering};
-ghost use Rattle.dispatch.specs.Slices.{world_in, StepsRows, ReadsMemory, RunsMemory, WritesRows, WritesAnswer};
+ghost use Rattle.dispatch.specs.Slices.{StepsRows, ReadsMemory, RunsMemory, WritesRows, WritesAnswer};
 
 use answer_words::{encode, lists};
 use call_words::arguments;
@@ -32,8 +32,8 @@ pub(crate) fn submit_call(
     call: &[u64],
     bytes: &[u8],
 ) -> Outcome
-    ensures { after result (lent_out bus rows area)
-        ≡ step_of (read_submission number call.now bytes.now) (world_in session bus rows area) }
+    ensures { after result (lent_of bus.new rows.new area.new)
+        ≡ step_of (read_submission number call.now bytes.now) (world session (lent_of bus.old rows.old area.old)) }
 {
     if number == 8 {
         let q = arguments::spec(call);
@@ -58,7 +58,7 @@ pub(crate) fn change_call(
     out: &mut [u64],
 )
     requires { is_session session.now ≡ true }
-    ensures { WritesRows (read_changing number call.now) session rows out }
+    ensures { WritesRows (read_changing number call.now) session.now rows.old rows.new out.old out.new }
 {
     let id = id_at(call, 1);
     if number == 13 {
@@ -72,7 +72,7 @@ pub(crate) fn change_call(
 
 // 29: a cancel is taken back, whatever the bus and the area.
 pub(crate) fn withdraw_call(session: Session, rows: &mut [u64], call: &[u64]) -> Outcome
-    ensures { StepsRows result (Change (read_request_id call.now 1) Withdraw) session rows }
+    ensures { StepsRows result (Change (read_request_id call.now 1) Withdraw) session rows.old rows.new }
 {
     let id = id_at(call, 1);
     answers::of_reported(change::withdraw_cancel_request(session, rows, id))
@@ -88,7 +88,7 @@ pub(crate) fn report_call(
     out: &mut [u64],
 )
     requires { is_session session.now ≡ true }
-    ensures { WritesAnswer (read_reporting number call.now) session rows area out }
+    ensures { WritesAnswer (read_reporting number call.now) session.now rows.now area.now out.old out.new }
 {
     if number == 16 {
         let id = id_at(call, 1);
@@ -101,7 +101,7 @@ pub(crate) fn report_call(
 
 fn report_answer(number: u64, session: Session, rows: &[u64], area: &[u8], call: &[u64]) -> Answer
     requires { number ≡ 16 → ⊥ }
-    ensures { ReadsMemory (outcome result session) (read_reporting number call.now) session rows area }
+    ensures { ReadsMemory (outcome result session) (read_reporting number call.now) session rows.now area.now }
 {
     if number == 17 {
         let after = arguments::option_id(call);
@@ -131,8 +131,7 @@ pub(crate) fn recover_call(
     bytes: &[u8],
     lists: &mut [u64],
 ) -> Outcome
-    ensures { RunsMemory result (read_recovering number call.now bytes.now)
-        session rows area lists }
+    ensures { RunsMemory result (read_recovering number call.now bytes.now) session rows.old rows.new area.old area.new lists.old lists.new }
 {
     let id = id_at(call, 1);
     if number == 22 {
@@ -157,8 +156,7 @@ fn recovered(
     bytes: &[u8],
     lists: &mut [u64],
 ) -> Outcome
-    ensures { RunsMemory result (read_recovering 24 call.now bytes.now)
-        session rows area lists }
+    ensures { RunsMemory result (read_recovering 24 call.now bytes.now) session rows.old rows.new area.old area.new lists.old lists.new }
 {
     let answer = arguments::backend_abort(call);
     let tokens = arguments::completed(call);

@@ -6,12 +6,12 @@ ghost use Rattle.std.specs.Prelude.{◌≡◌};
 ghost use Rattle.chain.specs.After.{after};
 ghost use Rattle.models.specs.Said.{Tabled};
 ghost use Rattle.rules.specs.declared.Change.TheVariants as Change;
-ghost use Rattle.session.specs.Lent.{store_in, store_out};
 ghost use Rattle.reports.specs.Change.{change_of};
 ghost use Rattle.reports.specs.Said.{report_said, cancel_numbers, withdraw_numbers, reclaim_numbers};
 ghost use Rattle.polls.specs.Poll.{poll_of};
 ghost use Rattle.polls.specs.Said.{poll_said, poll_numbers};
 ghost use Rattle.lent.specs.Lent.{polled_as, reported_as};
+ghost use Rattle.rows.specs.Store.{store_of};
 
 use models::RequestId;
 use polls::{PollAnswer, poll};
@@ -20,7 +20,7 @@ use session::Session;
 
 // The rows are lent again, as the others lend theirs: one proof serves all five.
 pub fn poll_request(session: &mut Session, rows: &[u64], id: RequestId) -> PollAnswer
-    ensures step { polled_as result session.new ≡ poll_of id session.old (store_in rows) }
+    ensures step { polled_as result session.new ≡ poll_of id session.old (store_of rows.now) }
     ensures table { Tabled poll_numbers (poll_said result) }
 {
     let done = poll::poll_request(*session, &*rows, id);
@@ -33,8 +33,8 @@ pub fn logical_cancel_request(
     rows: &mut [u64],
     id: RequestId,
 ) -> ReportAnswer
-    ensures step { after (reported_as result session.new) (store_out rows)
-        ≡ change_of id Change.LogicalCancel session.old (store_in rows) }
+    ensures step { after (reported_as result session.new) (store_of rows.new)
+        ≡ change_of id Change.LogicalCancel session.old (store_of rows.old) }
     ensures table { Tabled cancel_numbers (report_said result) }
 {
     let done = change::logical_cancel_request(*session, rows, id);
@@ -47,8 +47,8 @@ pub fn withdraw_cancel_request(
     rows: &mut [u64],
     id: RequestId,
 ) -> ReportAnswer
-    ensures step { after (reported_as result session.new) (store_out rows)
-        ≡ change_of id Change.WithdrawCancel session.old (store_in rows) }
+    ensures step { after (reported_as result session.new) (store_of rows.new)
+        ≡ change_of id Change.WithdrawCancel session.old (store_of rows.old) }
     ensures table { Tabled withdraw_numbers (report_said result) }
 {
     let done = change::withdraw_cancel_request(*session, rows, id);
@@ -57,8 +57,8 @@ pub fn withdraw_cancel_request(
 }
 
 pub fn timeout_request(session: &mut Session, rows: &mut [u64], id: RequestId) -> ReportAnswer
-    ensures step { after (reported_as result session.new) (store_out rows)
-        ≡ change_of id Change.Timeout session.old (store_in rows) }
+    ensures step { after (reported_as result session.new) (store_of rows.new)
+        ≡ change_of id Change.Timeout session.old (store_of rows.old) }
     ensures table { Tabled cancel_numbers (report_said result) }
 {
     let done = change::timeout_request(*session, rows, id);
@@ -67,8 +67,8 @@ pub fn timeout_request(session: &mut Session, rows: &mut [u64], id: RequestId) -
 }
 
 pub fn reclaim_request(session: &mut Session, rows: &mut [u64], id: RequestId) -> ReportAnswer
-    ensures step { after (reported_as result session.new) (store_out rows)
-        ≡ change_of id Change.Reclaim session.old (store_in rows) }
+    ensures step { after (reported_as result session.new) (store_of rows.new)
+        ≡ change_of id Change.Reclaim session.old (store_of rows.old) }
     ensures table { Tabled reclaim_numbers (report_said result) }
 {
     let done = change::reclaim_request(*session, rows, id);

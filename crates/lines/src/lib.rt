@@ -4,7 +4,7 @@
 ghost use Rattle.std.specs.Prelude.{◌≡◌, false, ◌+◌, ◌≤◌, length};
 ghost use Rattle.io.specs.Counts.{IsPrefixLen};
 ghost use Rattle.chain.specs.After.{after};
-ghost use Rattle.session.specs.Lent.{lent_in, lent_out};
+ghost use Rattle.session.specs.Lent.{lent_of};
 ghost use Rattle.calls.specs.Step.{world};
 ghost use Rattle.paper.specs.Events.{events_of};
 ghost use Rattle.paper.specs.Form.{is_refused_size};
@@ -50,8 +50,8 @@ fn mark_event(
     e: PaperEvent,
 ) -> Walked
     requires { at + line_room ≤ length out.old }
-    ensures { walk (world result.session (lent_out bus rows area)) (after result.at out.new)
-        ≡ event_walked index e (world session (lent_in bus rows area)) at out.old }
+    ensures { walk (world result.session (lent_of bus.new rows.new area.new)) (after result.at out.new)
+        ≡ event_walked index e (world session (lent_of bus.old rows.old area.old)) at out.old }
 {
     let marked = marking::mark(session, bus, rows, area, e);
     let line = shown::event_line(index, marked, rows);
@@ -71,7 +71,7 @@ fn mark_events(
 ) -> usize
     requires { (length out.old ≡ text_room) × (is_refused_size (length paper.now) ≡ false) }
     ensures { after result out.new
-        ≡ text_from 0 (events_of paper.now) (world session (lent_in bus rows area)) 0 out.old }
+        ≡ text_from 0 (events_of paper.now) (world session (lent_of bus.old rows.old area.old)) 0 out.old }
 {
     let mut own = session;
     let mut at = 0;

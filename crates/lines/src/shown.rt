@@ -1,7 +1,7 @@
 // What a line shows after an event: the state's letter and the held count.
 ghost use Rattle.std.specs.Prelude.{◌≡◌};
-ghost use Rattle.session.specs.Lent.{store_in};
 ghost use Rattle.lines.specs.Lines.{state_letter, letter_by, letter_of, held_number, held_in, event_line};
+ghost use Rattle.rows.specs.Store.{store_of};
 
 use crate::Line;
 use marking::Marked;
@@ -44,7 +44,7 @@ fn report_letter(a: ReportAnswer) -> u8
 }
 
 fn letter_of(session: Session, rows: &[u64], id: OptionId) -> u8
-    ensures { result ≡ letter_of id session (store_in rows) }
+    ensures { result ≡ letter_of id session (store_of rows.now) }
 {
     match id {
         OptionId::None => b'-',
@@ -62,13 +62,13 @@ fn held_number(answer: HeldAnswer) -> u8
 }
 
 fn held_in(session: Session, rows: &[u64]) -> u8
-    ensures { result ≡ held_in session (store_in rows) }
+    ensures { result ≡ held_in session (store_of rows.now) }
 {
     held_number(status::held_count(session, rows))
 }
 
 pub(crate) fn event_line(index: u64, marked: Marked, rows: &[u64]) -> Line
-    ensures { result ≡ event_line index marked (store_in rows) }
+    ensures { result ≡ event_line index marked (store_of rows.now) }
 {
     let session = marked.session;
     let id = marked.id;

@@ -9,11 +9,12 @@ use Rattle.models.specs.declared.Direction.TheVariants.{In}
 use Rattle.models.specs.declared.PortReading.TheVariants.{Word}
 use Rattle.models.specs.declared.TransferType.TheVariants.{Bulk}
 use Rattle.standards.specs.Fields.{bit}
+use Rattle.rows.specs.Store.{store_of}
 use Rattle.rows.specs.declared.{Row.Row}
 use Rattle.scope.specs.Affected.{affected_of, tokens_of}
 use Rattle.targets.specs.declared.{Readings.Readings}
 use Rattle.bus.specs.Tables.{Bus}
-use Rattle.session.specs.Lent.{Slice, Lent, memory, lent, store_in, store_out, memory_in, memory_out}
+use Rattle.session.specs.Lent.{Lent, memory, lent, memory_of}
 use Rattle.session.specs.declared.{Recovery.Recovery, Session.Session}
 use Rattle.session.specs.declared.RecoveryKind.TheVariants.{Abort}
 use Rattle.reports.specs.declared.{OptionId.OptionId}
@@ -145,9 +146,9 @@ event_marked e w = after (leaves 57 OptionId.None w.session) w.lent if is_damage
 
 -- ---- of lent slices: marked as the event's calls, whatever the bus, and whatever the bus and the area
 
-abbrev pub MarksMemory : Marked → PaperEvent → Session → Slice → Slice → Type 0
-MarksMemory r e s rows area = (b : Bus) → after r (lent b (memory_out rows area)) ≡ calls_marked e (world s (lent b (memory_in rows area)))
+abbrev pub MarksMemory : Marked → PaperEvent → Session → List ℕ → List ℕ → List ℕ → List ℕ → Type 0
+MarksMemory r e s rows rows' area area' = (b : Bus) → after r (lent b (memory_of rows' area')) ≡ calls_marked e (world s (lent b (memory_of rows area)))
 
-abbrev pub MarksRows : Marked → PaperEvent → Session → Slice → Type 0
-MarksRows r e s rows =
-    (b : Bus) (area : List ℕ) → after r (lent b (memory (store_out rows) area)) ≡ calls_marked e (world s (lent b (memory (store_in rows) area)))
+abbrev pub MarksRows : Marked → PaperEvent → Session → List ℕ → List ℕ → Type 0
+MarksRows r e s rows rows' =
+    (b : Bus) (area : List ℕ) → after r (lent b (memory (store_of rows') area)) ≡ calls_marked e (world s (lent b (memory (store_of rows) area)))

@@ -3,7 +3,7 @@
 
 ghost use Rattle.std.specs.Prelude.{◌<◌, ◌≤◌, ◌≡◌, [], take};
 ghost use Rattle.chain.specs.After.{after};
-ghost use Rattle.session.specs.Lent.{memory_in, memory_out, lent_in, lent_out};
+ghost use Rattle.session.specs.Lent.{lent_of, memory_of};
 ghost use Rattle.submissions.specs.Submit.{submit_of};
 ghost use Rattle.polls.specs.PollReply.{poll_reply_of};
 ghost use Rattle.recovery.specs.RecoveryReply.{reply_lists, recovery_reply_of};
@@ -70,7 +70,7 @@ fn begin_submission(
     area: &mut [u8],
     e: PaperEvent,
 ) -> Submitted
-    ensures { after result (lent_out bus rows area) ≡ submit_of [] (event_request e) session (lent_in bus rows area) }
+    ensures { after result (lent_of bus.new rows.new area.new) ≡ submit_of [] (event_request e) session (lent_of bus.old rows.old area.old) }
 {
     let none: [u64; 0] = [];
     let q = said::spec_of(e);
@@ -87,7 +87,7 @@ fn submit_event(
     e: PaperEvent,
 ) -> Marked
     requires { e.kind ≡ 0 }
-    ensures { after result (lent_out bus rows area) ≡ calls_marked e (world session (lent_in bus rows area)) }
+    ensures { after result (lent_of bus.new rows.new area.new) ≡ calls_marked e (world session (lent_of bus.old rows.old area.old)) }
 {
     let done = begin_submission(session, bus, rows, area, e);
     let answer = done.answer;
@@ -109,7 +109,7 @@ fn submit_event(
 
 // The reply to a poll that asked for it.
 fn reply_to_poll(session: Session, rows: &mut [u64], area: &mut [u8], e: PaperEvent) -> Reported
-    ensures { after result (memory_out rows area) ≡ poll_reply_of (event_reply e) (event_bytes e) session (memory_in rows area) }
+    ensures { after result (memory_of rows.new area.new) ≡ poll_reply_of (event_reply e) (event_bytes e) session (memory_of rows.old area.old) }
 {
     let zeros = [0u8; 256];
     let n = slices::least(e.length as usize, 256);
@@ -119,7 +119,7 @@ fn reply_to_poll(session: Session, rows: &mut [u64], area: &mut [u8], e: PaperEv
 
 fn poll_event(session: Session, rows: &mut [u64], area: &mut [u8], e: PaperEvent) -> Marked
     requires { e.kind ≡ 1 }
-    ensures { MarksMemory result e session rows area }
+    ensures { MarksMemory result e session rows.old rows.new area.old area.new }
 {
     let id = said::id_of(e);
     let polled = poll::poll_request(session, rows, id);
@@ -146,7 +146,7 @@ fn poll_event(session: Session, rows: &mut [u64], area: &mut [u8], e: PaperEvent
 // Kinds 2 to 4.
 fn change_event(session: Session, rows: &mut [u64], e: PaperEvent) -> Marked
     requires { (1 < e.kind) × (e.kind ≤ 4) }
-    ensures { MarksRows result e session rows }
+    ensures { MarksRows result e session rows.old rows.new }
 {
     let id = said::id_of(e);
     if e.kind == 2 {
@@ -169,8 +169,8 @@ fn reply_to_abort(
     tokens: [u64; 128],
     count: u64,
 ) -> Replied
-    ensures { after result (memory_out rows area) ≡ recovery_reply_of ready_reply
-        (reply_lists [] [] (take count tokens) []) session (memory_in rows area) }
+    ensures { after result (memory_of rows.new area.new) ≡ recovery_reply_of ready_reply
+        (reply_lists [] [] (take count tokens) []) session (memory_of rows.old area.old) }
 {
     let none: [u64; 0] = [];
     let n = slices::least(count as usize, 128);
@@ -180,7 +180,7 @@ fn reply_to_abort(
 
 fn abort_event(session: Session, rows: &mut [u64], area: &mut [u8], e: PaperEvent) -> Marked
     requires { 4 < e.kind }
-    ensures { MarksMemory result e session rows area }
+    ensures { MarksMemory result e session rows.old rows.new area.old area.new }
 {
     let id = said::id_of(e);
     let begun = recover::abort_request(session, rows, id);
@@ -208,7 +208,7 @@ fn mark_calls(
     area: &mut [u8],
     e: PaperEvent,
 ) -> Marked
-    ensures { after result (lent_out bus rows area) ≡ calls_marked e (world session (lent_in bus rows area)) }
+    ensures { after result (lent_of bus.new rows.new area.new) ≡ calls_marked e (world session (lent_of bus.old rows.old area.old)) }
 {
     if e.kind == 0 {
         return submit_event(session, bus, rows, area, e);
@@ -230,7 +230,7 @@ pub fn mark(
     area: &mut [u8],
     e: PaperEvent,
 ) -> Marked
-    ensures { after result (lent_out bus rows area) ≡ event_marked e (world session (lent_in bus rows area)) }
+    ensures { after result (lent_of bus.new rows.new area.new) ≡ event_marked e (world session (lent_of bus.old rows.old area.old)) }
 {
     if form::is_damaged(e) {
         return Marked {

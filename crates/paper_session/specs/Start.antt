@@ -11,7 +11,7 @@ use Rattle.rows.specs.Store.{store_of, emptied}
 use Rattle.bus.specs.Layout.{bus_words, endpoint_word}
 use Rattle.bus.specs.Tables.{Bus, bus_of, port_at, device_at, endpoints_at, mark_at, put_port, put_device, put_endpoints, cleared}
 use Rattle.bus.specs.declared.{PortRow.PortRow}
-use Rattle.session.specs.Lent.{Slice, Memory, Lent, memory, lent, lent_fits, bus_in, bus_out}
+use Rattle.session.specs.Lent.{Memory, Lent, memory, lent, lent_fits}
 use Rattle.session.specs.Lifecycle.{acquire_of, initialize_of}
 use Rattle.session.specs.declared.{InFlight.InFlight, OptionStall.OptionStall, Session.Session, Size.Size, lifecycle.Opening.Opening}
 use Rattle.session.specs.declared.lifecycle.AcquireReply.TheVariants.{Acquired}
@@ -90,12 +90,12 @@ blank_lent = lent (bus_of (replicate bus_words 0)) (memory (store_of (replicate 
 
 -- ---- of a lent bus: placed, whatever the rows and the area
 
-abbrev pub PlacesSlot : ℕ → Session → Slice → Type 0
-PlacesSlot slot s bus =
-    (m : Memory) → world s (lent (bus_out bus) m) ≡ made_on (slot_calls slot) (world s (lent (bus_in bus) m))
+abbrev pub PlacesSlot : ℕ → Session → List ℕ → List ℕ → Type 0
+PlacesSlot slot s bus bus' =
+    (m : Memory) → world s (lent (bus_of bus') m) ≡ made_on (slot_calls slot) (world s (lent (bus_of bus) m))
 
-abbrev pub PlacesSlots : Session → Slice → Type 0
-PlacesSlots s bus = (m : Memory) → world s (lent (bus_out bus) m) ≡ made_on (slots_calls 256) (world s (lent (bus_in bus) m))
+abbrev pub PlacesSlots : Session → List ℕ → List ℕ → Type 0
+PlacesSlots s bus bus' = (m : Memory) → world s (lent (bus_of bus') m) ≡ made_on (slots_calls 256) (world s (lent (bus_of bus) m))
 
 -- ---- what the start is, without calls
 

@@ -2,10 +2,12 @@
 #![tactic(auto)]
 
 ghost use Rattle.std.specs.Prelude.{◌≡◌};
-ghost use Rattle.session.specs.Lent.{memory, lent, bus_out, store_out, lent_in};
+ghost use Rattle.session.specs.Lent.{memory, lent, lent_of};
 ghost use Rattle.calls.specs.Calls.{Open};
 ghost use Rattle.calls.specs.Step.{world, step_of, next, made_on, no_session};
 ghost use Rattle.paper_session.specs.Start.{paper_opening, paper_port, slot_snapshot, readied, opening_calls, start_on, PlacesSlot, PlacesSlots};
+ghost use Rattle.bus.specs.Tables.{bus_of};
+ghost use Rattle.rows.specs.Store.{store_of};
 
 use bus::PortRow;
 use calls::answers;
@@ -93,7 +95,7 @@ fn snapshot(slot: u8) -> DeviceSnapshot
 
 // A slot's device and its endpoints, 81h to 8Fh.
 fn place_slot(session: Session, bus: &mut [u64], slot: u8)
-    ensures { PlacesSlot slot session bus }
+    ensures { PlacesSlot slot session bus.old bus.new }
 {
     let bulk = [
         0x181u64, 0x182, 0x183, 0x184, 0x185, 0x186, 0x187, 0x188, 0x189, 0x18a, 0x18b, 0x18c,
@@ -104,7 +106,7 @@ fn place_slot(session: Session, bus: &mut [u64], slot: u8)
 }
 
 fn place_slots(session: Session, bus: &mut [u64])
-    ensures { PlacesSlots session bus }
+    ensures { PlacesSlots session bus.old bus.new }
 {
     let mut slot: u16 = 0;
     while slot < 256 {
@@ -114,8 +116,8 @@ fn place_slots(session: Session, bus: &mut [u64])
 }
 
 fn opened(bus: &mut [u64], rows: &mut [u64], area: &[u8]) -> Session
-    ensures { world result (lent (bus_out bus) (memory (store_out rows) area.now))
-        ≡ next (step_of (Open paper_opening) (world no_session (lent_in bus rows area))) }
+    ensures { world result (lent (bus_of bus.new) (memory (store_of rows.new) area.now))
+        ≡ next (step_of (Open paper_opening) (world no_session (lent_of bus.old rows.old area.now))) }
 {
     let answer = lifecycle::open(opening(), rows, area, bus);
     let outcome = answers::of_opened(answer, no_session());
@@ -133,8 +135,8 @@ fn ready(session: Session) -> Session
 
 // Opened, acquired, Initialized, with port 1.
 fn open(bus: &mut [u64], rows: &mut [u64], area: &[u8]) -> Session
-    ensures { world result (lent (bus_out bus) (memory (store_out rows) area.now))
-        ≡ made_on opening_calls (world no_session (lent_in bus rows area)) }
+    ensures { world result (lent (bus_of bus.new) (memory (store_of rows.new) area.now))
+        ≡ made_on opening_calls (world no_session (lent_of bus.old rows.old area.now)) }
 {
     let session = ready(opened(bus, rows, area));
     place::set_port(session, bus, 1, port());
@@ -142,7 +144,7 @@ fn open(bus: &mut [u64], rows: &mut [u64], area: &[u8]) -> Session
 }
 
 pub fn start(bus: &mut [u64], rows: &mut [u64], area: &[u8]) -> Session
-    ensures { world result (lent (bus_out bus) (memory (store_out rows) area.now)) ≡ start_on (lent_in bus rows area) }
+    ensures { world result (lent (bus_of bus.new) (memory (store_of rows.new) area.now)) ≡ start_on (lent_of bus.old rows.old area.now) }
 {
     let session = open(bus, rows, area);
     place_slots(session, bus);

@@ -2,9 +2,9 @@
 ghost use Rattle.std.specs.Prelude.{◌≡◌};
 ghost use Rattle.models.specs.Refusals.{refusal_of};
 ghost use Rattle.models.specs.Said.{Tabled};
-ghost use Rattle.session.specs.Lent.{store_in};
 ghost use Rattle.polls.specs.Poll.{poll_refused, poll_row, poll_of};
 ghost use Rattle.polls.specs.Said.{poll_said, poll_numbers};
+ghost use Rattle.rows.specs.Store.{store_of};
 
 use crate::{PollAnswer, Polled};
 use chain::Found;
@@ -51,7 +51,7 @@ fn poll_row(session: Session, row: Row, id: RequestId) -> Polled
 
 // Refuses by 1 while an operation waits for its reply, by 3 if the rows have not the session's size, by 40 if no row has the id.
 pub fn poll_request(session: Session, rows: &[u64], id: RequestId) -> Polled
-    ensures step { result ≡ poll_of id session (store_in rows) }
+    ensures step { result ≡ poll_of id session (store_of rows.now) }
     ensures table { Tabled poll_numbers (poll_said result.answer) }
 {
     let verdict = start::rows_ready(session, rows.len());

@@ -4,10 +4,11 @@ ghost use Rattle.chain.specs.After.{after};
 ghost use Rattle.models.specs.Said.{Tabled};
 ghost use Rattle.rows.specs.Table.{read_rows};
 ghost use Rattle.ledger.specs.Apply.{changed_at};
-ghost use Rattle.session.specs.Lent.{store_in, memory_in, memory_out};
+ghost use Rattle.session.specs.Lent.{memory_of};
 ghost use Rattle.reports.specs.Said.{report_said};
 ghost use Rattle.polls.specs.PollReply.{is_recovery, code_is_stall, is_scoped_stall, stall_of, failed_as, invalid_as, judged_test, judged, stored_in, settled, poll_reply_at, poll_reply_found, poll_reply_of};
 ghost use Rattle.polls.specs.Said.{poll_reply_numbers};
+ghost use Rattle.rows.specs.Store.{store_of};
 
 use crate::PollReply;
 use chain::Found;
@@ -180,8 +181,8 @@ fn settle(
 ) -> Reported
     requires { (i < length (read_rows rows.old))
         × (i * idle.size.row_bytes + idle.size.row_bytes ≤ length area.old) }
-    ensures { after result (memory_out rows area)
-        ≡ settled (changed_at i j.change (store_in rows)) j i bytes.now idle area.old }
+    ensures { after result (memory_of rows.new area.new)
+        ≡ settled (changed_at i j.change (store_of rows.old)) j i bytes.now idle area.old }
 {
     let change = j.change;
     let session = j.session;
@@ -210,8 +211,8 @@ fn reply_at(
 ) -> Reported
     requires { (i < length (read_rows rows.old))
         × (i * idle.size.row_bytes + idle.size.row_bytes ≤ length area.old) }
-    ensures { after result (memory_out rows area)
-        ≡ poll_reply_at reply i bytes.now idle (memory_in rows area) }
+    ensures { after result (memory_of rows.new area.new)
+        ≡ poll_reply_at reply i bytes.now idle (memory_of rows.old area.old) }
 {
     let row = rows::read_row(rows, i);
     match reply {
@@ -239,8 +240,8 @@ fn reply_found(
     reply: PollReply,
     bytes: &[u8],
 ) -> Reported
-    ensures { after result (memory_out rows area)
-        ≡ poll_reply_found id reply bytes.now session (memory_in rows area) }
+    ensures { after result (memory_of rows.new area.new)
+        ≡ poll_reply_found id reply bytes.now session (memory_of rows.old area.old) }
 {
     let size = session.size;
     if !sizes::memory_fits(size, rows.len(), area.len()) {
@@ -262,8 +263,8 @@ pub fn poll_reply(
     reply: PollReply,
     bytes: &[u8],
 ) -> Reported
-    ensures step { after result (memory_out rows area)
-        ≡ poll_reply_of reply bytes.now session (memory_in rows area) }
+    ensures step { after result (memory_of rows.new area.new)
+        ≡ poll_reply_of reply bytes.now session (memory_of rows.old area.old) }
     ensures table { Tabled poll_reply_numbers (report_said result.answer) }
 {
     let flight = session.in_flight;

@@ -11,7 +11,7 @@ use Rattle.models.specs.declared.{Refusal.Refusal, Verdict.Verdict}
 use Rattle.rows.specs.Table.{is_uncertain}
 use Rattle.rows.specs.declared.{Row.Row}
 use Rattle.checks.specs.Completion.{has_error}
-use Rattle.session.specs.Lent.{Memory, memory_fits, Slice}
+use Rattle.session.specs.Lent.{Memory, memory_fits}
 use Rattle.session.specs.Session.{with_controller, with_flight, with_stall, marked}
 use Rattle.session.specs.declared.{InFlight.InFlight, OptionStall.OptionStall, RecoverableStall.RecoverableStall, Recovery.Recovery, RecoveryKind.RecoveryKind, Session.Session, Size.Size}
 use Rattle.scope.specs.Affected.{affected_of, tokens_of}
@@ -29,10 +29,6 @@ pub record ReplyLists : Type 0 where
 
 abbrev pub reply_lists : List ℕ → List ℕ → List ℕ → List ℕ → ReplyLists
 reply_lists tokens completions aborted bytes = record { tokens = tokens; completions = completions; aborted = aborted; bytes = bytes }
-
-abbrev pub lists_in : Slice → Slice → Slice → Slice → ReplyLists
-lists_in tokens completions aborted bytes =
-    reply_lists tokens.entry.now completions.entry.now aborted.entry.now bytes.entry.now
 
 -- completions in order, then aborts; `place` says which row a token means
 unfoldable pub apply_all : Size → (ℕ → ℕ) → ReplyLists → Memory → After Verdict Memory

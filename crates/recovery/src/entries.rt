@@ -7,9 +7,10 @@ ghost use Rattle.scope.specs.Returned.{read_returned};
 ghost use Rattle.scope.specs.Scope.{Rises, meant};
 ghost use Rattle.rules.specs.declared.Change.TheVariants as Change;
 ghost use Rattle.ledger.specs.Apply.{changed_at};
-ghost use Rattle.session.specs.Lent.{store_in, store_out, memory_in, memory_out};
+ghost use Rattle.session.specs.Lent.{memory_of};
 ghost use Rattle.recovery.specs.Entries.{row_completed_by, complete_one, abort_one, itself, complete_all, abort_all};
 ghost use Rattle.recovery.specs.Places.{Below, Fit, Places, Agree};
+ghost use Rattle.rows.specs.Store.{store_of};
 
 use checks::completion;
 use checks::completion::CompletionTest;
@@ -31,8 +32,8 @@ fn complete_row(
     bytes: &[u8],
 ) -> Verdict
     requires { Fit size rows.old area.old × (i < length (read_rows rows.old)) }
-    ensures { after result (memory_out rows area)
-        ≡ row_completed_by (changed_at i (Change.Complete actual code) (store_in rows)) size i bytes.now area.old }
+    ensures { after result (memory_of rows.new area.new)
+        ≡ row_completed_by (changed_at i (Change.Complete actual code) (store_of rows.old)) size i bytes.now area.old }
 {
     let applied = ledger::change_at(rows, i, Change::Complete(actual, code));
     match applied {
@@ -54,8 +55,8 @@ fn complete_one(
     bytes: &[u8],
 ) -> Verdict
     requires { Fit size rows.old area.old × (i < length (read_rows rows.old)) }
-    ensures { after result (memory_out rows area)
-        ≡ complete_one size i completion bytes.now (memory_in rows area) }
+    ensures { after result (memory_of rows.new area.new)
+        ≡ complete_one size i completion bytes.now (memory_of rows.old area.old) }
 {
     let row = rows::read_row(rows, i);
     let metadata = row.metadata;
@@ -118,8 +119,8 @@ fn complete_next(
 ) -> Verdict
     requires { Fit size rows.old area.old × (i < length (read_rows rows.old))
         × (brought.given ≤ length left.now) }
-    ensures { after result (memory_out rows area)
-        ≡ complete_one size i brought.completion (take brought.given left.now) (memory_in rows area) }
+    ensures { after result (memory_of rows.new area.new)
+        ≡ complete_one size i brought.completion (take brought.given left.now) (memory_of rows.old area.old) }
 {
     let completion = brought.completion;
     let end = brought.given as usize;
@@ -136,9 +137,9 @@ pub(crate) fn complete_all(
     bytes: &[u8],
 ) -> Verdict
     requires { Places size rows.old area.old places.now × Agree places.now completions.now bytes.now }
-    ensures { after result (memory_out rows area)
+    ensures { after result (memory_of rows.new area.new)
         ≡ complete_all size itself (read_returned places.now completions.now) bytes.now
-        (memory_in rows area) }
+        (memory_of rows.old area.old) }
 {
     let n = places.len();
     let mut at = 0;
@@ -158,7 +159,7 @@ pub(crate) fn complete_all(
 
 fn abort_one(rows: &mut [u64], i: usize) -> Verdict
     requires { i < length (read_rows rows.old) }
-    ensures { after result (store_out rows) ≡ abort_one i (store_in rows) }
+    ensures { after result (store_of rows.new) ≡ abort_one i (store_of rows.old) }
 {
     let applied = ledger::change_at(rows, i, Change::ConfirmAbort);
     match applied {
@@ -170,7 +171,7 @@ fn abort_one(rows: &mut [u64], i: usize) -> Verdict
 // The aborts of the rows at the places, in order.
 pub(crate) fn abort_all(rows: &mut [u64], places: &[usize]) -> Verdict
     requires { Below rows.old places.now }
-    ensures { after result (store_out rows) ≡ abort_all itself places.now (store_in rows) }
+    ensures { after result (store_of rows.new) ≡ abort_all itself places.now (store_of rows.old) }
 {
     let n = places.len();
     let mut j = 0;

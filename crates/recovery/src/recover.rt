@@ -3,9 +3,10 @@ ghost use Rattle.std.specs.Prelude.{◌≡◌};
 ghost use Rattle.models.specs.Refusals.{refusal_of};
 ghost use Rattle.models.specs.Said.{Tabled};
 ghost use Rattle.session.specs.declared.RecoveryKind.TheVariants as RecoveryKind;
-ghost use Rattle.session.specs.Lent.{rows_in, store_in};
 ghost use Rattle.recovery.specs.Recover.{begin_refused, recovery_of, begun_as, begin_row, recover_of};
 ghost use Rattle.recovery.specs.Said.{begin_said, recover_numbers};
+ghost use Rattle.rows.specs.Store.{store_of};
+ghost use Rattle.rows.specs.Table.{read_rows};
 
 use crate::{BeginAnswer, Begun};
 use chain::Found;
@@ -47,7 +48,7 @@ fn recovery_of(id: RequestId, kind: RecoveryKind, row: Row) -> Recovery
 
 // The operation is in flight; the affected tokens by ascending id.
 fn begin(session: Session, rows: &[u64], recovery: Recovery) -> Begun
-    ensures { result ≡ begun_as recovery session (rows_in rows) }
+    ensures { result ≡ begun_as recovery session (read_rows rows.now) }
 {
     let device = recovery.device;
     let mut list = [0usize; 128];
@@ -62,7 +63,7 @@ fn begin(session: Session, rows: &[u64], recovery: Recovery) -> Begun
 
 // Refuses by 43 if the request is not held, by 44 if the controller is neither Initialized nor RecoveryRequired.
 fn begin_row(session: Session, rows: &[u64], row: Row, id: RequestId, kind: RecoveryKind) -> Begun
-    ensures { result ≡ begin_row id kind row session (rows_in rows) }
+    ensures { result ≡ begin_row id kind row session (read_rows rows.now) }
 {
     let state = row.state;
     let controller = session.state;
@@ -78,7 +79,7 @@ fn begin_row(session: Session, rows: &[u64], row: Row, id: RequestId, kind: Reco
 
 // Refuses by 1 while an operation waits for its reply, by 3 if the rows have not the session's size, by 40 if none has the id.
 fn begin_recovery(session: Session, rows: &[u64], id: RequestId, kind: RecoveryKind) -> Begun
-    ensures step { result ≡ recover_of id kind session (store_in rows) }
+    ensures step { result ≡ recover_of id kind session (store_of rows.now) }
     ensures table { Tabled recover_numbers (begin_said result.answer) }
 {
     let verdict = start::rows_ready(session, rows.len());
@@ -96,7 +97,7 @@ fn begin_recovery(session: Session, rows: &[u64], id: RequestId, kind: RecoveryK
 }
 
 pub fn abort_request(session: Session, rows: &[u64], target: RequestId) -> Begun
-    ensures step { result ≡ recover_of target RecoveryKind.Abort session (store_in rows) }
+    ensures step { result ≡ recover_of target RecoveryKind.Abort session (store_of rows.now) }
     ensures table { Tabled recover_numbers (begin_said result.answer) }
 {
     begin_recovery(session, rows, target, RecoveryKind::Abort)
@@ -108,7 +109,7 @@ pub fn reset_endpoint_request(
     target: RequestId,
     preserve: bool,
 ) -> Begun
-    ensures step { result ≡ recover_of target (RecoveryKind.Reset preserve) session (store_in rows) }
+    ensures step { result ≡ recover_of target (RecoveryKind.Reset preserve) session (store_of rows.now) }
     ensures table { Tabled recover_numbers (begin_said result.answer) }
 {
     begin_recovery(session, rows, target, RecoveryKind::Reset(preserve))

@@ -6,13 +6,14 @@ ghost use Rattle.models.specs.Refusals.{refusal_of};
 ghost use Rattle.models.specs.Requests.{no_id};
 ghost use Rattle.models.specs.Said.{Tabled};
 ghost use Rattle.scope.specs.Scope.{meant};
-ghost use Rattle.session.specs.Lent.{rows_in, memory_in, memory_out};
+ghost use Rattle.session.specs.Lent.{memory_of};
 ghost use Rattle.recovery.specs.Entries.{itself};
 ghost use Rattle.recovery.specs.Places.{Below, Fit, Places, Agree};
 ghost use Rattle.recovery.specs.declared.RecoveryReply.TheVariants as RecoveryReply;
 ghost use Rattle.recovery.specs.Reports.{ids_of, id_lists, many_in, filled, with_ids};
-ghost use Rattle.recovery.specs.RecoveryReply.{reply_lists, lists_in, apply_all, is_whole, is_revision, matching, restored_by, reset_by, session_after, refused_after, abort_report, recovery_refused, concluded_by, settled_of, done_of, reply_by, reply_sized, recovery_reply_of};
+ghost use Rattle.recovery.specs.RecoveryReply.{reply_lists, apply_all, is_whole, is_revision, matching, restored_by, reset_by, session_after, refused_after, abort_report, recovery_refused, concluded_by, settled_of, done_of, reply_by, reply_sized, recovery_reply_of};
 ghost use Rattle.recovery.specs.Said.{recovery_said, recovery_reply_numbers};
+ghost use Rattle.rows.specs.Table.{read_rows};
 
 use crate::{
     AbortReport, Ids, Outcome, Recovered, RecoveryAnswer, RecoveryReply, Replied, entries,
@@ -98,7 +99,7 @@ fn restore(recovery: Recovery, certain: bool, session: Session) -> Session
 }
 
 fn reset(recovery: Recovery, rows: &[u64], session: Session) -> Session
-    ensures { result ≡ reset_by recovery.kind recovery (rows_in rows) session }
+    ensures { result ≡ reset_by recovery.kind recovery (read_rows rows.now) session }
 {
     let kind = recovery.kind;
     match kind {
@@ -112,7 +113,7 @@ fn reset(recovery: Recovery, rows: &[u64], session: Session) -> Session
 
 // The session after the entries: an error or not ready marks recovery.
 fn session_after(ended: Ended, rows: &[u64]) -> Session
-    ensures { result ≡ session_after ended (rows_in rows) }
+    ensures { result ≡ session_after ended (read_rows rows.now) }
 {
     let idle = ended.idle;
     let recovery = ended.recovery;
@@ -153,7 +154,7 @@ fn report_of(ended: Ended, completed: u64, aborted: u64) -> AbortReport
 }
 
 fn ids_of(rows: &[u64], places: &[usize]) -> [RequestId; 128]
-    ensures { result ≡ listed 128 no_id (ids_of (rows_in rows) places.now) }
+    ensures { result ≡ listed 128 no_id (ids_of (read_rows rows.now) places.now) }
 {
     let n = slices::least(places.len(), 128);
     let none = models::no_id();
@@ -178,8 +179,8 @@ fn apply_all(
 ) -> Verdict
     requires { (n ≤ length places.now) × Places size rows.old area.old (take n places.now)
         × Below rows.old (drop n places.now) × Agree (take n places.now) completions.now bytes.now }
-    ensures { after result (memory_out rows area) ≡ apply_all size itself (reply_lists (take n places.now)
-        completions.now (drop n places.now) bytes.now) (memory_in rows area) }
+    ensures { after result (memory_of rows.new area.new) ≡ apply_all size itself (reply_lists (take n places.now)
+        completions.now (drop n places.now) bytes.now) (memory_of rows.old area.old) }
 {
     let verdict = entries::complete_all(rows, area, size, &places[..n], completions, bytes);
     let Verdict::Pass = verdict else {
@@ -196,7 +197,7 @@ fn conclude(
     report: AbortReport,
     places: [usize; 128],
 ) -> Replied
-    ensures { result ≡ concluded_by verdict ended report places (rows_in rows) }
+    ensures { result ≡ concluded_by verdict ended report places (read_rows rows.now) }
 {
     let idle = ended.idle;
     match verdict {
@@ -224,9 +225,9 @@ fn settle(
     requires { Places ended.idle.size rows.old area.old affected.now
         × Agree tokens.now completions.now bytes.now
         × (length tokens.now + length aborted.now ≤ 128) }
-    ensures { after result (memory_out rows area)
+    ensures { after result (memory_of rows.new area.new)
         ≡ settled_of ended (meant affected.now own.now)
-        (lists_in tokens completions aborted bytes) (memory_in rows area) }
+        (reply_lists tokens.now completions.now aborted.now bytes.now) (memory_of rows.old area.old) }
 {
     let idle = ended.idle;
     let size = idle.size;
@@ -253,9 +254,9 @@ fn reply_affected(
     requires { Places ended.idle.size rows.old area.old affected.now
         × Agree tokens.now completions.now bytes.now
         × (length own.now ≤ 128) }
-    ensures { after result (memory_out rows area)
-        ≡ done_of ended affected.now own.now (lists_in tokens completions aborted bytes)
-        (memory_in rows area) }
+    ensures { after result (memory_of rows.new area.new)
+        ≡ done_of ended affected.now own.now (reply_lists tokens.now completions.now aborted.now bytes.now)
+        (memory_of rows.old area.old) }
 {
     let idle = ended.idle;
     let outcome = ended.outcome;
@@ -287,9 +288,9 @@ fn reply_done(
     bytes: &[u8],
 ) -> Replied
     requires { Fit ended.idle.size rows.old area.old × Agree tokens.now completions.now bytes.now }
-    ensures { after result (memory_out rows area)
-        ≡ reply_by (RecoveryReply.Done ended.outcome) ended.recovery (lists_in tokens completions aborted bytes)
-        ended.idle (memory_in rows area) }
+    ensures { after result (memory_of rows.new area.new)
+        ≡ reply_by (RecoveryReply.Done ended.outcome) ended.recovery (reply_lists tokens.now completions.now aborted.now bytes.now)
+        ended.idle (memory_of rows.old area.old) }
 {
     let recovery = ended.recovery;
     let device = recovery.device;
@@ -322,8 +323,8 @@ fn reply_to(
     bytes: &[u8],
 ) -> Replied
     requires { Fit idle.size rows.old area.old × Agree tokens.now completions.now bytes.now }
-    ensures { after result (memory_out rows area)
-        ≡ reply_by reply recovery (lists_in tokens completions aborted bytes) idle (memory_in rows area) }
+    ensures { after result (memory_of rows.new area.new)
+        ≡ reply_by reply recovery (reply_lists tokens.now completions.now aborted.now bytes.now) idle (memory_of rows.old area.old) }
 {
     match reply {
         RecoveryReply::Error(error) => {
@@ -352,8 +353,8 @@ fn reply_sized(
     aborted: &[u64],
     bytes: &[u8],
 ) -> Replied
-    ensures { after result (memory_out rows area)
-        ≡ reply_sized reply recovery (lists_in tokens completions aborted bytes) session (memory_in rows area) }
+    ensures { after result (memory_of rows.new area.new)
+        ≡ reply_sized reply recovery (reply_lists tokens.now completions.now aborted.now bytes.now) session (memory_of rows.old area.old) }
 {
     let size = session.size;
     if !sizes::memory_fits(size, rows.len(), area.len()) {
@@ -387,8 +388,8 @@ pub fn reply_by_places(
     aborted: &[u64],
     bytes: &[u8],
 ) -> Replied
-    ensures step { after result (memory_out rows area)
-        ≡ recovery_reply_of reply (lists_in tokens completions aborted bytes) session (memory_in rows area) }
+    ensures step { after result (memory_of rows.new area.new)
+        ≡ recovery_reply_of reply (reply_lists tokens.now completions.now aborted.now bytes.now) session (memory_of rows.old area.old) }
     ensures table { Tabled recovery_reply_numbers (recovery_said result.answer) }
 {
     let flight = session.in_flight;
@@ -413,7 +414,7 @@ pub fn reply_by_places(
 // The ids of the rows at the first n places, and at the next m.
 fn ids_at(rows: &[u64], places: [usize; 128], n: usize, m: usize) -> Ids
     requires { n + m ≤ 128 }
-    ensures { result ≡ id_lists (rows_in rows) (take n places) (take m (drop n places)) }
+    ensures { result ≡ id_lists (read_rows rows.now) (take n places) (take m (drop n places)) }
 {
     let end = n + m;
     let completed = ids_of(rows, &places[..n]);
@@ -424,7 +425,7 @@ fn ids_at(rows: &[u64], places: [usize; 128], n: usize, m: usize) -> Ids
 // Adds the ids of the rows at `places`; a refusal has none.
 fn fill(rows: &[u64], replied: Replied) -> Recovered
     requires { many_in replied.answer ≤ 128 }
-    ensures { result ≡ filled replied (rows_in rows) }
+    ensures { result ≡ filled replied (read_rows rows.now) }
 {
     let answer = replied.answer;
     let session = replied.session;
@@ -462,8 +463,8 @@ pub fn recovery_reply(
     aborted: &[u64],
     bytes: &[u8],
 ) -> Recovered
-    ensures step { after result (memory_out rows area)
-        ≡ with_ids (recovery_reply_of reply (lists_in tokens completions aborted bytes) session (memory_in rows area)) }
+    ensures step { after result (memory_of rows.new area.new)
+        ≡ with_ids (recovery_reply_of reply (reply_lists tokens.now completions.now aborted.now bytes.now) session (memory_of rows.old area.old)) }
     ensures table { Tabled recovery_reply_numbers (recovery_said result.answer) }
 {
     let replied = reply_by_places(

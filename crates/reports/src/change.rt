@@ -4,9 +4,9 @@ ghost use Rattle.std.specs.Prelude.{◌≡◌};
 ghost use Rattle.chain.specs.After.{after};
 ghost use Rattle.models.specs.Said.{Tabled};
 ghost use Rattle.rules.specs.declared.Change.TheVariants as Change;
-ghost use Rattle.session.specs.Lent.{store_in, store_out};
 ghost use Rattle.reports.specs.Change.{reported_by, change_of};
 ghost use Rattle.reports.specs.Said.{report_said, cancel_numbers, withdraw_numbers, reclaim_numbers};
+ghost use Rattle.rows.specs.Store.{store_of};
 
 use crate::{ReportAnswer, Reported, answers};
 use ledger::Applied;
@@ -27,7 +27,7 @@ fn reported(applied: Applied, session: Session) -> Reported
 }
 
 fn change_request(session: Session, rows: &mut [u64], id: RequestId, change: Change) -> Reported
-    ensures { after result (store_out rows) ≡ change_of id change session (store_in rows) }
+    ensures { after result (store_of rows.new) ≡ change_of id change session (store_of rows.old) }
 {
     let verdict = start::rows_ready(session, rows.len());
     match verdict {
@@ -40,7 +40,7 @@ fn change_request(session: Session, rows: &mut [u64], id: RequestId, change: Cha
 }
 
 pub fn logical_cancel_request(session: Session, rows: &mut [u64], id: RequestId) -> Reported
-    ensures step { after result (store_out rows) ≡ change_of id Change.LogicalCancel session (store_in rows) }
+    ensures step { after result (store_of rows.new) ≡ change_of id Change.LogicalCancel session (store_of rows.old) }
     ensures table { Tabled cancel_numbers (report_said result.answer) }
 {
     change_request(session, rows, id, Change::LogicalCancel)
@@ -48,14 +48,14 @@ pub fn logical_cancel_request(session: Session, rows: &mut [u64], id: RequestId)
 
 // Takes back a cancel of a request that is Pending. It looks at no controller state.
 pub fn withdraw_cancel_request(session: Session, rows: &mut [u64], id: RequestId) -> Reported
-    ensures step { after result (store_out rows) ≡ change_of id Change.WithdrawCancel session (store_in rows) }
+    ensures step { after result (store_of rows.new) ≡ change_of id Change.WithdrawCancel session (store_of rows.old) }
     ensures table { Tabled withdraw_numbers (report_said result.answer) }
 {
     change_request(session, rows, id, Change::WithdrawCancel)
 }
 
 pub fn timeout_request(session: Session, rows: &mut [u64], id: RequestId) -> Reported
-    ensures step { after result (store_out rows) ≡ change_of id Change.Timeout session (store_in rows) }
+    ensures step { after result (store_of rows.new) ≡ change_of id Change.Timeout session (store_of rows.old) }
     ensures table { Tabled cancel_numbers (report_said result.answer) }
 {
     change_request(session, rows, id, Change::Timeout)
@@ -63,7 +63,7 @@ pub fn timeout_request(session: Session, rows: &mut [u64], id: RequestId) -> Rep
 
 // The report is of the request as it was; its row is free.
 pub fn reclaim_request(session: Session, rows: &mut [u64], id: RequestId) -> Reported
-    ensures step { after result (store_out rows) ≡ change_of id Change.Reclaim session (store_in rows) }
+    ensures step { after result (store_of rows.new) ≡ change_of id Change.Reclaim session (store_of rows.old) }
     ensures table { Tabled reclaim_numbers (report_said result.answer) }
 {
     change_request(session, rows, id, Change::Reclaim)

@@ -2,11 +2,11 @@
 ghost use Rattle.std.specs.Prelude.{◌≡◌, length, cond, ◌+◌, ◌<◌, min};
 ghost use Rattle.chain.specs.Lists.{count};
 ghost use Rattle.rows.specs.Table.{read_rows, row_in};
-ghost use Rattle.session.specs.Lent.{rows_in, store_in};
 ghost use Rattle.reports.specs.declared.NextReport.TheVariants as NextReport;
 ghost use Rattle.reports.specs.Status.{is_submitting, shown_at, status_of, is_shown, comes_after, beats, report_at, better_at, best_from, next_of, shown_count, completed_length, completed_part, part_of, bytes_of, held_count_of, tally_of, held_bytes_of};
 ghost use Rattle.models.specs.Said.{Tabled};
 ghost use Rattle.reports.specs.Said.{report_said, next_said, tally_said, part_said, status_numbers, tally_numbers, part_number};
+ghost use Rattle.rows.specs.Store.{store_of};
 
 use crate::{HeldAnswer, NextReport, OptionId, Part, PartAnswer, ReportAnswer, Tally};
 use chain::Found;
@@ -29,7 +29,7 @@ pub(crate) fn is_submitting(flight: InFlight, id: RequestId) -> bool
 
 // The row of an id that has a report.
 fn find_shown(rows: &[u64], flight: InFlight, id: RequestId) -> Found
-    ensures { result ≡ shown_at flight id (rows_in rows) }
+    ensures { result ≡ shown_at flight id (read_rows rows.now) }
 {
     if is_submitting(flight, id) {
         return Found::Nothing;
@@ -39,7 +39,7 @@ fn find_shown(rows: &[u64], flight: InFlight, id: RequestId) -> Found
 
 // Refuses by 3 if the rows have not the session's size, as all here do; by 40 if no row has the id or its submission is in flight.
 pub fn request_status(session: Session, rows: &[u64], id: RequestId) -> ReportAnswer
-    ensures step { result ≡ status_of id session (store_in rows) }
+    ensures step { result ≡ status_of id session (store_of rows.now) }
     ensures table { Tabled status_numbers (report_said result) }
 {
     let flight = session.in_flight;
@@ -58,7 +58,7 @@ pub fn request_status(session: Session, rows: &[u64], id: RequestId) -> ReportAn
 // Row i is a request that has a report. Of a free row no id is read.
 pub(crate) fn is_shown(rows: &[u64], i: usize, flight: InFlight) -> bool
     requires { i < length (read_rows rows.now) }
-    ensures { result ≡ is_shown flight (row_in (rows_in rows) i) }
+    ensures { result ≡ is_shown flight (row_in (read_rows rows.now) i) }
 {
     if !columns::used_at(rows, i) {
         return false;
@@ -78,7 +78,7 @@ fn comes_after(after: OptionId, id: RequestId) -> bool
 }
 
 fn beats_best(rows: &[u64], best: Found, id: RequestId) -> bool
-    ensures { result ≡ beats (report_at best (rows_in rows)) id }
+    ensures { result ≡ beats (report_at best (read_rows rows.now)) id }
 {
     match best {
         Found::At(i) => {
@@ -92,7 +92,7 @@ fn beats_best(rows: &[u64], best: Found, id: RequestId) -> bool
 // The better of the best row so far and row i.
 fn better_of(rows: &[u64], best: Found, i: usize, flight: InFlight, after: OptionId) -> Found
     requires { i < length (read_rows rows.now) }
-    ensures { result ≡ better_at flight after (rows_in rows) best i }
+    ensures { result ≡ better_at flight after (read_rows rows.now) best i }
 {
     if !is_shown(rows, i, flight) {
         return best;
@@ -108,7 +108,7 @@ fn better_of(rows: &[u64], best: Found, i: usize, flight: InFlight, after: Optio
 
 // The report with the least id, or the least after an id. The row of a submission in flight is left out.
 pub fn request_reports(session: Session, rows: &[u64], after: OptionId) -> NextReport
-    ensures step { result ≡ next_of after session (store_in rows) }
+    ensures step { result ≡ next_of after session (store_of rows.now) }
     ensures table { Tabled tally_numbers (next_said result) }
 {
     let flight = session.in_flight;
@@ -121,7 +121,7 @@ pub fn request_reports(session: Session, rows: &[u64], after: OptionId) -> NextR
 
 // The best is kept by its place, and read whole at the end.
 fn best_of(rows: &[u64], flight: InFlight, after: OptionId) -> NextReport
-    ensures { result ≡ best_from flight after NextReport.None (rows_in rows) }
+    ensures { result ≡ best_from flight after NextReport.None (read_rows rows.now) }
 {
     let n = rows::count(rows);
     let mut best = Found::Nothing;
@@ -148,7 +148,7 @@ fn add_shown(total: u64, shown: bool) -> u64
 }
 
 fn count_shown(rows: &[u64], flight: InFlight) -> u64
-    ensures { result ≡ count (is_shown flight) (rows_in rows) }
+    ensures { result ≡ count (is_shown flight) (read_rows rows.now) }
 {
     let n = rows::count(rows);
     let mut total: u64 = 0;
@@ -163,7 +163,7 @@ fn count_shown(rows: &[u64], flight: InFlight) -> u64
 
 // How many requests have a report.
 pub fn count_reports(session: Session, rows: &[u64]) -> Tally
-    ensures step { result ≡ shown_count session (store_in rows) }
+    ensures step { result ≡ shown_count session (store_of rows.now) }
     ensures table { Tabled tally_numbers (tally_said result) }
 {
     let flight = session.in_flight;
@@ -196,7 +196,7 @@ fn cut(length: u64, room: u64) -> u64
 
 // Where the bytes of a request stand that is Completed now; an empty part of any other. Refuses by 40 as `request_status`.
 pub fn completed_part(session: Session, rows: &[u64], bytes: usize, id: RequestId) -> PartAnswer
-    ensures step { result ≡ completed_part id bytes session (store_in rows) }
+    ensures step { result ≡ completed_part id bytes session (store_of rows.now) }
     ensures table { Tabled status_numbers (part_said result) }
 {
     let flight = session.in_flight;
@@ -248,9 +248,9 @@ pub fn completed_bytes<'a>(
     number: &mut u16,
 ) -> &'a [u8]
     ensures part { result.now
-        ≡ bytes_of (completed_part id (length area.now) session (store_in rows)) area.now }
+        ≡ bytes_of (completed_part id (length area.now) session (store_of rows.now)) area.now }
     ensures refusal { number.new
-        ≡ part_number (completed_part id (length area.now) session (store_in rows)) }
+        ≡ part_number (completed_part id (length area.now) session (store_of rows.now)) }
 {
     let answer = completed_part(session, rows, area.len(), id);
     *number = number_of(answer);
@@ -262,7 +262,7 @@ pub fn completed_bytes<'a>(
 
 // How many rows the device holds.
 pub fn held_count(session: Session, rows: &[u64]) -> HeldAnswer
-    ensures step { result ≡ held_count_of session (store_in rows) }
+    ensures step { result ≡ held_count_of session (store_of rows.now) }
     ensures table { Tabled tally_numbers (tally_said (tally_of result)) }
 {
     let size = session.size;
@@ -284,7 +284,7 @@ pub fn tally_of(answer: HeldAnswer) -> Tally
 
 // The sum of their requested lengths.
 pub fn held_bytes(session: Session, rows: &[u64]) -> Tally
-    ensures step { result ≡ held_bytes_of session (store_in rows) }
+    ensures step { result ≡ held_bytes_of session (store_of rows.now) }
     ensures table { Tabled tally_numbers (tally_said result) }
 {
     let size = session.size;

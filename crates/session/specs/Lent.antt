@@ -1,10 +1,6 @@
--- What is lent to a call, as one value, and a contract's lent slices at the call's start and at its end. Assumes nothing.
+-- What is lent to a call, as one value. Assumes nothing.
 use Rattle.std.specs.Prelude.{ℕ, Bool, List, length}
-use Rattle.std.specs.Borrow.{Bor}
-use denote.Triple.Both.{Both}
-use Rattle.rows.specs.Table.{read_rows}
 use Rattle.rows.specs.Store.{Store, store_of}
-use Rattle.rows.specs.declared.{Row.Row}
 use Rattle.bus.specs.Tables.{Bus, bus_of}
 use Rattle.session.specs.Sizes.{rows_fit, bus_fits, memory_sizes, lent_sizes}
 use Rattle.session.specs.declared.{Size.Size}
@@ -38,33 +34,10 @@ tables_fit b = bus_fits (length b.words)
 abbrev pub lent_fits : Size → Lent → Bool
 lent_fits z l = lent_sizes z (length l.memory.store.words) (length l.memory.area) (length l.bus.words)
 
--- a slice of a contract
-abbrev pub Slice : Type 0
-Slice = Both (Bor (List ℕ)) (Bor (List ℕ))
+-- ---- of the words and bytes that a contract's slices have, at the call's start or at its end
 
-abbrev pub rows_in : Slice → List Row
-rows_in rows = read_rows rows.entry.now
+abbrev pub memory_of : List ℕ → List ℕ → Memory
+memory_of rows area = memory (store_of rows) area
 
-abbrev pub store_in : Slice → Store
-store_in rows = store_of rows.entry.now
-
-abbrev pub store_out : Slice → Store
-store_out rows = store_of rows.exit.now
-
-abbrev pub bus_in : Slice → Bus
-bus_in bus = bus_of bus.entry.now
-
-abbrev pub bus_out : Slice → Bus
-bus_out bus = bus_of bus.exit.now
-
-abbrev pub memory_in : Slice → Slice → Memory
-memory_in rows area = memory (store_in rows) area.entry.now
-
-abbrev pub memory_out : Slice → Slice → Memory
-memory_out rows area = memory (store_out rows) area.exit.now
-
-abbrev pub lent_in : Slice → Slice → Slice → Lent
-lent_in bus rows area = lent (bus_in bus) (memory_in rows area)
-
-abbrev pub lent_out : Slice → Slice → Slice → Lent
-lent_out bus rows area = lent (bus_out bus) (memory_out rows area)
+abbrev pub lent_of : List ℕ → List ℕ → List ℕ → Lent
+lent_of bus rows area = lent (bus_of bus) (memory_of rows area)

@@ -3,9 +3,11 @@ ghost use Rattle.std.specs.Prelude.{◌≡◌};
 ghost use Rattle.chain.specs.After.{after};
 ghost use Rattle.models.specs.Refusals.{refusal_of};
 ghost use Rattle.models.specs.Said.{Tabled, verdict_said};
-ghost use Rattle.session.specs.Lent.{memory, lent, store_in, store_out, bus_out, lent_in};
+ghost use Rattle.session.specs.Lent.{memory, lent, lent_of};
 ghost use Rattle.session.specs.Lifecycle.{call_refused, passed, ports_of, new_session, open_of, acquired_by, acquire_of, initialized_by, initialize_of, closed_session, closed_by, close_of};
 ghost use Rattle.session.specs.Said.{opened_said, open_numbers, acquire_numbers, initialize_numbers, close_numbers};
+ghost use Rattle.bus.specs.Tables.{bus_of};
+ghost use Rattle.rows.specs.Store.{store_of};
 
 use crate::{
     Called, InFlight, OptionStall, Session, Size, is_acquired, is_busy, is_closed, mark, raise,
@@ -94,8 +96,8 @@ fn new_session(o: Opening) -> Session
 
 // Opens a session on a store and a bus, whatever they held. Refuses by 3 if a size is wrong.
 pub fn open(o: Opening, rows: &mut [u64], area: &[u8], bus: &mut [u64]) -> Opened
-    ensures step { after result (lent (bus_out bus) (memory (store_out rows) area.now))
-        ≡ open_of o (lent_in bus rows area) }
+    ensures step { after result (lent (bus_of bus.new) (memory (store_of rows.new) area.now))
+        ≡ open_of o (lent_of bus.old rows.old area.now) }
     ensures table { Tabled open_numbers (opened_said result) }
 {
     let size = o.size;
@@ -187,7 +189,7 @@ fn closed_session(session: Session, fresh: u64) -> Session
 
 // What the backend's reply to close leaves: a refusal by 45 with a recovery mark, or a new ledger with every row free.
 fn closed(session: Session, rows: &mut [u64], fresh: u64, reply: OptionError) -> Called
-    ensures { after result (store_out rows) ≡ closed_by reply fresh session (store_in rows) }
+    ensures { after result (store_of rows.new) ≡ closed_by reply fresh session (store_of rows.old) }
 {
     match reply {
         OptionError::Some(error) => refused(mark(session), models::refuse_backend(45, error)),
@@ -200,7 +202,7 @@ fn closed(session: Session, rows: &mut [u64], fresh: u64, reply: OptionError) ->
 
 // Refuses by 1 and 3; passes unchanged if Closed; refuses by 52 without a fresh number; then goes by the reply.
 pub fn close(session: Session, rows: &mut [u64], fresh: OptionU64, reply: OptionError) -> Called
-    ensures step { after result (store_out rows) ≡ close_of fresh reply session (store_in rows) }
+    ensures step { after result (store_of rows.new) ≡ close_of fresh reply session (store_of rows.old) }
     ensures table { Tabled close_numbers (verdict_said result.answer) }
 {
     let state = session.state;

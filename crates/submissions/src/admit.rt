@@ -1,9 +1,10 @@
 // The admission of a submission: the session's start, its packets, a free row and its own fields, all before its device is looked at. Both
 // the submission and the question which port reading it lacks begin with it.
 ghost use Rattle.std.specs.Prelude.{true, ◌≡◌, length};
-ghost use Rattle.session.specs.Lent.{rows_in, lent_in};
+ghost use Rattle.session.specs.Lent.{lent_of};
 ghost use Rattle.session.specs.Sizes.{memory_sizes};
 ghost use Rattle.submissions.specs.Admit.{place_in, admit_prepared, admit_room, admit_packets, admit_of, admit_planned, admit_plan_room, admit_plan_of};
+ghost use Rattle.rows.specs.Table.{read_rows};
 
 use crate::begin;
 use chain::Found;
@@ -38,7 +39,7 @@ pub enum AdmittedPlan {
 // Refuses by 5 if no row is free or 128 are held.
 fn find_place(session: Session, rows: &[u64], area: &[u8]) -> Room
     requires { memory_sizes session.size (length rows.now) (length area.now) ≡ true }
-    ensures { result ≡ place_in session (rows_in rows) }
+    ensures { result ≡ place_in session (read_rows rows.now) }
 {
     let found = begin::find_room(rows);
     let Found::At(row) = found else {
@@ -70,7 +71,7 @@ fn admit_room(
     data_length: u64,
 ) -> Admitted
     requires { memory_sizes session.size (length rows.now) (length area.now) ≡ true }
-    ensures { result ≡ admit_room q data_length session (rows_in rows) }
+    ensures { result ≡ admit_room q data_length session (read_rows rows.now) }
 {
     let room = find_place(session, rows, area);
     match room {
@@ -90,7 +91,7 @@ fn admit_packets(
     packets: &[u64],
 ) -> Admitted
     requires { memory_sizes session.size (length rows.now) (length area.now) ≡ true }
-    ensures { result ≡ admit_packets packets.now given q data_length session (rows_in rows) }
+    ensures { result ≡ admit_packets packets.now given q data_length session (read_rows rows.now) }
 {
     let transfer_type = q.transfer_type;
     let verdict = packets::check_packets(given, packets, transfer_type, q.length);
@@ -111,7 +112,7 @@ pub(crate) fn admit(
     given: bool,
     packets: &[u64],
 ) -> Admitted
-    ensures { result ≡ admit_of packets.now given q data_length session (lent_in bus rows area) }
+    ensures { result ≡ admit_of packets.now given q data_length session (lent_of bus.now rows.now area.now) }
 {
     let verdict = start::lent_ready(session, rows.len(), area.len(), bus.len());
     match verdict {
@@ -141,7 +142,7 @@ fn admit_plan_room(
     data_length: u64,
 ) -> AdmittedPlan
     requires { memory_sizes session.size (length rows.now) (length area.now) ≡ true }
-    ensures { result ≡ admit_plan_room q data_length session (rows_in rows) }
+    ensures { result ≡ admit_plan_room q data_length session (read_rows rows.now) }
 {
     let room = find_place(session, rows, area);
     match room {
@@ -159,7 +160,7 @@ pub(crate) fn admit_plan(
     q: ControlPlan,
     data_length: u64,
 ) -> AdmittedPlan
-    ensures { result ≡ admit_plan_of q data_length session (lent_in bus rows area) }
+    ensures { result ≡ admit_plan_of q data_length session (lent_of bus.now rows.now area.now) }
 {
     let verdict = start::lent_ready(session, rows.len(), area.len(), bus.len());
     match verdict {

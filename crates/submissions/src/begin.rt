@@ -3,7 +3,7 @@
 ghost use Rattle.std.specs.Prelude.{◌≡◌, ◌+◌, ◌<◌, ◌≤◌, length};
 ghost use Rattle.chain.specs.After.{after};
 ghost use Rattle.rows.specs.Table.{read_rows};
-ghost use Rattle.session.specs.Lent.{rows_in, memory_in, memory_out, lent_in, lent_out};
+ghost use Rattle.session.specs.Lent.{lent_of, memory_of};
 ghost use Rattle.submissions.specs.Begin.{room_in, new_id, start_refused, write_of, draft, Placed, begin_of, target_of};
 
 use chain::Found;
@@ -43,7 +43,7 @@ pub(crate) fn start_refused(session: Session, refusal: Refusal) -> Started
 
 // The first row without a request; Nothing if there is none or 128 are held.
 pub(crate) fn find_room(rows: &[u64]) -> Found
-    ensures { result ≡ room_in (rows_in rows) }
+    ensures { result ≡ room_in (read_rows rows.now) }
 {
     if tally::held_count(rows) >= HELD_MOST {
         return Found::Nothing;
@@ -88,8 +88,8 @@ fn begin(
     requires { (place.row < length (read_rows rows.old))
         × (place.start + metadata.requested_length ≤ length area.old)
         × (place.start + length bytes.now ≤ length area.old) }
-    ensures { after result (memory_out rows area)
-        ≡ begin_of (draft place metadata bytes.now) session (memory_in rows area) }
+    ensures { after result (memory_of rows.new area.new)
+        ≡ begin_of (draft place metadata bytes.now) session (memory_of rows.old area.old) }
 {
     let spent = rules::spend_sequence(session.next_sequence);
     match spent {
@@ -119,8 +119,8 @@ pub(crate) fn begin_target(
     readings: Readings,
 ) -> Started
     requires { Placed (draft place metadata bytes.now) bus.old rows.old area.old }
-    ensures { after result (lent_out bus rows area)
-        ≡ target_of (draft place metadata bytes.now) readings session (lent_in bus rows area) }
+    ensures { after result (lent_of bus.new rows.new area.new)
+        ≡ target_of (draft place metadata bytes.now) readings session (lent_of bus.old rows.old area.old) }
 {
     let state = session.state;
     let ports = session.ports;

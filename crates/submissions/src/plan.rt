@@ -2,7 +2,7 @@
 ghost use Rattle.std.specs.Prelude.{◌≡◌};
 ghost use Rattle.chain.specs.After.{after};
 ghost use Rattle.models.specs.Said.{Tabled};
-ghost use Rattle.session.specs.Lent.{lent_in, lent_out};
+ghost use Rattle.session.specs.Lent.{lent_of};
 ghost use Rattle.submissions.specs.Begin.{draft, Placed};
 ghost use Rattle.submissions.specs.Said.{plan_said, submit_plan_numbers};
 ghost use Rattle.submissions.specs.Plan.{plan_refused, plan_started, plan_target, submit_plan_of};
@@ -51,8 +51,8 @@ fn plan_target(
     first: PortReading,
 ) -> PlanSubmitted
     requires { Placed (draft place p.metadata bytes.now) bus.old rows.old area.old }
-    ensures { after result (lent_out bus rows area)
-        ≡ plan_target place p bytes.now first session (lent_in bus rows area) }
+    ensures { after result (lent_of bus.new rows.new area.new)
+        ≡ plan_target place p bytes.now first session (lent_of bus.old rows.old area.old) }
 {
     let metadata = p.metadata;
     let readings = Readings {
@@ -74,8 +74,8 @@ pub fn submit_control_plan(
     bytes: &[u8],
     first: PortReading,
 ) -> PlanSubmitted
-    ensures step { after result (lent_out bus rows area)
-        ≡ submit_plan_of q bytes.now first session (lent_in bus rows area) }
+    ensures step { after result (lent_of bus.new rows.new area.new)
+        ≡ submit_plan_of q bytes.now first session (lent_of bus.old rows.old area.old) }
     ensures table { Tabled submit_plan_numbers (plan_said result.answer) }
 {
     let admitted = admit::admit_plan(session, bus, rows, area, q, bytes.len() as u64);

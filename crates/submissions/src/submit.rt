@@ -2,7 +2,7 @@
 ghost use Rattle.std.specs.Prelude.{◌≡◌};
 ghost use Rattle.chain.specs.After.{after};
 ghost use Rattle.models.specs.Said.{Tabled};
-ghost use Rattle.session.specs.Lent.{lent_in, lent_out};
+ghost use Rattle.session.specs.Lent.{lent_of};
 ghost use Rattle.submissions.specs.Begin.{draft, Placed};
 ghost use Rattle.submissions.specs.Said.{submit_said, submit_numbers};
 ghost use Rattle.submissions.specs.Submit.{request, submit_refused, submitted_by, submit_target, submit_of};
@@ -56,8 +56,8 @@ fn submit_target(
     readings: Readings,
 ) -> Submitted
     requires { Placed (draft place metadata bytes.now) bus.old rows.old area.old }
-    ensures { after result (lent_out bus rows area)
-        ≡ submit_target (draft place metadata bytes.now) given readings session (lent_in bus rows area) }
+    ensures { after result (lent_of bus.new rows.new area.new)
+        ≡ submit_target (draft place metadata bytes.now) given readings session (lent_of bus.old rows.old area.old) }
 {
     let started = begin::begin_target(session, bus, rows, area, place, metadata, bytes, readings);
     submitted(started, metadata, given)
@@ -76,8 +76,8 @@ pub fn submit_request_packets(
     packets: &[u64],
     readings: Readings,
 ) -> Submitted
-    ensures step { after result (lent_out bus rows area)
-        ≡ submit_of packets.now (request q bytes.now given readings) session (lent_in bus rows area) }
+    ensures step { after result (lent_of bus.new rows.new area.new)
+        ≡ submit_of packets.now (request q bytes.now given readings) session (lent_of bus.old rows.old area.old) }
     ensures table { Tabled submit_numbers (submit_said result.answer) }
 {
     let admitted = admit::admit(

@@ -2,10 +2,10 @@
 ghost use Rattle.std.specs.Prelude.{◌≡◌};
 ghost use Rattle.chain.specs.After.{after};
 ghost use Rattle.models.specs.Said.{Tabled};
-ghost use Rattle.session.specs.Lent.{store_in, store_out};
 ghost use Rattle.reports.specs.Said.{report_said};
 ghost use Rattle.submissions.specs.Said.{submit_reply_numbers};
 ghost use Rattle.submissions.specs.SubmitReply.{accepted_by, discarded_by, submit_reply_by, submit_reply_of};
+ghost use Rattle.rows.specs.Store.{store_of};
 
 use crate::SubmitReply;
 use ledger::Applied;
@@ -41,7 +41,7 @@ fn discarded(applied: Applied, error: OperationError, session: Session) -> Repor
 }
 
 fn reply_to(session: Session, rows: &mut [u64], id: RequestId, reply: SubmitReply) -> Reported
-    ensures { after result (store_out rows) ≡ submit_reply_by reply id session (store_in rows) }
+    ensures { after result (store_of rows.new) ≡ submit_reply_by reply id session (store_of rows.old) }
 {
     match reply {
         SubmitReply::Token(token) => {
@@ -58,7 +58,7 @@ fn reply_to(session: Session, rows: &mut [u64], id: RequestId, reply: SubmitRepl
 // Ends the submission in flight by the backend's reply. Refuses by 2 if none is in flight, by 3 if the rows have not the session's size, by 2
 // if no row has the id, by 45 if the backend refused.
 pub fn submit_reply(session: Session, rows: &mut [u64], reply: SubmitReply) -> Reported
-    ensures step { after result (store_out rows) ≡ submit_reply_of reply session (store_in rows) }
+    ensures step { after result (store_of rows.new) ≡ submit_reply_of reply session (store_of rows.old) }
     ensures table { Tabled submit_reply_numbers (report_said result.answer) }
 {
     let flight = session.in_flight;

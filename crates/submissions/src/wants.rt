@@ -1,9 +1,10 @@
 // Which port reading a submission lacks, given those that it has. Nothing is written; a submission that is refused earlier lacks none.
 ghost use Rattle.std.specs.Prelude.{◌≡◌, length};
 ghost use Rattle.bus.specs.Layout.{bus_words};
-ghost use Rattle.session.specs.Lent.{bus_in, lent_in};
+ghost use Rattle.session.specs.Lent.{lent_of};
 ghost use Rattle.submissions.specs.Submit.{request};
 ghost use Rattle.submissions.specs.Wants.{target_wants, submit_wants, plan_wants};
+ghost use Rattle.bus.specs.Tables.{bus_of};
 
 use crate::admit;
 use crate::admit::{Admitted, AdmittedPlan};
@@ -20,7 +21,7 @@ fn target_wants(
     readings: Readings,
 ) -> Wanted
     requires { length bus.now ≡ bus_words }
-    ensures { result ≡ target_wants metadata readings session (bus_in bus) }
+    ensures { result ≡ target_wants metadata readings session (bus_of bus.now) }
 {
     let state = session.state;
     let ports = session.ports;
@@ -41,7 +42,7 @@ pub fn submit_wants(
     readings: Readings,
 ) -> Wanted
     ensures { result ≡ submit_wants packets.now (request q bytes.now given readings) session
-        (lent_in bus rows area) }
+        (lent_of bus.now rows.now area.now) }
 {
     let admitted = admit::admit(
         session,
@@ -69,7 +70,7 @@ pub fn plan_wants(
     bytes: &[u8],
     first: PortReading,
 ) -> Wanted
-    ensures { result ≡ plan_wants q bytes.now first session (lent_in bus rows area) }
+    ensures { result ≡ plan_wants q bytes.now first session (lent_of bus.now rows.now area.now) }
 {
     let admitted = admit::admit_plan(session, bus, rows, area, q, bytes.len() as u64);
     match admitted {

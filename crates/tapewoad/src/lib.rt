@@ -4,10 +4,10 @@
 ghost use Rattle.std.specs.Prelude.{◌≡◌};
 ghost use Rattle.chain.specs.After.{after};
 ghost use Rattle.dispatch.specs.Apply.{dispatch_of};
-ghost use Rattle.session.specs.Lent.{lent_in};
+ghost use Rattle.session.specs.Lent.{lent_of};
 ghost use Rattle.session_words.specs.State.{kept_of};
 ghost use Rattle.dispatch.specs.Read.{reading_of};
-ghost use Rattle.dispatch.specs.Slices.{buffers_in, buffers_out};
+ghost use Rattle.dispatch.specs.Slices.{buffers_of};
 ghost use Rattle.tapewoad.specs.Version.{version};
 
 // Makes the call that the words say. Answers a status; unless it is 0, nothing changes.
@@ -22,8 +22,8 @@ pub extern "C" fn tapewoad_apply(
     out: &mut [u64],
     lists: &mut [u64],
 ) -> u64
-    ensures { after result (buffers_out session bus rows area out lists)
-        ≡ dispatch_of call.now bytes.now (buffers_in session bus rows area out lists) }
+    ensures { after result (buffers_of session.new bus.new rows.new area.new out.new lists.new)
+        ≡ dispatch_of call.now bytes.now (buffers_of session.old bus.old rows.old area.old out.old lists.old) }
 {
     dispatch::apply(session, bus, rows, area, call, bytes, out, lists)
 }
@@ -40,7 +40,7 @@ pub extern "C" fn tapewoad_read(
     out: &mut [u64],
 ) -> u64
     ensures { after result out.new ≡ reading_of call.now bytes.now
-        (kept_of session.now) (lent_in bus rows area) out.old }
+        (kept_of session.now) (lent_of bus.now rows.now area.now) out.old }
 {
     dispatch::read::read(session, bus, rows, area, call, bytes, out)
 }

@@ -1,0 +1,6 @@
+use Rattle.ledger.proofs.tally.Laws.{bytes_kept, bytes_more}
+use borrow.Author.Rules.{rules}
+use Rattle.ledger.proofs.tally.add_held.Goals as goal
+
+pub returns-then-not-held_at : goal.returns-then-not-held_at
+returns-then-not-held_at c = search (bytes_kept 64)

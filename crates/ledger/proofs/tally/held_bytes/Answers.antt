@@ -1,0 +1,16 @@
+use borrow.Author.Rules.{rules}
+use Prim.Native.Nat.{◌-◌}
+use Rattle.rows.specs.Table.{read_rows}
+use Rattle.ledger.specs.Tally.{held_bytes, held_length}
+use Rattle.ledger.proofs.tally.Laws.{Tallied, tally_start, tally_on, tally_end}
+use Rattle.ledger.proofs.tally.held_bytes.Goals as goal
+
+pub loop-i-init : goal.loop-i-init
+loop-i-init c = (search rules, search rules, tally_start 64)
+
+pub loop-i-preserved : goal.loop-i-preserved
+loop-i-preserved c = (search rules, search rules, search (tally_on 64 held_length))
+
+pub returns : goal.returns
+unfolding held_bytes
+returns c = search (tally_end 64 held_length)

@@ -1,0 +1,6 @@
+use borrow.Author.Rules.{rules}
+use Rattle.targets.proofs.target.Laws.{fresh_is}
+use Rattle.targets.proofs.target.fresh_device.Goals as goal
+
+pub returns : goal.returns
+returns c = search fresh_is
