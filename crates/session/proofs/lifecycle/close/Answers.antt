@@ -1,0 +1,33 @@
+use Rattle.session.proofs.Outcomes.{close_stop, close_closed, close_none, close_on}
+use Rattle.rows.specs.Store.{store_of}
+use Rattle.session.proofs.Said.{close_said}
+use borrow.Author.Rules.{rules}
+use Rattle.session.proofs.lifecycle.close.Goals as goal
+
+pub returns-then-is_closed-clause-step : goal.returns-then-is_closed-clause-step
+unfolding store_of
+returns-then-is_closed-clause-step c = search close_closed
+
+pub returns-then-is_closed-clause-table : goal.returns-then-is_closed-clause-table
+returns-then-is_closed-clause-table c = (close_said _ _ _ _ _ _ (returns-then-is_closed-clause-step c)).1
+
+pub returns-in_default-clause-step : goal.returns-in_default-clause-step
+unfolding store_of
+returns-in_default-clause-step c = search close_none
+
+pub returns-in_default-clause-table : goal.returns-in_default-clause-table
+returns-in_default-clause-table c = (close_said _ _ _ _ _ _ (returns-in_default-clause-step c)).1
+
+pub returns-in-Refused-clause-step : goal.returns-in-Refused-clause-step
+unfolding store_of
+returns-in-Refused-clause-step c = search close_stop
+
+pub returns-in-Refused-clause-table : goal.returns-in-Refused-clause-table
+returns-in-Refused-clause-table c = (close_said _ _ _ _ _ _ (returns-in-Refused-clause-step c)).1
+
+pub returns-in-Some-clause-step : goal.returns-in-Some-clause-step
+unfolding store_of
+returns-in-Some-clause-step c = search close_on
+
+pub returns-in-Some-clause-table : goal.returns-in-Some-clause-table
+returns-in-Some-clause-table c = (close_said _ _ _ _ _ _ (returns-in-Some-clause-step c)).1

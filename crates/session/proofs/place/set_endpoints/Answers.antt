@@ -1,0 +1,25 @@
+use Rattle.session.proofs.Outcomes.{place_stop, place_on}
+use Rattle.session.proofs.start.Laws.{bus_fits_lem}
+use Rattle.session.specs.Place.{set_endpoints_of}
+use Rattle.bus.specs.Tables.{bus_of}
+use Rattle.session.proofs.Said.{placed_said_lem, set_endpoints_call_tabled}
+use Rattle.session.specs.Said.{set_endpoints_numbers}
+use borrow.Author.Rules.{rules}
+use Rattle.session.proofs.place.set_endpoints.Goals as goal
+
+pub returns-in_default-clause-step : goal.returns-in_default-clause-step
+unfolding set_endpoints_of bus_of
+returns-in_default-clause-step c = search place_stop
+
+pub returns-in_default-clause-table : goal.returns-in_default-clause-table
+returns-in_default-clause-table c = (placed_said_lem set_endpoints_numbers _ _ _ (returns-in_default-clause-step c) (set_endpoints_call_tabled _ _ _ _)).1
+
+pub set_endpoints-requires : goal.set_endpoints-requires
+set_endpoints-requires c = search bus_fits_lem
+
+pub returns-clause-step : goal.returns-clause-step
+unfolding set_endpoints_of bus_of
+returns-clause-step c = search place_on
+
+pub returns-clause-table : goal.returns-clause-table
+returns-clause-table c = (placed_said_lem set_endpoints_numbers _ _ _ (returns-clause-step c) (set_endpoints_call_tabled _ _ _ _)).1

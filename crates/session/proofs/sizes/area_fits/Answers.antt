@@ -1,0 +1,12 @@
+use Rattle.session.proofs.sizes.Laws.{unfit, fit_last, area_small}
+use Rattle.session.specs.Sizes.{area_fits}
+use borrow.Author.Rules.{rules}
+use Rattle.session.proofs.sizes.area_fits.Goals as goal
+
+pub returns-then-not-is_sized : goal.returns-then-not-is_sized
+unfolding area_fits
+returns-then-not-is_sized c = search unfit
+
+pub returns : goal.returns
+unfolding area_fits
+returns c = search fit_last
