@@ -1,5 +1,5 @@
-// A reader: a paper and a position in it. The borrow checker covers no function over such a struct, so each is thin and proved by hand; the work is
-// `events::event_at`, which takes a plain slice. Who has a paper and a position and no reader calls `read`.
+// A reader: a paper and a position in it. The work is `events::event_at`, which takes a plain slice. Who has a paper and a position and no reader
+// calls `read`.
 ghost use Rattle.std.specs.Prelude.{◌≡◌};
 ghost use Rattle.paper.specs.Events.{event_at};
 

@@ -1,0 +1,11 @@
+use mathlib.Core.Path.{refl}
+use Rattle.reports.specs.Said.{reclaim_numbers}
+use Rattle.reports.proofs.Said.{change_said}
+use borrow.Author.Rules.{rules}
+use Rattle.reports.proofs.change.reclaim_request.Goals as goal
+
+pub returns-clause-step : goal.returns-clause-step
+returns-clause-step c = search rules
+
+pub returns-clause-table : goal.returns-clause-table
+returns-clause-table c = (change_said reclaim_numbers _ refl _ _ _ _ _ (returns-clause-step c)).1

@@ -1,0 +1,19 @@
+use Rattle.reports.proofs.status.Laws.{bytes_unfit, bytes_on}
+use Rattle.rows.specs.Store.{store_of}
+use Rattle.reports.proofs.Said.{held_bytes_said}
+use borrow.Author.Rules.{rules}
+use Rattle.reports.proofs.status.held_bytes.Goals as goal
+
+pub returns-then-not-rows_fit-clause-step : goal.returns-then-not-rows_fit-clause-step
+unfolding store_of
+returns-then-not-rows_fit-clause-step c = search bytes_unfit
+
+pub returns-then-not-rows_fit-clause-table : goal.returns-then-not-rows_fit-clause-table
+returns-then-not-rows_fit-clause-table c = (held_bytes_said _ _ _ (returns-then-not-rows_fit-clause-step c)).1
+
+pub returns-clause-step : goal.returns-clause-step
+unfolding store_of
+returns-clause-step c = search bytes_on
+
+pub returns-clause-table : goal.returns-clause-table
+returns-clause-table c = (held_bytes_said _ _ _ (returns-clause-step c)).1
