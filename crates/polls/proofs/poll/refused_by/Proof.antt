@@ -1,9 +1,0 @@
-use borrow.Author.Rules.{rules}
-use Rattle.polls.proofs.poll.refused_by.Statement.{statement}
-use Rattle.polls.proofs.poll.refused_by.Tie as tie
-
-returns : tie.Need-returns
-returns c = rw (c.refused.ensures, c.before.refuse.ensures)
-
-pub refused_by_spec : {M : Type 1} → statement M
-refused_by_spec = tie.close (tie.spec (λ c κs. search rules) (λ c κs. search rules) returns)

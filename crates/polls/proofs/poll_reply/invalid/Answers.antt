@@ -1,0 +1,6 @@
+use Rattle.polls.proofs.poll_reply.Laws.{invalid_is}
+use borrow.Author.Rules.{rules}
+use Rattle.polls.proofs.poll_reply.invalid.Goals as goal
+
+pub returns : goal.returns
+returns c = search invalid_is

@@ -1,0 +1,10 @@
+use borrow.Author.Rules.{rules}
+use Prim.Native.Nat.{◌-◌}
+use Rattle.recovery.proofs.entries.Laws.{place_below, Aborting, abort_on, abort_stop, abort_end}
+use Rattle.recovery.proofs.entries.abort_all.Given as goal
+
+abbrev pub invariant-loop-j : goal.invariant-loop-j
+invariant-loop-j l = Aborting l.places l.initial.rows l.n l.rows l.j
+
+abbrev pub decreases-loop-j : goal.decreases-loop-j
+decreases-loop-j l = l.n - l.j

@@ -1,0 +1,8 @@
+use native.Mathlib.Omega.{arith}
+use lib.ListN.{length-take}
+use borrow.Author.Rules.{rules}
+use Rattle.recovery.proofs.recover.Laws.{begun_is}
+use Rattle.recovery.proofs.recover.begin.Goals as goal
+
+pub returns : goal.returns
+returns c = search begun_is

@@ -1,0 +1,12 @@
+use borrow.Author.Rules.{rules}
+use Prim.Native.Nat.{◌-◌}
+use Rattle.chain.proofs.Listed.{Listing, list_on, list_start, list_end}
+use Rattle.rows.specs.Table.{read_rows, id_in}
+use Rattle.models.specs.Requests.{no_id}
+use Rattle.recovery.proofs.recovery_reply.ids_of.Given as goal
+
+abbrev pub invariant-loop-k : goal.invariant-loop-k
+invariant-loop-k l = Listing 128 no_id (id_in (read_rows l.rows)) l.places l.n l.ids l.k
+
+abbrev pub decreases-loop-k : goal.decreases-loop-k
+decreases-loop-k l = l.n - l.k

@@ -1,0 +1,6 @@
+use Rattle.session_words.proofs.fields.Laws.{flight_id_is}
+use borrow.Author.Rules.{rules}
+use Rattle.session_words.proofs.fields.flight_id.Goals as goal
+
+pub returns : goal.returns
+returns c = search flight_id_is

@@ -1,0 +1,6 @@
+use Rattle.session_words.proofs.Own.{session_own}
+use borrow.Author.Rules.{rules}
+use Rattle.session_words.proofs.state.is_session.Goals as goal
+
+pub returns : goal.returns
+returns c = search session_own
