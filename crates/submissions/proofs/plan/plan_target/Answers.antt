@@ -1,0 +1,6 @@
+use Rattle.submissions.proofs.plan.Laws.{plan_target_is}
+use borrow.Author.Rules.{rules}
+use Rattle.submissions.proofs.plan.plan_target.Goals as goal
+
+pub returns : goal.returns
+returns c = search plan_target_is
