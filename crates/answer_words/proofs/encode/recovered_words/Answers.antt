@@ -1,0 +1,6 @@
+use Rattle.answer_words.proofs.encode.Laws.{recovered_exact}
+use borrow.Author.Rules.{rules}
+use Rattle.answer_words.proofs.encode.recovered_words.Goals as goal
+
+pub returns : goal.returns
+returns c = search recovered_exact

@@ -1,0 +1,6 @@
+use Rattle.answer_words.proofs.encode.Laws.{recovering_exact}
+use borrow.Author.Rules.{rules}
+use Rattle.answer_words.proofs.encode.recovering_words.Goals as goal
+
+pub returns : goal.returns
+returns c = search recovering_exact

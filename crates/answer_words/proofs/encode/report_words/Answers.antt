@@ -1,0 +1,6 @@
+use Rattle.answer_words.proofs.encode.Laws.{report_exact}
+use borrow.Author.Rules.{rules}
+use Rattle.answer_words.proofs.encode.report_words.Goals as goal
+
+pub returns : goal.returns
+returns c = search report_exact

@@ -1,0 +1,6 @@
+use Rattle.call_words.proofs.Parts.{aborted_is}
+use borrow.Author.Rules.{rules}
+use Rattle.call_words.proofs.arguments.aborted.Goals as goal
+
+pub returns : goal.returns
+returns c = search aborted_is

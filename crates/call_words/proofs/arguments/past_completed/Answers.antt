@@ -1,0 +1,6 @@
+use Rattle.call_words.proofs.Parts.{past_is}
+use borrow.Author.Rules.{rules}
+use Rattle.call_words.proofs.arguments.past_completed.Goals as goal
+
+pub returns : goal.returns
+returns c = search past_is

@@ -1,0 +1,6 @@
+use borrow.Author.Rules.{rules}
+use Rattle.call_words.proofs.arguments.Laws.{spec_read}
+use Rattle.call_words.proofs.arguments.spec.Goals as goal
+
+pub returns : goal.returns
+returns c = search spec_read

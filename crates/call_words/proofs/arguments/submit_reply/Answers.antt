@@ -1,0 +1,12 @@
+use borrow.Author.Rules.{rules}
+use Rattle.models.proofs.values.Laws.{tagged, untagged}
+use Rattle.call_words.specs.Arguments.{read_submit_reply}
+use Rattle.call_words.proofs.arguments.submit_reply.Goals as goal
+
+pub returns-then-word_at-eq0 : goal.returns-then-word_at-eq0
+unfolding read_submit_reply
+returns-then-word_at-eq0 c = search tagged
+
+pub returns : goal.returns
+unfolding read_submit_reply
+returns c = search untagged
