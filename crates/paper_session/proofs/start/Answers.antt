@@ -1,0 +1,6 @@
+use Rattle.paper_session.proofs.Laws.{started}
+use borrow.Author.Rules.{rules}
+use Rattle.paper_session.proofs.start.Goals as goal
+
+pub returns : goal.returns
+returns c = search started
