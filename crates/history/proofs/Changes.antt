@@ -1,6 +1,6 @@
 -- The changes of one row and its entry; a new row; an emptied store. Assumes nothing.
 use Prim.Native.Nat.{ℕ, zero, suc, ◌+◌, ◌≤◌, ◌<◌}
-use mathlib.Core.Path.{◌≡◌, refl, sym, ap, ◌∙◌}
+use mathlib.Core.Path.{◌≡◌, subst, refl, sym, ap, ◌∙◌}
 use mathlib.Core.Bool.{Bool, true, false, cond, ◌&&◌, false≢true}
 use mathlib.Core.List.{List, [], ◌∷◌}
 use native.Mathlib.Nat.{le_refl}
@@ -187,7 +187,8 @@ module _ (rows : List Row) (entries : List Entry) (k : Led rows entries) (x : Re
     same = λ w. omega (arith, weight_new w, begun_weight w, k.same w);
     known = λ y. omega (arith, count_new y, k.known y);
     once = λ y. caseB (same_request x y)
-        (λ e. let q = same_request_lem x y e in rw (e, ← q) (omega (arith, new)))
+        (λ e. let n : count (is_entry y) entries ≡ 0 = subst (λ (z : RequestId). count (is_entry z) entries ≡ 0) (same_request_lem x y e) new in
+            rw e (omega (arith, n)))
         (λ e. rw e (omega (arith, k.once y)));
     single = omega (arith, k.single);
   }
