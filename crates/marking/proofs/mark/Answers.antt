@@ -1,0 +1,9 @@
+use Rattle.marking.proofs.Laws.{damaged_marks, calls_mark}
+use borrow.Author.Rules.{rules}
+use Rattle.marking.proofs.mark.Goals as goal
+
+pub returns-then-is_damaged : goal.returns-then-is_damaged
+returns-then-is_damaged c = search damaged_marks
+
+pub returns : goal.returns
+returns c = search calls_mark
