@@ -1,6 +1,8 @@
 // Names and numbers, written to any writer: the programs pass the standard output.
-ghost use Rattle.std.specs.Prelude.{OnOk};
+ghost use Rattle.std.specs.Prelude.{◌∷◌, OnOk};
+ghost use Rattle.std.specs.Fmt.{decimal};
 ghost use Rattle.std.specs.Io.KnownBytes.{Appends};
+ghost use Rattle.texts.specs.Lines.{line_text, words_between};
 
 use std::io;
 use std::io::Write;
@@ -13,7 +15,9 @@ pub fn text<W: Write>(out: &mut W, s: &[u8]) -> io::Result<()>
 }
 
 // After a space.
-pub fn number<W: Write>(out: &mut W, n: u64) -> io::Result<()> {
+pub fn number<W: Write>(out: &mut W, n: u64) -> io::Result<()>
+    ensures { OnOk result (Appends (W.contents out.old) (W.contents out.new) (32 ∷ decimal n)) }
+{
     write!(out, " {n}")
 }
 
@@ -30,7 +34,9 @@ pub fn words<W: Write>(
     w: &[u64],
     from: usize,
     to: usize,
-) -> io::Result<()> {
+) -> io::Result<()>
+    ensures { OnOk result (Appends (W.contents out.old) (W.contents out.new) (line_text name.now (words_between w.now from to))) }
+{
     text(out, name)?;
     for i in from..to {
         number(out, word_at(w, i))?;
@@ -39,7 +45,9 @@ pub fn words<W: Write>(
 }
 
 // A line: a name, and bytes.
-pub fn bytes<W: Write>(out: &mut W, name: &[u8], b: &[u8]) -> io::Result<()> {
+pub fn bytes<W: Write>(out: &mut W, name: &[u8], b: &[u8]) -> io::Result<()>
+    ensures { OnOk result (Appends (W.contents out.old) (W.contents out.new) (line_text name.now b.now)) }
+{
     text(out, name)?;
     for byte in b {
         number(out, u64::from(*byte))?;
