@@ -8,20 +8,22 @@ use models::SetupPacket;
 use standards::PortStatus;
 use standards::ports::port_status;
 use standards::setup::{same_setup, setup_bytes};
+use std::io;
+use std::io::Write;
 use texts::print::{hex, hex_bytes, number, text};
 use words::{OptionI32, option_i32_word, to_option_i32};
 
-fn print_verdict(right: bool) {
+fn print_verdict<W: Write>(out: &mut W, right: bool) -> io::Result<()> {
     if right {
-        text(b" ok\n");
+        text(out, b" ok\n")
     } else {
-        text(b" WRONG\n");
+        text(out, b" WRONG\n")
     }
 }
 
-fn print_number(name: &[u8], n: u64) {
-    text(name);
-    number(n);
+fn print_number<W: Write>(out: &mut W, name: &[u8], n: u64) -> io::Result<()> {
+    text(out, name)?;
+    number(out, n)
 }
 
 fn packet(request_type: u8, request: u8, value: u16, index: u16, length: u16) -> SetupPacket {
@@ -34,50 +36,62 @@ fn packet(request_type: u8, request: u8, value: u16, index: u16, length: u16) ->
     }
 }
 
-fn setup_case(name: &[u8], packet: SetupPacket, expected: &[u8; 8]) {
+fn setup_case<W: Write>(
+    out: &mut W,
+    name: &[u8],
+    packet: SetupPacket,
+    expected: &[u8; 8],
+) -> io::Result<()> {
     let bytes = setup_bytes(packet);
-    text(name);
-    hex_bytes(&bytes);
-    print_verdict(same_setup(&bytes, expected));
+    text(out, name)?;
+    hex_bytes(out, &bytes)?;
+    print_verdict(out, same_setup(&bytes, expected))
 }
 
 // USB 2.0, tables 9-3 to 9-6.
-fn setup_cases() {
+fn setup_cases<W: Write>(out: &mut W) -> io::Result<()> {
     setup_case(
+        out,
         b"GET_DESCRIPTOR(device)",
         packet(0x80, 6, 0x0100, 0, 18),
         b"\x80\x06\x00\x01\x00\x00\x12\x00",
-    );
+    )?;
     setup_case(
+        out,
         b"GET_DESCRIPTOR(configuration)",
         packet(0x80, 6, 0x0200, 0, 512),
         b"\x80\x06\x00\x02\x00\x00\x00\x02",
-    );
+    )?;
     setup_case(
+        out,
         b"SET_ADDRESS(5)",
         packet(0, 5, 5, 0, 0),
         b"\x00\x05\x05\x00\x00\x00\x00\x00",
-    );
+    )?;
     setup_case(
+        out,
         b"SET_CONFIGURATION(1)",
         packet(0, 9, 1, 0, 0),
         b"\x00\x09\x01\x00\x00\x00\x00\x00",
-    );
+    )?;
     setup_case(
+        out,
         b"SET_INTERFACE(2, 1)",
         packet(1, 11, 1, 2, 0),
         b"\x01\x0b\x01\x00\x02\x00\x00\x00",
-    );
+    )?;
     setup_case(
+        out,
         b"GET_STATUS(device)",
         packet(0x80, 0, 0, 0, 2),
         b"\x80\x00\x00\x00\x00\x00\x02\x00",
-    );
+    )?;
     setup_case(
+        out,
         b"CLEAR_FEATURE(ENDPOINT_HALT, 81h)",
         packet(2, 1, 0, 0x81, 0),
         b"\x02\x01\x00\x00\x81\x00\x00\x00",
-    );
+    )
 }
 
 fn same_status(a: PortStatus, b: PortStatus) -> bool
@@ -106,40 +120,58 @@ fn status(
     }
 }
 
-fn port_case(name: &[u8], raw: u32, expected: PortStatus) {
+fn port_case<W: Write>(out: &mut W, name: &[u8], raw: u32, expected: PortStatus) -> io::Result<()> {
     let found = port_status(raw);
-    text(name);
-    text(b" ");
-    hex(raw as u64, 8);
-    print_number(b": connected", found.connected as u64);
-    print_number(b" enabled", found.enabled as u64);
-    print_number(b" resetting", found.resetting as u64);
-    print_number(b" speed", found.speed_code as u64);
-    text(b" changes ");
-    hex(found.change_bits as u64, 6);
-    print_verdict(same_status(found, expected));
+    text(out, name)?;
+    text(out, b" ")?;
+    hex(out, raw as u64, 8)?;
+    print_number(out, b": connected", found.connected as u64)?;
+    print_number(out, b" enabled", found.enabled as u64)?;
+    print_number(out, b" resetting", found.resetting as u64)?;
+    print_number(out, b" speed", found.speed_code as u64)?;
+    text(out, b" changes ")?;
+    hex(out, found.change_bits as u64, 6)?;
+    print_verdict(out, same_status(found, expected))
 }
 
 // xHCI 5.4.8. The last has bits 16 and 24 too, which are no changes.
-fn port_cases() {
-    port_case(b"full speed", 0x0000_0403, status(true, true, false, 1, 0));
-    port_case(b"low speed", 0x0000_0803, status(true, true, false, 2, 0));
+fn port_cases<W: Write>(out: &mut W) -> io::Result<()> {
     port_case(
+        out,
+        b"full speed",
+        0x0000_0403,
+        status(true, true, false, 1, 0),
+    )?;
+    port_case(
+        out,
+        b"low speed",
+        0x0000_0803,
+        status(true, true, false, 2, 0),
+    )?;
+    port_case(
+        out,
         b"just connected",
         0x0002_0c01,
         status(true, false, false, 3, 0x02_0000),
-    );
-    port_case(b"port reset", 0x0000_0411, status(true, false, true, 1, 0));
+    )?;
     port_case(
+        out,
+        b"port reset",
+        0x0000_0411,
+        status(true, false, true, 1, 0),
+    )?;
+    port_case(
+        out,
         b"warm port reset",
         0x8000_1001,
         status(true, false, true, 4, 0),
-    );
+    )?;
     port_case(
+        out,
         b"every change",
         0x01ff_0403,
         status(true, true, false, 1, 0xfe_0000),
-    );
+    )
 }
 
 fn says(o: OptionI32, value: i32) -> bool {
@@ -149,24 +181,28 @@ fn says(o: OptionI32, value: i32) -> bool {
     }
 }
 
-fn number_case(name: &[u8], value: i32, expected: u64) {
+fn number_case<W: Write>(out: &mut W, name: &[u8], value: i32, expected: u64) -> io::Result<()> {
     let word = option_i32_word(OptionI32::Some(value));
-    text(name);
-    number(word);
-    print_verdict((word == expected) & says(to_option_i32(expected), value));
+    text(out, name)?;
+    number(out, word)?;
+    print_verdict(
+        out,
+        (word == expected) & says(to_option_i32(expected), value),
+    )
 }
 
 // docs/CALLS.md: the word of a signed number is one more than its two's complement in 32 bits.
-fn number_cases() {
-    number_case(b"system number -5", -5, 4294967292);
-    number_case(b"system number -1", -1, 4294967296);
-    number_case(b"system number 0", 0, 1);
-    number_case(b"greatest system number", 2147483647, 2147483648);
-    number_case(b"least system number", -2147483648, 2147483649);
+fn number_cases<W: Write>(out: &mut W) -> io::Result<()> {
+    number_case(out, b"system number -5", -5, 4294967292)?;
+    number_case(out, b"system number -1", -1, 4294967296)?;
+    number_case(out, b"system number 0", 0, 1)?;
+    number_case(out, b"greatest system number", 2147483647, 2147483648)?;
+    number_case(out, b"least system number", -2147483648, 2147483649)
 }
 
-fn main() {
-    setup_cases();
-    port_cases();
-    number_cases();
+fn main(rt: HostRuntime) -> io::Result<()> {
+    let mut out = rt.stdout();
+    setup_cases(&mut out)?;
+    port_cases(&mut out)?;
+    number_cases(&mut out)
 }

@@ -2,25 +2,24 @@
 // paper's end was seen, or a byte more than the largest has. Where the input fails there is no key: standard error says so.
 #![tactic(auto)]
 
-use libc::{STDERR_FILENO, STDOUT_FILENO};
 use lines::TEXT_ROOM;
 use paper_input::PAPER_ROOM;
+use std::io;
+use std::io::Write;
 
-fn print_key(paper: &[u8]) {
-    let mut out = [0u8; TEXT_ROOM];
-    let n = lines::key(paper, &mut out);
-    if !io::write_all(STDOUT_FILENO, &out[..n]) {
-        io::write_all(STDERR_FILENO, b"key: the lines can't be written\n");
-    }
+fn print_key<W: Write>(out: &mut W, paper: &[u8]) -> io::Result<()> {
+    let mut text = [0u8; TEXT_ROOM];
+    let n = lines::key(paper, &mut text);
+    out.write_all(&text[..n])
 }
 
-fn main() {
+fn main(rt: HostRuntime) -> io::Result<()> {
     let mut paper = [0u8; PAPER_ROOM];
-    let input = paper_input::read_paper(&mut paper);
-    if input.failed {
-        io::write_all(STDERR_FILENO, b"key: the paper can't be read\n");
-        return;
+    let Ok(n) = paper_input::read_paper(&mut rt.stdin(), &mut paper) else {
+        return eprintln!(rt; "key: the paper can't be read");
+    };
+    if print_key(&mut rt.stdout(), &paper[..n]).is_err() {
+        return eprintln!(rt; "key: the lines can't be written");
     }
-    let n = input.count;
-    print_key(&paper[..n]);
+    Ok(())
 }

@@ -5,6 +5,8 @@ use models::{OptionError, PortReading};
 use polls::{PollReply, poll, poll_reply};
 use reports::{change, status};
 use session::{Session, lifecycle};
+use std::io;
+use std::io::Write;
 use submissions::{SubmitReply, Submitted, submit, submit_reply};
 use targets::Readings;
 use words::OptionU64;
@@ -35,88 +37,122 @@ pub(crate) fn submit_bulk(
 }
 
 // The first half of a submission.
-pub(crate) fn ask(
+pub(crate) fn ask<W: Write>(
+    out: &mut W,
     s: Session,
     bus: &mut [u64],
     rows: &mut [u64],
     area: &mut [u8],
     length: u64,
-) -> Session {
+) -> io::Result<Session> {
     let r = submit_bulk(s, bus, rows, area, length);
     let answer = r.answer;
-    show::submitted(b"submit", answer);
-    r.session
+    show::submitted(out, b"submit", answer)?;
+    Ok(r.session)
 }
 
 // The second half of a submission.
-pub(crate) fn take(s: Session, rows: &mut [u64], r: SubmitReply) -> Session {
+pub(crate) fn take<W: Write>(
+    out: &mut W,
+    s: Session,
+    rows: &mut [u64],
+    r: SubmitReply,
+) -> io::Result<Session> {
     let x = submit_reply::submit_reply(s, rows, r);
     let answer = x.answer;
-    show::reported(b"submit reply", answer);
-    x.session
+    show::reported(out, b"submit reply", answer)?;
+    Ok(x.session)
 }
 
 // Both halves of a submission.
-pub(crate) fn send(
+pub(crate) fn send<W: Write>(
+    out: &mut W,
     s: Session,
     bus: &mut [u64],
     rows: &mut [u64],
     area: &mut [u8],
     length: u64,
     r: SubmitReply,
-) -> Session {
-    let s = ask(s, bus, rows, area, length);
-    take(s, rows, r)
+) -> io::Result<Session> {
+    let s = ask(out, s, bus, rows, area, length)?;
+    take(out, s, rows, r)
 }
 
-pub(crate) fn ask_poll(s: Session, rows: &[u64], sequence: u64) -> Session {
+pub(crate) fn ask_poll<W: Write>(
+    out: &mut W,
+    s: Session,
+    rows: &[u64],
+    sequence: u64,
+) -> io::Result<Session> {
     let r = poll::poll_request(s, rows, id_of(sequence));
     let answer = r.answer;
-    show::polled(b"poll", answer);
-    r.session
+    show::polled(out, b"poll", answer)?;
+    Ok(r.session)
 }
 
-pub(crate) fn take_poll(
+pub(crate) fn take_poll<W: Write>(
+    out: &mut W,
     s: Session,
     rows: &mut [u64],
     area: &mut [u8],
     r: PollReply,
     bytes: &[u8],
-) -> Session {
+) -> io::Result<Session> {
     let x = poll_reply::poll_reply(s, rows, area, r, bytes);
     let answer = x.answer;
-    show::reported(b"poll reply", answer);
-    x.session
+    show::reported(out, b"poll reply", answer)?;
+    Ok(x.session)
 }
 
-pub(crate) fn cancel(s: Session, rows: &mut [u64], sequence: u64) -> Session {
+pub(crate) fn cancel<W: Write>(
+    out: &mut W,
+    s: Session,
+    rows: &mut [u64],
+    sequence: u64,
+) -> io::Result<Session> {
     let x = change::logical_cancel_request(s, rows, id_of(sequence));
     let answer = x.answer;
-    show::reported(b"cancel", answer);
-    x.session
+    show::reported(out, b"cancel", answer)?;
+    Ok(x.session)
 }
 
-pub(crate) fn time_out(s: Session, rows: &mut [u64], sequence: u64) -> Session {
+pub(crate) fn time_out<W: Write>(
+    out: &mut W,
+    s: Session,
+    rows: &mut [u64],
+    sequence: u64,
+) -> io::Result<Session> {
     let x = change::timeout_request(s, rows, id_of(sequence));
     let answer = x.answer;
-    show::reported(b"timeout", answer);
-    x.session
+    show::reported(out, b"timeout", answer)?;
+    Ok(x.session)
 }
 
-pub(crate) fn reclaim(s: Session, rows: &mut [u64], sequence: u64) -> Session {
+pub(crate) fn reclaim<W: Write>(
+    out: &mut W,
+    s: Session,
+    rows: &mut [u64],
+    sequence: u64,
+) -> io::Result<Session> {
     let x = change::reclaim_request(s, rows, id_of(sequence));
     let answer = x.answer;
-    show::reported(b"reclaim", answer);
-    x.session
+    show::reported(out, b"reclaim", answer)?;
+    Ok(x.session)
 }
 
-pub(crate) fn close(s: Session, rows: &mut [u64], fresh: OptionU64, r: OptionError) -> Session {
+pub(crate) fn close<W: Write>(
+    out: &mut W,
+    s: Session,
+    rows: &mut [u64],
+    fresh: OptionU64,
+    r: OptionError,
+) -> io::Result<Session> {
     let x = lifecycle::close(s, rows, fresh, r);
     let answer = x.answer;
-    show::verdict(b"close", answer);
-    x.session
+    show::verdict(out, b"close", answer)?;
+    Ok(x.session)
 }
 
-pub(crate) fn show_held(s: Session, rows: &[u64]) {
-    show::tally(b"held", status::tally_of(status::held_count(s, rows)));
+pub(crate) fn show_held<W: Write>(out: &mut W, s: Session, rows: &[u64]) -> io::Result<()> {
+    show::tally(out, b"held", status::tally_of(status::held_count(s, rows)))
 }

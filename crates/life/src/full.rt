@@ -5,6 +5,8 @@ use crate::prepare::prepare;
 use crate::show;
 use session::lifecycle::Opened;
 use session::{Session, lifecycle};
+use std::io;
+use std::io::Write;
 use submissions::{SubmitReply, submit_reply};
 
 // The words of the store's rows.
@@ -31,29 +33,42 @@ fn hold_many(s: Session, bus: &mut [u64], rows: &mut [u64], area: &mut [u8], n: 
 }
 
 // One more is accepted, the next refused by 5.
-fn reach_limit(s: Session, bus: &mut [u64], rows: &mut [u64], area: &mut [u8]) {
-    let s = send(s, bus, rows, area, 1, SubmitReply::Token(1));
-    show_held(s, rows);
-    ask(s, bus, rows, area, 1);
+fn reach_limit<W: Write>(
+    out: &mut W,
+    s: Session,
+    bus: &mut [u64],
+    rows: &mut [u64],
+    area: &mut [u8],
+) -> io::Result<()> {
+    let s = send(out, s, bus, rows, area, 1, SubmitReply::Token(1))?;
+    show_held(out, s, rows)?;
+    ask(out, s, bus, rows, area, 1)?;
+    Ok(())
 }
 
 // 127 held, and then 128.
-fn hold_all(s: Session, bus: &mut [u64], rows: &mut [u64], area: &mut [u8]) {
+fn hold_all<W: Write>(
+    out: &mut W,
+    s: Session,
+    bus: &mut [u64],
+    rows: &mut [u64],
+    area: &mut [u8],
+) -> io::Result<()> {
     let s = hold_many(s, bus, rows, area, 127);
-    show_held(s, rows);
-    reach_limit(s, bus, rows, area);
+    show_held(out, s, rows)?;
+    reach_limit(out, s, bus, rows, area)
 }
 
 // A store of 130 rows of a byte.
-pub(crate) fn run() {
+pub(crate) fn run<W: Write>(out: &mut W) -> io::Result<()> {
     let mut bus = [0u64; BUS];
     let mut rows = [0u64; ROWS];
     let mut area = [0u8; 130];
     let opened = lifecycle::open(opening(130, 1), &mut rows, &area, &mut bus);
-    show::opened(b"open", opened);
+    show::opened(out, b"open", opened)?;
     let Opened::Open(s) = opened else {
-        return;
+        return Ok(());
     };
-    let s = prepare(s, &mut bus);
-    hold_all(s, &mut bus, &mut rows, &mut area);
+    let s = prepare(out, s, &mut bus)?;
+    hold_all(out, s, &mut bus, &mut rows, &mut area)
 }

@@ -4,53 +4,59 @@ use crate::show;
 use models::{ErrorCategory, OptionError};
 use session::lifecycle::AcquireReply;
 use session::{Session, lifecycle, place};
+use std::io;
+use std::io::Write;
 use words::OptionU32;
 
 // Port 2 is refused by 30; then the device of slot 1 on port 1.
-fn set_device(s: Session, bus: &mut [u64]) {
+fn set_device<W: Write>(out: &mut W, s: Session, bus: &mut [u64]) -> io::Result<()> {
     let row = bus::PortRow {
         generation: 1,
         reading: OptionU32::Some(0x403),
     };
-    show::verdict(b"set port 2", place::set_port(s, bus, 2, row));
-    show::verdict(b"set port 1", place::set_port(s, bus, 1, row));
-    show::verdict(b"set device", place::set_device(s, bus, device()));
+    show::verdict(out, b"set port 2", place::set_port(s, bus, 2, row))?;
+    show::verdict(out, b"set port 1", place::set_port(s, bus, 1, row))?;
+    show::verdict(out, b"set device", place::set_device(s, bus, device()))
 }
 
 // 31 endpoints are refused by 53; then endpoint 81h and no mark.
-fn set_endpoint(s: Session, bus: &mut [u64]) {
+fn set_endpoint<W: Write>(out: &mut W, s: Session, bus: &mut [u64]) -> io::Result<()> {
     let long = [0u64; 31];
     let one = [0x181u64];
-    show::verdict(b"set 31 endpoints", place::set_endpoints(s, bus, 1, &long));
-    show::verdict(b"set endpoints", place::set_endpoints(s, bus, 1, &one));
-    show::verdict(b"clear mark", place::set_reconcile(s, bus, 1, false));
+    show::verdict(
+        out,
+        b"set 31 endpoints",
+        place::set_endpoints(s, bus, 1, &long),
+    )?;
+    show::verdict(out, b"set endpoints", place::set_endpoints(s, bus, 1, &one))?;
+    show::verdict(out, b"clear mark", place::set_reconcile(s, bus, 1, false))
 }
 
 // Initialise is refused by 51, acquire fails, passes, is refused by 50; then Initialized.
-fn start(s: Session) -> Session {
+fn start<W: Write>(out: &mut W, s: Session) -> io::Result<Session> {
     let early = lifecycle::initialize(s, OptionError::None);
     let answer = early.answer;
-    show::verdict(b"initialize", answer);
+    show::verdict(out, b"initialize", answer)?;
     let failed = lifecycle::acquire(
         s,
         AcquireReply::Failed(error(ErrorCategory::Controller), false),
     );
     let answer = failed.answer;
-    show::verdict(b"acquire", answer);
+    show::verdict(out, b"acquire", answer)?;
     let acquired = lifecycle::acquire(failed.session, AcquireReply::Acquired);
     let answer = acquired.answer;
-    show::verdict(b"acquire", answer);
+    show::verdict(out, b"acquire", answer)?;
     let again = lifecycle::acquire(acquired.session, AcquireReply::Acquired);
     let answer = again.answer;
-    show::verdict(b"acquire", answer);
+    show::verdict(out, b"acquire", answer)?;
     let ready = lifecycle::initialize(acquired.session, OptionError::None);
     let answer = ready.answer;
-    show::verdict(b"initialize", answer);
-    ready.session
+    show::verdict(out, b"initialize", answer)?;
+    Ok(ready.session)
 }
 
-pub(crate) fn prepare(s: Session, bus: &mut [u64]) -> Session {
-    set_device(s, bus);
-    set_endpoint(s, bus);
-    start(s)
+pub(crate) fn prepare<W: Write>(out: &mut W, s: Session, bus: &mut [u64]) -> io::Result<Session> {
+    set_device(out, s, bus)?;
+    set_endpoint(out, s, bus)?;
+    start(out, s)
 }

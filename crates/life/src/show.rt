@@ -3,137 +3,139 @@ use models::{Refusal, RequestReport, RequestState, Verdict};
 use polls::PollAnswer;
 use reports::{NextReport, ReportAnswer, Tally};
 use session::lifecycle::Opened;
+use std::io;
+use std::io::Write;
 use submissions::SubmitAnswer;
 use texts::print::{number, text};
 
-fn refused(r: Refusal) {
-    refused_by(r.number);
+fn refused<W: Write>(out: &mut W, r: Refusal) -> io::Result<()> {
+    refused_by(out, r.number)
 }
 
-fn refused_by(n: u16) {
-    text(b" refused");
-    number(n as u64);
-    text(b"\n");
+fn refused_by<W: Write>(out: &mut W, n: u16) -> io::Result<()> {
+    text(out, b" refused")?;
+    number(out, n as u64)?;
+    text(out, b"\n")
 }
 
-pub fn verdict(name: &[u8], v: Verdict) {
-    text(name);
+pub fn verdict<W: Write>(out: &mut W, name: &[u8], v: Verdict) -> io::Result<()> {
+    text(out, name)?;
     match v {
-        Verdict::Refused(r) => refused(r),
-        Verdict::Pass => text(b" ok\n"),
+        Verdict::Refused(r) => refused(out, r),
+        Verdict::Pass => text(out, b" ok\n"),
     }
 }
 
-pub fn opened(name: &[u8], o: Opened) {
-    text(name);
+pub fn opened<W: Write>(out: &mut W, name: &[u8], o: Opened) -> io::Result<()> {
+    text(out, name)?;
     match o {
-        Opened::Refused(r) => refused(r),
-        Opened::Open(_) => text(b" ok\n"),
+        Opened::Refused(r) => refused(out, r),
+        Opened::Open(_) => text(out, b" ok\n"),
     }
 }
 
 // The state's letter and what it holds.
-fn state(s: RequestState) {
+fn state<W: Write>(out: &mut W, s: RequestState) -> io::Result<()> {
     match s {
         RequestState::Pending {
             logical_cancel,
             timed_out,
         } => {
-            text(b" P");
-            number(logical_cancel as u64);
-            number(timed_out as u64);
+            text(out, b" P")?;
+            number(out, logical_cancel as u64)?;
+            number(out, timed_out as u64)
         }
         RequestState::Completed {
             actual_length,
             completion_code,
             logical_cancel,
         } => {
-            text(b" C");
-            number(actual_length);
-            number(completion_code as u64);
-            number(logical_cancel as u64);
+            text(out, b" C")?;
+            number(out, actual_length)?;
+            number(out, completion_code as u64)?;
+            number(out, logical_cancel as u64)
         }
         RequestState::Failed {
             error,
             completion_code: _,
             quiescent,
         } => {
-            text(b" F");
-            number(error.message as u64);
-            number(quiescent as u64);
+            text(out, b" F")?;
+            number(out, error.message as u64)?;
+            number(out, quiescent as u64)
         }
-        RequestState::Aborted => text(b" A"),
+        RequestState::Aborted => text(out, b" A"),
     }
 }
 
-fn report(r: RequestReport) {
+fn report<W: Write>(out: &mut W, r: RequestReport) -> io::Result<()> {
     let own = r.state;
-    text(b" sequence");
-    number(r.id.sequence);
-    state(own);
-    text(b", own flags");
-    number(r.logical_cancel as u64);
-    number(r.timed_out as u64);
-    text(b"\n");
+    text(out, b" sequence")?;
+    number(out, r.id.sequence)?;
+    state(out, own)?;
+    text(out, b", own flags")?;
+    number(out, r.logical_cancel as u64)?;
+    number(out, r.timed_out as u64)?;
+    text(out, b"\n")
 }
 
-pub fn reported(name: &[u8], a: ReportAnswer) {
-    text(name);
+pub fn reported<W: Write>(out: &mut W, name: &[u8], a: ReportAnswer) -> io::Result<()> {
+    text(out, name)?;
     match a {
-        ReportAnswer::Refused(r) => refused(r),
-        ReportAnswer::Report(x) => report(x),
+        ReportAnswer::Refused(r) => refused(out, r),
+        ReportAnswer::Report(x) => report(out, x),
     }
 }
 
-pub fn next(name: &[u8], a: NextReport) {
-    text(name);
+pub fn next<W: Write>(out: &mut W, name: &[u8], a: NextReport) -> io::Result<()> {
+    text(out, name)?;
     match a {
-        NextReport::Refused(r) => refused(r),
-        NextReport::None => text(b" none\n"),
-        NextReport::Report(x) => report(x),
+        NextReport::Refused(r) => refused(out, r),
+        NextReport::None => text(out, b" none\n"),
+        NextReport::Report(x) => report(out, x),
     }
 }
 
-pub fn polled(name: &[u8], a: PollAnswer) {
-    text(name);
+pub fn polled<W: Write>(out: &mut W, name: &[u8], a: PollAnswer) -> io::Result<()> {
+    text(out, name)?;
     match a {
-        PollAnswer::Refused(r) => refused(r),
-        PollAnswer::Report(x) => report(x),
+        PollAnswer::Refused(r) => refused(out, r),
+        PollAnswer::Report(x) => report(out, x),
         PollAnswer::Asked(token) => {
-            text(b" asks for token");
-            number(token);
-            text(b"\n");
+            text(out, b" asks for token")?;
+            number(out, token)?;
+            text(out, b"\n")
         }
     }
 }
 
-pub fn submitted(name: &[u8], a: SubmitAnswer) {
-    text(name);
+pub fn submitted<W: Write>(out: &mut W, name: &[u8], a: SubmitAnswer) -> io::Result<()> {
+    text(out, name)?;
     match a {
-        SubmitAnswer::Refused(r) => refused(r),
+        SubmitAnswer::Refused(r) => refused(out, r),
         SubmitAnswer::Begun(x) => {
-            text(b" begun: sequence");
-            number(x.id.sequence);
-            text(b" row");
-            number(x.row);
-            text(b"\n");
+            text(out, b" begun: sequence")?;
+            number(out, x.id.sequence)?;
+            text(out, b" row")?;
+            number(out, x.row)?;
+            text(out, b"\n")
         }
     }
 }
 
-pub fn tally(name: &[u8], a: Tally) {
-    text(name);
+pub fn tally<W: Write>(out: &mut W, name: &[u8], a: Tally) -> io::Result<()> {
+    text(out, name)?;
     match a {
-        Tally::Refused(r) => refused(r),
+        Tally::Refused(r) => refused(out, r),
         Tally::Number(n) => {
-            number(n);
-            text(b"\n");
+            number(out, n)?;
+            text(out, b"\n")
         }
     }
 }
 
 // A refusal by its number alone.
-pub fn refusal(name: &[u8], n: u16) {
-    text(name);
-    refused_by(n);
+pub fn refusal<W: Write>(out: &mut W, name: &[u8], n: u16) -> io::Result<()> {
+    text(out, name)?;
+    refused_by(out, n)
 }

@@ -8,6 +8,8 @@ use recovery::{Outcome, Recovered, RecoveryReply, recover, recovery_reply};
 use reports::status;
 use session::lifecycle::{AcquireReply, Opened};
 use session::{Session, lifecycle, place};
+use std::io;
+use std::io::Write;
 use submissions::{SubmitReply, submit, submit_reply};
 use targets::Readings;
 use texts::print;
@@ -68,17 +70,17 @@ fn abort(s: Session, rows: &mut [u64], area: &mut [u8], restart_ready: bool) -> 
 }
 
 // The store and the session after the recovery.
-fn show_after(s: Session, rows: &[u64]) {
+fn show_after<W: Write>(out: &mut W, s: Session, rows: &[u64]) -> io::Result<()> {
     let controller = s.state;
-    print::text(b"; ");
-    show::letter(status::request_status(s, rows, id_of(0)));
-    print::text(b" ");
-    show::letter(status::request_status(s, rows, id_of(1)));
-    print::text(b"; held");
-    show::held(status::held_count(s, rows));
-    print::text(b"; ");
-    show::controller(controller);
-    print::text(b"\n");
+    print::text(out, b"; ")?;
+    show::letter(out, status::request_status(s, rows, id_of(0)))?;
+    print::text(out, b" ")?;
+    show::letter(out, status::request_status(s, rows, id_of(1)))?;
+    print::text(out, b"; held")?;
+    show::held(out, status::held_count(s, rows))?;
+    print::text(out, b"; ")?;
+    show::controller(out, controller)?;
+    print::text(out, b"\n")
 }
 
 // Both rows used, the first with token 7.
@@ -87,31 +89,52 @@ fn fill(s: Session, bus: &mut [u64], rows: &mut [u64], area: &mut [u8], higher: 
     hold(s, bus, rows, area, higher)
 }
 
-fn show_abort(s: Session, rows: &mut [u64], area: &mut [u8], restart_ready: bool) {
+fn show_abort<W: Write>(
+    out: &mut W,
+    s: Session,
+    rows: &mut [u64],
+    area: &mut [u8],
+    restart_ready: bool,
+) -> io::Result<()> {
     let r = abort(s, rows, area, restart_ready);
     let answer = r.answer;
-    show::recovered(answer);
-    show_after(r.session, rows);
+    show::recovered(out, answer)?;
+    show_after(out, r.session, rows)
 }
 
 // A row with token 7, then one with the token `higher`.
-fn example(name: &[u8], higher: u64, restart_ready: bool) {
+fn example<W: Write>(out: &mut W, name: &[u8], higher: u64, restart_ready: bool) -> io::Result<()> {
     let mut bus = [0u64; BUS];
     let mut rows = [0u64; ROWS];
     let mut area = [0u8; 16];
-    print::text(name);
+    print::text(out, name)?;
     let opened = lifecycle::open(opening(), &mut rows, &area, &mut bus);
     let Opened::Open(s) = opened else {
-        print::text(b"not opened\n");
-        return;
+        return print::text(out, b"not opened\n");
     };
     let s = prepare(s, &mut bus);
     let s = fill(s, &mut bus, &mut rows, &mut area, higher);
-    show_abort(s, &mut rows, &mut area, restart_ready);
+    show_abort(out, s, &mut rows, &mut area, restart_ready)
 }
 
-fn main() {
-    example(b"tokens 7, 9 affected, ready, aborted (7): ", 9, true);
-    example(b"tokens 7, 9 affected, not ready, aborted (7): ", 9, false);
-    example(b"two rows with token 7, ready, aborted (7): ", 7, true);
+fn main(rt: HostRuntime) -> io::Result<()> {
+    let mut out = rt.stdout();
+    example(
+        &mut out,
+        b"tokens 7, 9 affected, ready, aborted (7): ",
+        9,
+        true,
+    )?;
+    example(
+        &mut out,
+        b"tokens 7, 9 affected, not ready, aborted (7): ",
+        9,
+        false,
+    )?;
+    example(
+        &mut out,
+        b"two rows with token 7, ready, aborted (7): ",
+        7,
+        true,
+    )
 }

@@ -4,89 +4,134 @@
 // answered by `input too long` alone.
 #![tactic(auto)]
 
-use libc::STDIN_FILENO;
+use std::io;
+use std::io::{Read, Write};
 use texts::parse::Count;
-use texts::{answers, parse, print};
+use texts::{answers, input, parse, print};
 use words::slices::word_at;
 
 // How much text is run; the room has a byte more.
 const LIMIT: usize = 2097152;
 
-fn main() {
+fn main(rt: HostRuntime) -> io::Result<()> {
     let mut text = [0u8; 2097153];
     let mut session = [0u64; 26];
     let mut bus = [0u64; 10750];
     let mut rows = [0u64; 4160];
     let mut area = [0u8; 655360];
-    run(&mut text, &mut session, &mut bus, &mut rows, &mut area);
+    run(
+        &mut rt.stdin(),
+        &mut rt.stdout(),
+        &mut text,
+        &mut session,
+        &mut bus,
+        &mut rows,
+        &mut area,
+    )
 }
 
-fn run(text: &mut [u8], session: &mut [u64], bus: &mut [u64], rows: &mut [u64], area: &mut [u8]) {
-    let n = io::read_full(STDIN_FILENO, text);
+fn run<R: Read, W: Write>(
+    reader: &mut R,
+    out: &mut W,
+    text: &mut [u8],
+    session: &mut [u64],
+    bus: &mut [u64],
+    rows: &mut [u64],
+    area: &mut [u8],
+) -> io::Result<()> {
+    let n = input::read_full(reader, text)?;
     if n > LIMIT {
-        print::text(b"input too long\n");
-        return;
+        return print::text(out, b"input too long\n");
     }
-    replay(&text[0..n], session, bus, rows, area);
+    replay(out, &text[0..n], session, bus, rows, area)
 }
 
-fn replay(text: &[u8], session: &mut [u64], bus: &mut [u64], rows: &mut [u64], area: &mut [u8]) {
+fn replay<W: Write>(
+    out: &mut W,
+    text: &[u8],
+    session: &mut [u64],
+    bus: &mut [u64],
+    rows: &mut [u64],
+    area: &mut [u8],
+) -> io::Result<()> {
     let mut at = 0;
     while at < text.len() {
         let end = parse::find(text, at, b'\n');
-        run_line(&text[at..end], session, bus, rows, area);
+        run_line(out, &text[at..end], session, bus, rows, area)?;
         at = end + 1;
     }
+    Ok(())
 }
 
-fn run_line(line: &[u8], session: &mut [u64], bus: &mut [u64], rows: &mut [u64], area: &mut [u8]) {
+fn run_line<W: Write>(
+    out: &mut W,
+    line: &[u8],
+    session: &mut [u64],
+    bus: &mut [u64],
+    rows: &mut [u64],
+    area: &mut [u8],
+) -> io::Result<()> {
     if line.len() == 0 {
-        return;
+        return Ok(());
     }
     if line[0] == b'#' {
-        return;
+        return Ok(());
     }
     if line[0] == b'=' {
-        show_state(session, bus, rows, area);
-        return;
+        return show_state(out, session, bus, rows, area);
     }
-    run_call(line, session, bus, rows, area);
+    run_call(out, line, session, bus, rows, area)
 }
 
-fn bad_line() {
-    print::text(b"bad line\n");
+fn bad_line<W: Write>(out: &mut W) -> io::Result<()> {
+    print::text(out, b"bad line\n")
 }
 
-fn run_call(line: &[u8], session: &mut [u64], bus: &mut [u64], rows: &mut [u64], area: &mut [u8]) {
+fn run_call<W: Write>(
+    out: &mut W,
+    line: &[u8],
+    session: &mut [u64],
+    bus: &mut [u64],
+    rows: &mut [u64],
+    area: &mut [u8],
+) -> io::Result<()> {
     let mut call = [0u64; 2048];
     let mut bytes = [0u8; 4096];
     let Count::Of(words) = parse::words(line, &mut call) else {
-        bad_line();
-        return;
+        return bad_line(out);
     };
     let Count::Of(given) = parse::bytes(line, &mut bytes) else {
-        bad_line();
-        return;
+        return bad_line(out);
     };
-    answer(&call[0..words], &bytes[0..given], session, bus, rows, area);
+    answer(
+        out,
+        &call[0..words],
+        &bytes[0..given],
+        session,
+        bus,
+        rows,
+        area,
+    )
 }
 
-fn answer(
+fn answer<W: Write>(
+    out: &mut W,
     call: &[u64],
     bytes: &[u8],
     session: &mut [u64],
     bus: &mut [u64],
     rows: &mut [u64],
     area: &mut [u8],
-) {
-    let mut out = [0u64; 32];
+) -> io::Result<()> {
+    let mut words = [0u64; 32];
     let mut lists = [0u64; 386];
-    let status = dispatch::apply(session, bus, rows, area, call, bytes, &mut out, &mut lists);
+    let status = dispatch::apply(
+        session, bus, rows, area, call, bytes, &mut words, &mut lists,
+    );
     if status != 0 {
-        answers::status(status);
-        return;
+        return answers::status(out, status);
     }
-    answers::answer(&out, &lists, area);
+    answers::answer(out, &words, &lists, area)
 }
 
 // A count that takes no arguments: 20 and 21.
@@ -104,8 +149,14 @@ fn number_of(
     out[1]
 }
 
-fn show_state(session: &mut [u64], bus: &mut [u64], rows: &mut [u64], area: &mut [u8]) {
+fn show_state<W: Write>(
+    out: &mut W,
+    session: &mut [u64],
+    bus: &mut [u64],
+    rows: &mut [u64],
+    area: &mut [u8],
+) -> io::Result<()> {
     let held = number_of(20, session, bus, rows, area);
     let bytes = number_of(21, session, bus, rows, area);
-    print::words(b"state", &[word_at(session, 6), held, bytes], 0, 3);
+    print::words(out, b"state", &[word_at(session, 6), held, bytes], 0, 3)
 }
