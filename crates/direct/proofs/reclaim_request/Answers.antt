@@ -1,0 +1,16 @@
+use Rattle.direct.proofs.Laws.{change_stop, reclaim_on}
+use Rattle.ledger.proofs.in_place.Laws.{reclaim_inside}
+use Rattle.rows.specs.Store.{store_of}
+use borrow.Author.Rules.{rules}
+use Rattle.direct.proofs.reclaim_request.Goals as goal
+
+pub free_placed-requires : goal.free_placed-requires
+free_placed-requires c = search reclaim_inside
+
+pub returns-in-Refused : goal.returns-in-Refused
+unfolding store_of
+returns-in-Refused c = search change_stop
+
+pub returns-in-Pass : goal.returns-in-Pass
+unfolding store_of
+returns-in-Pass c = search reclaim_on

@@ -1,0 +1,8 @@
+use Rattle.direct.proofs.replies.Laws.{poll_refused_lem, polled_told_lem}
+use Rattle.rows.specs.Store.{store_of}
+use borrow.Author.Rules.{rules}
+use Rattle.direct.proofs.replies.poll_reply.Goals as goal
+
+pub returns-in-Refused : goal.returns-in-Refused
+unfolding store_of
+returns-in-Refused c = poll_refused_lem _ _ _ _ _ _ _ _ c.requires c.polled_row-placed.ensures c.in-Refused.is c.refuse.ensures

@@ -1,0 +1,6 @@
+use Rattle.direct.proofs.replies.Laws.{submit_said_lem, says_token, submit_told}
+use borrow.Author.Rules.{rules}
+use Rattle.direct.proofs.replies.submit_reply.Goals as goal
+
+pub returns-then-kind-eq0 : goal.returns-then-kind-eq0
+returns-then-kind-eq0 c = search (submit_said_lem, says_token)

@@ -1,0 +1,6 @@
+use Rattle.direct.proofs.Laws.{report_told}
+use borrow.Author.Rules.{rules}
+use Rattle.direct.proofs.report.Goals as goal
+
+pub returns : goal.returns
+returns c = search report_told
