@@ -1,0 +1,6 @@
+use Rattle.lines.proofs.shown.Laws.{event_told}
+use borrow.Author.Rules.{rules}
+use Rattle.lines.proofs.shown.event_line.Goals as goal
+
+pub returns : goal.returns
+returns c = search event_told
