@@ -1,0 +1,6 @@
+use Rattle.dispatch.proofs.Dispatch.{answer_done}
+use borrow.Author.Rules.{rules}
+use Rattle.dispatch.proofs.answer_by_value.Goals as goal
+
+pub returns : goal.returns
+returns c = search answer_done
