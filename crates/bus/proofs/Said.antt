@@ -1,6 +1,6 @@
 -- Every number that the placing of a port or of endpoints or a check of a port refuses by is in its list. Assumes nothing.
 use Prim.Native.Nat.{ℕ}
-use mathlib.Core.List.{List, [], ◌∷◌}
+use mathlib.Core.List.{List}
 use mathlib.Core.Path.{◌≡◌, refl}
 use Rattle.chain.specs.After.{After, after}
 use Rattle.chain.proofs.Chain.{if_all}

@@ -15,8 +15,8 @@ use Rattle.words.specs.declared.{OptionU32.OptionU32}
 use Rattle.words.proofs.Records.{part_get_d, part_first, part_length, splice-set, chunks_at, chunks_put, chunks_kept}
 use Rattle.models.specs.Codes.{read_device_state}
 use Rattle.models.specs.declared.{DeviceSnapshot.DeviceSnapshot, DeviceState.DeviceState, OptionDevice.OptionDevice}
-use Rattle.bus.specs.Layout.{devices_at, lists_at, marks_at, bus_words, read_port, port_record, read_device, device_record, read_endpoints, read_mark}
-use Rattle.bus.specs.Tables.{Bus, bus_of, new_port, port_index, port_at, device_at, mark_at, put_port, put_device, put_endpoints, put_mark}
+use Rattle.bus.specs.Layout.{devices_at, lists_at, marks_at, bus_words, read_port, read_device, device_record, read_endpoints, read_mark}
+use Rattle.bus.specs.Tables.{bus_of, new_port, port_index, port_at, device_at, mark_at, put_port, put_device, put_endpoints, put_mark}
 use Rattle.bus.specs.declared.{PortRow.PortRow}
 
 -- words put inside one table keep each other table

@@ -1,7 +1,7 @@
 -- Encoding of the bus as words: 255 port rows, 256 device rows, 256 endpoint lists and 256 marks, one table after the other.
 -- Decoding is total. Assumes nothing.
 use Rattle.std.specs.Prelude.{ℕ, ◌+◌, ◌*◌, ◌%◌, ◌^◌, Bool, cond, List, [], ◌∷◌, get_or, take, drop, eqb}
-use Rattle.words.specs.Words.{read_flag, flag_word, read_option_u32, option_u32_word}
+use Rattle.words.specs.Words.{read_flag, read_option_u32, option_u32_word}
 use Rattle.models.specs.Codes.{read_device_state, transfer_word}
 use Rattle.models.specs.Values.{snapshot_words}
 use Rattle.models.specs.declared.{DeviceSnapshot.DeviceSnapshot, OptionDevice.OptionDevice, TransferType.TransferType}

@@ -2,7 +2,6 @@
 // They stand in specs/ and proofs/; the code has only the answer of a search.
 #![tactic(auto)]
 
-
 // Where a search found what it looked for.
 #[derive(Clone, Copy)]
 pub enum Found {

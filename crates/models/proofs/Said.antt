@@ -13,7 +13,7 @@ use Rattle.words.specs.Words.{option_u32_word}
 use Rattle.words.specs.declared.{OptionU32.OptionU32}
 use Rattle.models.specs.Codes.{category_word}
 use Rattle.models.specs.Refusals.{table_category, refusal_of, rejected, from_backend, invalid_completion}
-use Rattle.models.specs.Said.{Said, says, refused, verdict_said, is_table_error, is_tabled, Tabled}
+use Rattle.models.specs.Said.{Said, says, refused, verdict_said, is_table_error, Tabled}
 use Rattle.models.specs.Values.{error_words}
 use Rattle.models.specs.declared.{OperationError.OperationError, Refusal.Refusal, Verdict.Verdict}
 

@@ -1,5 +1,5 @@
 -- An answer of any enum as its number in document 01's table and its values as words. Assumes nothing.
-use Rattle.std.specs.Prelude.{ℕ, Bool, true, false, not, ◌&&◌, ◌||◌, List, [], ◌∷◌, ◌≡◌, eqb, get_or}
+use Rattle.std.specs.Prelude.{ℕ, Bool, true, false, not, ◌&&◌, ◌||◌, List, [], ◌≡◌, eqb, get_or}
 use Rattle.chain.specs.Chain.{◌if◌else◌}
 use Rattle.chain.specs.Lists.{is_among}
 use Rattle.models.specs.Codes.{category_word}

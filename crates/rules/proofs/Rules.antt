@@ -2,7 +2,6 @@
 use Prim.Native.Nat.{ℕ}
 use mathlib.Core.Path.{◌≡◌, refl}
 use mathlib.Core.Bool.{Bool, true, false, not}
-use mathlib.Core.List.{[], ◌∷◌}
 use Rattle.chain.proofs.Chain.{takes, passes}
 use Rattle.words.specs.declared.{OptionU32.OptionU32}
 use Rattle.models.specs.declared.{OperationError.OperationError, RequestState.RequestState}

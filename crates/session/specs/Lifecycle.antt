@@ -5,7 +5,7 @@ use Rattle.chain.specs.After.{After, after}
 use Rattle.words.specs.declared.{OptionU64.OptionU64}
 use Rattle.models.specs.Refusals.{refusal_of, from_backend}
 use Rattle.models.specs.declared.ControllerState.TheVariants.{Closed, AcquiredUnknown, Initialized, RecoveryRequired}
-use Rattle.models.specs.declared.{OperationError.OperationError, OptionError.OptionError, OptionPorts.OptionPorts, Refusal.Refusal, Verdict.Verdict}
+use Rattle.models.specs.declared.{OptionError.OptionError, OptionPorts.OptionPorts, Refusal.Refusal, Verdict.Verdict}
 use Rattle.rows.specs.Store.{Store, emptied}
 use Rattle.bus.specs.Tables.{cleared}
 use Rattle.session.specs.Session.{is_closed, is_acquired, is_busy, raised, with_controller, marked}

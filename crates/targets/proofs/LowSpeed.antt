@@ -18,7 +18,7 @@ use Rattle.bus.specs.Tables.{Bus}
 use Rattle.bus.specs.declared.{ports.PortChecked.PortChecked}
 use Rattle.bus.proofs.Fresh.{Shows, fresh_shows}
 use Rattle.targets.specs.Target.{speed_checked, endpoint_by, check_endpoint, check_target_by, check_device, check_target}
-use Rattle.targets.specs.declared.{Readings.Readings, target.DeviceChecked.DeviceChecked}
+use Rattle.targets.specs.declared.{target.DeviceChecked.DeviceChecked}
 use Rattle.targets.proofs.target.Laws.{speed-bulk, speed-isochronous, placed_by_lem}
 
 -- what passes is of a type that low speed has

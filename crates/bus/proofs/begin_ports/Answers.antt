@@ -1,8 +1,4 @@
-use Rattle.bus.proofs.Opening.{Begun, begin_step, begin_end}
-use native.Mathlib.Omega.{arith}
-use lib.ListN.{length-set}
-use mathlib.Core.Path.{refl}
-use Prim.Native.Nat.{◌-◌}
+use Rattle.bus.proofs.Opening.{begin_step, begin_end}
 use borrow.Author.Rules.{rules}
 use Rattle.bus.proofs.begin_ports.Goals as goal
 

@@ -1,9 +1,5 @@
-use Rattle.bus.proofs.Opening.{Begun, begin_step, begin_end}
-use native.Mathlib.Omega.{arith}
-use lib.ListN.{length-set}
-use mathlib.Core.Path.{refl}
+use Rattle.bus.proofs.Opening.{Begun}
 use Prim.Native.Nat.{◌-◌}
-use borrow.Author.Rules.{rules}
 use Rattle.bus.proofs.begin_ports.Given as goal
 
 abbrev pub invariant-loop-i : goal.invariant-loop-i

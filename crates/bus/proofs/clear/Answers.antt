@@ -1,5 +1,4 @@
 use Rattle.bus.proofs.Opening.{opened}
-use borrow.Author.Rules.{rules}
 use Rattle.bus.proofs.clear.Goals as goal
 
 pub returns : goal.returns

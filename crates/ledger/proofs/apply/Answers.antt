@@ -2,7 +2,6 @@ use Rattle.ledger.proofs.Found.{found_in_lem}
 use Rattle.ledger.proofs.Changes.{apply_none, apply_at_lem}
 use Rattle.rows.specs.Store.{store_of}
 use Rattle.ledger.proofs.Said.{apply_said}
-use borrow.Author.Rules.{rules}
 use Rattle.ledger.proofs.apply.Goals as goal
 
 pub returns-in_default-clause-step : goal.returns-in_default-clause-step

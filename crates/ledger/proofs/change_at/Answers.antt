@@ -1,7 +1,5 @@
 use Rattle.ledger.proofs.Changes.{change_no, change_to}
-use Rattle.ledger.proofs.Said.{change_said}
 use Rattle.rows.specs.Store.{store_of}
-use borrow.Author.Rules.{rules}
 use Rattle.ledger.proofs.change_at.Goals as goal
 
 pub returns-in-Refused-clause-step : goal.returns-in-Refused-clause-step

@@ -1,4 +1,3 @@
-use borrow.Author.Rules.{rules}
 use Rattle.chain.proofs.Chain.{chain}
 use Rattle.models.specs.Refusals.{table_category}
 use Rattle.models.proofs.table_category.Goals as goal

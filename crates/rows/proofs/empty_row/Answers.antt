@@ -1,6 +1,5 @@
 use Rattle.rows.proofs.Rows.{empty_is}
 use mathlib.Core.Path.{◌∙◌}
-use borrow.Author.Rules.{rules}
 use Rattle.rows.proofs.empty_row.Goals as goal
 
 pub returns : goal.returns

@@ -1,6 +1,5 @@
 use Rattle.rows.proofs.Rows.{row_at_lem}
 use mathlib.Core.Path.{◌∙◌}
-use borrow.Author.Rules.{rules}
 use Rattle.rows.proofs.read_row.Goals as goal
 
 pub returns : goal.returns

@@ -1,5 +1,4 @@
 use Rattle.rows.proofs.Rows.{inside, put_row_lem}
-use borrow.Author.Rules.{rules}
 use Rattle.rows.proofs.write_row.Goals as goal
 
 pub put_columns-requires : goal.put_columns-requires

@@ -1,5 +1,4 @@
 use Rattle.rules.specs.Rules.{accepted}
-use borrow.Author.Rules.{rules}
 use Rattle.rules.proofs.accept.Goals as goal
 
 pub returns : goal.returns

@@ -1,6 +1,5 @@
 use Rattle.rules.proofs.Rules.{settled, complete_to}
 use Rattle.rules.specs.Rules.{completed}
-use borrow.Author.Rules.{rules}
 use Rattle.rules.proofs.complete.Goals as goal
 
 pub returns-in_default : goal.returns-in_default

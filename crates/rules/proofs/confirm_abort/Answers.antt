@@ -1,6 +1,5 @@
 use Rattle.chain.proofs.Chain.{chain}
 use Rattle.rules.specs.Rules.{abort_confirmed}
-use borrow.Author.Rules.{rules}
 use Rattle.rules.proofs.confirm_abort.Goals as goal
 
 pub returns-then-not-device_may_access : goal.returns-then-not-device_may_access

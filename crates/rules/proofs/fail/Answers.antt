@@ -1,6 +1,5 @@
 use Rattle.rules.proofs.Rules.{settled, fail_to}
 use Rattle.rules.specs.Rules.{failed}
-use borrow.Author.Rules.{rules}
 use Rattle.rules.proofs.fail.Goals as goal
 
 pub returns-in_default : goal.returns-in_default

@@ -1,5 +1,4 @@
 use Rattle.rules.specs.Rules.{freed}
-use borrow.Author.Rules.{rules}
 use Rattle.rules.proofs.free.Goals as goal
 
 pub returns : goal.returns

@@ -1,5 +1,4 @@
 use Rattle.rules.specs.Rules.{moved}
-use borrow.Author.Rules.{rules}
 use Rattle.rules.proofs.moved_to.Goals as goal
 
 pub returns : goal.returns

@@ -1,6 +1,5 @@
 use Rattle.chain.proofs.Chain.{chain}
 use Rattle.rules.specs.Rules.{reclaimed}
-use borrow.Author.Rules.{rules}
 use Rattle.rules.proofs.reclaim.Goals as goal
 
 pub returns-then-device_may_access : goal.returns-then-device_may_access

@@ -1,7 +1,6 @@
 use Rattle.chain.proofs.Chain.{chain}
 use Rattle.rules.specs.Rules.{spend_sequence}
 use Rattle.rules.proofs.Said.{spend_said}
-use borrow.Author.Rules.{rules}
 use Rattle.rules.proofs.spend_sequence.Goals as goal
 
 pub returns-then-next-eq-LAST_SEQUENCE-clause-step : goal.returns-then-next-eq-LAST_SEQUENCE-clause-step

@@ -1,5 +1,4 @@
 use Rattle.session.proofs.Revision.{mark_closed, mark_open}
-use borrow.Author.Rules.{rules}
 use Rattle.session.proofs.mark.Goals as goal
 
 pub returns-then-is_closed : goal.returns-then-is_closed

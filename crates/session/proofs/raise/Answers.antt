@@ -1,5 +1,4 @@
 use Rattle.session.proofs.Revision.{raise_none, raise_full, raise_on}
-use borrow.Author.Rules.{rules}
 use Rattle.session.proofs.raise.Goals as goal
 
 pub returns-in_default : goal.returns-in_default

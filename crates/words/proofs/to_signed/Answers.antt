@@ -1,8 +1,7 @@
-use Rattle.words.proofs.Signed.{low_word, minus_word, high_word}
+use Rattle.words.proofs.Signed.{low_word, high_word}
 use Rattle.words.specs.Words.{read_signed}
-use Prim.Native.Nat.{◌-◌, ◌%◌}
+use Prim.Native.Nat.{◌%◌}
 use native.Mathlib.Omega.{arith}
-use borrow.Author.Rules.{rules}
 use Rattle.words.proofs.to_signed.Goals as goal
 
 pub returns-then-y-lt-SIGN : goal.returns-then-y-lt-SIGN

@@ -1,5 +1,4 @@
 use Rattle.bus.proofs.Tables.{mark_is}
-use borrow.Author.Rules.{rules}
 use Rattle.bus.proofs.devices.needs_reconcile.Goals as goal
 
 pub returns : goal.returns

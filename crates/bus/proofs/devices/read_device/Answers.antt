@@ -1,5 +1,4 @@
 use Rattle.bus.proofs.Tables.{device_none, device_some}
-use borrow.Author.Rules.{rules}
 use Rattle.bus.proofs.devices.read_device.Goals as goal
 
 pub returns-then-bus-at-eq0 : goal.returns-then-bus-at-eq0

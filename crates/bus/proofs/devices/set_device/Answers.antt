@@ -1,5 +1,4 @@
 use Rattle.bus.proofs.Tables.{put_device_lem}
-use borrow.Author.Rules.{rules}
 use Rattle.bus.proofs.devices.set_device.Goals as goal
 
 pub returns : goal.returns

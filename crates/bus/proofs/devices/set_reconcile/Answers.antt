@@ -1,5 +1,4 @@
 use Rattle.bus.proofs.Tables.{put_mark_lem}
-use borrow.Author.Rules.{rules}
 use Rattle.bus.proofs.devices.set_reconcile.Goals as goal
 
 pub returns : goal.returns

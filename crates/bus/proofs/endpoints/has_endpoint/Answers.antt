@@ -1,8 +1,4 @@
 use Rattle.bus.proofs.endpoints.Laws.{search_on, search_here, search_none}
-use Rattle.bus.specs.Tables.{bus_of, endpoints_at}
-use Rattle.chain.specs.Lists.{find}
-use lib.Dec.{eqb}
-use Prim.Native.Nat.{◌-◌, ◌≤◌}
 use borrow.Author.Rules.{rules}
 use Rattle.bus.proofs.endpoints.has_endpoint.Goals as goal
 

@@ -1,6 +1,3 @@
-use mathlib.Core.Path.{◌∙◌}
-use native.Mathlib.Omega.{arith}
-use lib.ListN.{length-set}
 use Rattle.bus.proofs.endpoints.Laws.{endpoints_over, endpoints_set}
 use Rattle.bus.proofs.Said.{set_endpoints_said}
 use borrow.Author.Rules.{rules}

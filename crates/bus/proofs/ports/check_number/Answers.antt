@@ -1,5 +1,4 @@
 use Rattle.bus.proofs.ports.Laws.{number_in, number_none, number_out}
-use borrow.Author.Rules.{rules}
 use Rattle.bus.proofs.ports.check_number.Goals as goal
 
 pub returns-in_default : goal.returns-in_default

@@ -1,5 +1,4 @@
 use Rattle.bus.proofs.ports.Laws.{reading_none, reading_some}
-use borrow.Author.Rules.{rules}
 use Rattle.bus.proofs.ports.check_reading.Goals as goal
 
 pub returns-in_default : goal.returns-in_default

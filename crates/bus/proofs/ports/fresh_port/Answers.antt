@@ -1,6 +1,5 @@
 use Rattle.bus.proofs.ports.Laws.{fresh_in, fresh_out}
 use Rattle.bus.proofs.Said.{fresh_said}
-use borrow.Author.Rules.{rules}
 use Rattle.bus.proofs.ports.fresh_port.Goals as goal
 
 pub returns-in_default-clause-step : goal.returns-in_default-clause-step

@@ -1,5 +1,4 @@
 use Rattle.bus.proofs.ports.Laws.{observe_full, observe_on}
-use borrow.Author.Rules.{rules}
 use Rattle.bus.proofs.ports.observe.Goals as goal
 
 pub returns-in-Refused : goal.returns-in-Refused

@@ -1,5 +1,4 @@
 use Rattle.bus.proofs.ports.Laws.{reading_failed, reading_word}
-use borrow.Author.Rules.{rules}
 use Rattle.bus.proofs.ports.observe_reading.Goals as goal
 
 pub returns-in-Error : goal.returns-in-Error

@@ -1,5 +1,4 @@
 use Rattle.bus.proofs.ports.Laws.{observed_changed, observed_first, observed_kept}
-use borrow.Author.Rules.{rules}
 use Rattle.bus.proofs.ports.observe_row.Goals as goal
 
 pub returns-in_default : goal.returns-in_default

@@ -1,5 +1,4 @@
 use Rattle.bus.proofs.ports.Laws.{fresh_full, fresh_on}
-use borrow.Author.Rules.{rules}
 use Rattle.bus.proofs.ports.observe_word.Goals as goal
 
 pub returns-in-Refused : goal.returns-in-Refused

@@ -1,5 +1,4 @@
 use Rattle.bus.proofs.ports.Laws.{peek_full, peek_on}
-use borrow.Author.Rules.{rules}
 use Rattle.bus.proofs.ports.peek_word.Goals as goal
 
 pub returns-in-Refused : goal.returns-in-Refused

@@ -1,5 +1,4 @@
 use Rattle.bus.proofs.ports.Laws.{raise_full, raise_on}
-use borrow.Author.Rules.{rules}
 use Rattle.bus.proofs.ports.raise.Goals as goal
 
 pub returns-then-row-eq-LAST_GENERATION : goal.returns-then-row-eq-LAST_GENERATION

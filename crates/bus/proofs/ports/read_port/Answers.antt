@@ -1,5 +1,4 @@
 use Rattle.bus.proofs.Tables.{port_is}
-use borrow.Author.Rules.{rules}
 use Rattle.bus.proofs.ports.read_port.Goals as goal
 
 pub returns : goal.returns

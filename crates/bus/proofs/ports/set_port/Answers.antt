@@ -1,6 +1,5 @@
 use Rattle.bus.proofs.ports.Laws.{set_in, set_out}
 use Rattle.bus.proofs.Said.{set_port_said}
-use borrow.Author.Rules.{rules}
 use Rattle.bus.proofs.ports.set_port.Goals as goal
 
 pub returns-in_default-clause-step : goal.returns-in_default-clause-step

@@ -1,5 +1,4 @@
 use Rattle.bus.proofs.ports.Laws.{validated_in, validated_out}
-use borrow.Author.Rules.{rules}
 use Rattle.bus.proofs.ports.validate.Goals as goal
 
 pub returns-in-Refused : goal.returns-in-Refused

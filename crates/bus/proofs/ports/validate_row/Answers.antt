@@ -1,5 +1,4 @@
 use Rattle.bus.proofs.ports.Laws.{row_read, row_stale}
-use borrow.Author.Rules.{rules}
 use Rattle.bus.proofs.ports.validate_row.Goals as goal
 
 pub returns-then-same-id : goal.returns-then-same-id

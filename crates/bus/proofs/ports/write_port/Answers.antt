@@ -1,5 +1,4 @@
 use Rattle.bus.proofs.Tables.{put_port_lem}
-use borrow.Author.Rules.{rules}
 use Rattle.bus.proofs.ports.write_port.Goals as goal
 
 pub returns : goal.returns

@@ -1,4 +1,3 @@
-use borrow.Author.Rules.{rules}
 use Rattle.checks.proofs.completion.Laws.{stop_early, stop_data, stop_none, stop_code, go_valid}
 use Rattle.checks.proofs.completion.test_code.Goals as goal
 

@@ -1,4 +1,3 @@
-use borrow.Author.Rules.{rules}
 use Rattle.checks.proofs.Said.{test_said_lem}
 use Rattle.checks.proofs.completion.Laws.{stop_missing, go_length}
 use Rattle.checks.proofs.completion.test_completion.Goals as goal

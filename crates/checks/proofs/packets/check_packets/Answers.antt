@@ -1,4 +1,3 @@
-use borrow.Author.Rules.{rules}
 use Rattle.chain.proofs.Chain.{chain}
 use Rattle.models.proofs.Said.{tabled_says}
 use Rattle.checks.proofs.Said.{rejected_tabled}

@@ -1,9 +1,7 @@
 use Prim.Native.Nat.{◌≤◌, ◌-◌}
 use mathlib.Core.Path.{◌≡◌}
 use lib.ListN.{length, take}
-use borrow.Author.Rules.{rules}
 use Rattle.checks.specs.Packets.{total}
-use Rattle.checks.proofs.packets.Laws.{sum_on, sum_over, sum_end}
 use Rattle.checks.proofs.packets.sums_to.Given as goal
 
 abbrev pub invariant-loop-i : goal.invariant-loop-i

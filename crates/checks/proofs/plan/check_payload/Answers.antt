@@ -1,4 +1,3 @@
-use borrow.Author.Rules.{rules}
 use Rattle.chain.proofs.Chain.{chain}
 use Rattle.checks.specs.Plan.{payload_checked}
 use Rattle.checks.proofs.plan.check_payload.Goals as goal

@@ -1,4 +1,3 @@
-use borrow.Author.Rules.{rules}
 use Rattle.chain.proofs.Chain.{chain}
 use Rattle.checks.specs.Plan.{size_checked}
 use Rattle.checks.proofs.plan.check_size.Goals as goal

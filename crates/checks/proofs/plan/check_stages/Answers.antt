@@ -1,4 +1,3 @@
-use borrow.Author.Rules.{rules}
 use Rattle.chain.proofs.Chain.{chain}
 use Rattle.checks.specs.Plan.{stages_checked}
 use Rattle.checks.proofs.plan.check_stages.Goals as goal

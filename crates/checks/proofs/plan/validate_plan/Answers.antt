@@ -1,4 +1,3 @@
-use borrow.Author.Rules.{rules}
 use Rattle.checks.proofs.Said.{planned_said_lem}
 use Rattle.checks.proofs.Answers.{plan_stop, plan_go}
 use Rattle.checks.proofs.plan.validate_plan.Goals as goal

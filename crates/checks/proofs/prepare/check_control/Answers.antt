@@ -1,4 +1,3 @@
-use borrow.Author.Rules.{rules}
 use Rattle.chain.proofs.Chain.{chain}
 use Rattle.checks.specs.Prepare.{control_checked}
 use Rattle.checks.proofs.prepare.check_control.Goals as goal

@@ -1,4 +1,3 @@
-use borrow.Author.Rules.{rules}
 use Rattle.chain.proofs.Chain.{chain}
 use Rattle.checks.specs.Prepare.{data_checked}
 use Rattle.checks.proofs.prepare.check_data.Goals as goal

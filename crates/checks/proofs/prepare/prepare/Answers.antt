@@ -1,4 +1,3 @@
-use borrow.Author.Rules.{rules}
 use Rattle.checks.proofs.Said.{prepared_said_lem}
 use Rattle.checks.proofs.Answers.{request_stop, request_go}
 use Rattle.checks.proofs.prepare.prepare.Goals as goal

@@ -2,7 +2,6 @@ use Rattle.rows.specs.Store.{store_of}
 use Rattle.ledger.proofs.Found.{found_in_lem}
 use Rattle.ledger.proofs.Said.{placed_said_lem}
 use Rattle.ledger.proofs.in_place.Laws.{placed_none, accept_in, accept_done, accept_row}
-use borrow.Author.Rules.{rules}
 use Rattle.ledger.proofs.in_place.accept.Goals as goal
 
 pub returns-in_default-clause-step : goal.returns-in_default-clause-step

@@ -2,7 +2,6 @@ use Rattle.rows.specs.Store.{store_of}
 use Rattle.ledger.proofs.Found.{found_in_lem}
 use Rattle.ledger.proofs.Said.{reclaim_said}
 use Rattle.ledger.proofs.in_place.Laws.{reclaim_none, reclaim_no, reclaim_at}
-use borrow.Author.Rules.{rules}
 use Rattle.ledger.proofs.in_place.reclaimable.Goals as goal
 
 pub returns-in_default-clause-step : goal.returns-in_default-clause-step

@@ -1,8 +1,7 @@
 use borrow.Author.Rules.{rules}
-use Prim.Native.Nat.{◌-◌}
 use Rattle.chain.proofs.Chain.{through}
-use Rattle.rows.specs.Table.{read_rows, is_uncertain}
-use Rattle.ledger.proofs.search.Laws.{Sought, sought_on, sought_one, sought_none}
+use Rattle.rows.specs.Table.{is_uncertain}
+use Rattle.ledger.proofs.search.Laws.{sought_on, sought_one}
 use Rattle.ledger.proofs.search.any_uncertain.Goals as goal
 
 pub returns-then-uncertain_at : goal.returns-then-uncertain_at

@@ -1,8 +1,6 @@
-use borrow.Author.Rules.{rules}
 use Prim.Native.Nat.{◌-◌}
-use Rattle.chain.proofs.Chain.{through}
 use Rattle.rows.specs.Table.{read_rows, is_uncertain}
-use Rattle.ledger.proofs.search.Laws.{Sought, sought_on, sought_one, sought_none}
+use Rattle.ledger.proofs.search.Laws.{Sought}
 use Rattle.ledger.proofs.search.any_uncertain.Given as goal
 
 abbrev pub invariant-loop-i : goal.invariant-loop-i

@@ -1,8 +1,6 @@
-use native.Mathlib.Omega.{arith}
-use borrow.Author.Rules.{rules}
 use Prim.Native.Nat.{◌-◌}
 use Rattle.rows.specs.Table.{read_rows}
-use Rattle.ledger.proofs.search.Laws.{SoughtBlock, block_on, block_here, block_last}
+use Rattle.ledger.proofs.search.Laws.{SoughtBlock}
 use Rattle.ledger.proofs.search.block_of.Given as goal
 
 abbrev pub invariant-loop-at : goal.invariant-loop-at

@@ -1,8 +1,7 @@
 use native.Mathlib.Omega.{arith}
 use borrow.Author.Rules.{rules}
-use Prim.Native.Nat.{◌-◌, ◌≤◌}
-use Rattle.rows.specs.Table.{read_rows}
-use Rattle.ledger.proofs.search.Laws.{CountedBefore, word_most, sequence_start, sequence_on, sequence_end}
+use Prim.Native.Nat.{◌≤◌}
+use Rattle.ledger.proofs.search.Laws.{word_most, sequence_start, sequence_on}
 use Rattle.ledger.proofs.search.count_sequence.Goals as goal
 
 pub loop-i-init : goal.loop-i-init

@@ -1,8 +1,6 @@
-use native.Mathlib.Omega.{arith}
-use borrow.Author.Rules.{rules}
-use Prim.Native.Nat.{◌-◌, ◌≤◌}
+use Prim.Native.Nat.{◌-◌}
 use Rattle.rows.specs.Table.{read_rows}
-use Rattle.ledger.proofs.search.Laws.{CountedBefore, word_most, sequence_start, sequence_on, sequence_end}
+use Rattle.ledger.proofs.search.Laws.{CountedBefore}
 use Rattle.ledger.proofs.search.count_sequence.Given as goal
 
 abbrev pub invariant-loop-i : goal.invariant-loop-i

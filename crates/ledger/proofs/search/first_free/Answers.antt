@@ -1,9 +1,7 @@
 use borrow.Author.Rules.{rules}
-use Prim.Native.Nat.{◌-◌}
 use Rattle.chain.proofs.Chain.{not_through}
-use Rattle.rows.specs.Table.{read_rows}
 use Rattle.ledger.specs.Search.{is_free}
-use Rattle.ledger.proofs.search.Laws.{Sought, sought_on, sought_at, sought_past}
+use Rattle.ledger.proofs.search.Laws.{sought_on, sought_at, sought_past}
 use Rattle.ledger.proofs.search.first_free.Goals as goal
 
 pub returns-then-not-used_at : goal.returns-then-not-used_at

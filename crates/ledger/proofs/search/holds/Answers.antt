@@ -1,5 +1,4 @@
 use Rattle.ledger.proofs.search.Laws.{at_words, other_sequence}
-use borrow.Author.Rules.{rules}
 use Rattle.ledger.proofs.search.holds.Goals as goal
 
 pub returns-then-own-id : goal.returns-then-own-id

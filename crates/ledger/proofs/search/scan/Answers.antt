@@ -1,9 +1,6 @@
 use borrow.Author.Rules.{rules}
-use Prim.Native.Nat.{◌-◌}
 use Rattle.chain.proofs.Chain.{through}
-use Rattle.rows.specs.Table.{read_rows}
-use Rattle.ledger.specs.Search.{is_at}
-use Rattle.ledger.proofs.search.Laws.{SoughtBefore, before_on, before_at, before_past}
+use Rattle.ledger.proofs.search.Laws.{before_on, before_at, before_past}
 use Rattle.ledger.proofs.search.scan.Goals as goal
 
 pub returns-then-holds : goal.returns-then-holds

@@ -1,5 +1,4 @@
-use Rattle.ledger.proofs.tally.Laws.{bytes_kept, bytes_more}
-use borrow.Author.Rules.{rules}
+use Rattle.ledger.proofs.tally.Laws.{bytes_kept}
 use Rattle.ledger.proofs.tally.add_held.Goals as goal
 
 pub returns-then-not-held_at : goal.returns-then-not-held_at

@@ -1,6 +1,5 @@
 use native.Mathlib.Omega.{arith}
 use Rattle.ledger.proofs.tally.Laws.{saturate_is}
-use borrow.Author.Rules.{rules}
 use Rattle.ledger.proofs.tally.add_saturating.Goals as goal
 
 pub returns-then-length-total : goal.returns-then-length-total

@@ -1,6 +1,5 @@
 use Rattle.ledger.proofs.tally.Laws.{saturate_is}
 use native.Mathlib.Omega.{arith}
-use borrow.Author.Rules.{rules}
 use Rattle.ledger.proofs.tally.cut.Goals as goal
 
 pub returns-then-total : goal.returns-then-total

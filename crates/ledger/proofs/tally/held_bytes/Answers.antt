@@ -1,8 +1,6 @@
 use borrow.Author.Rules.{rules}
-use Prim.Native.Nat.{◌-◌}
-use Rattle.rows.specs.Table.{read_rows}
 use Rattle.ledger.specs.Tally.{held_bytes, held_length}
-use Rattle.ledger.proofs.tally.Laws.{Tallied, tally_start, tally_on, tally_end}
+use Rattle.ledger.proofs.tally.Laws.{tally_start, tally_on, tally_end}
 use Rattle.ledger.proofs.tally.held_bytes.Goals as goal
 
 pub loop-i-init : goal.loop-i-init

@@ -1,8 +1,7 @@
-use borrow.Author.Rules.{rules}
 use Prim.Native.Nat.{◌-◌}
 use Rattle.rows.specs.Table.{read_rows}
-use Rattle.ledger.specs.Tally.{held_bytes, held_length}
-use Rattle.ledger.proofs.tally.Laws.{Tallied, tally_start, tally_on, tally_end}
+use Rattle.ledger.specs.Tally.{held_length}
+use Rattle.ledger.proofs.tally.Laws.{Tallied}
 use Rattle.ledger.proofs.tally.held_bytes.Given as goal
 
 abbrev pub invariant-loop-i : goal.invariant-loop-i

@@ -1,8 +1,6 @@
 use native.Mathlib.Omega.{arith}
 use borrow.Author.Rules.{rules}
-use Prim.Native.Nat.{◌-◌}
-use Rattle.rows.specs.Table.{read_rows}
-use Rattle.ledger.proofs.tally.Laws.{Counted, counted_on, counted_end}
+use Rattle.ledger.proofs.tally.Laws.{counted_on, counted_end}
 use Rattle.ledger.proofs.tally.held_count.Goals as goal
 
 pub loop-i-preserved : goal.loop-i-preserved

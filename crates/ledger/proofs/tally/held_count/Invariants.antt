@@ -1,8 +1,6 @@
-use native.Mathlib.Omega.{arith}
-use borrow.Author.Rules.{rules}
 use Prim.Native.Nat.{◌-◌}
 use Rattle.rows.specs.Table.{read_rows}
-use Rattle.ledger.proofs.tally.Laws.{Counted, counted_on, counted_end}
+use Rattle.ledger.proofs.tally.Laws.{Counted}
 use Rattle.ledger.proofs.tally.held_count.Given as goal
 
 abbrev pub invariant-loop-i : goal.invariant-loop-i

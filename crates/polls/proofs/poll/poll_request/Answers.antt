@@ -2,7 +2,6 @@ use Rattle.polls.proofs.poll.Laws.{poll_stop, poll_none, poll_at}
 use Rattle.ledger.proofs.Found.{found_in_lem}
 use Rattle.rows.specs.Store.{store_of}
 use Rattle.polls.proofs.Said.{poll_said_lem}
-use borrow.Author.Rules.{rules}
 use Rattle.polls.proofs.poll.poll_request.Goals as goal
 
 pub returns-in_default-clause-step : goal.returns-in_default-clause-step

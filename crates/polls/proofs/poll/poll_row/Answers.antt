@@ -1,5 +1,4 @@
 use Rattle.polls.proofs.poll.Laws.{row_told, row_early, row_asked}
-use borrow.Author.Rules.{rules}
 use Rattle.polls.proofs.poll.poll_row.Goals as goal
 
 pub returns-then-not-is_pending : goal.returns-then-not-is_pending

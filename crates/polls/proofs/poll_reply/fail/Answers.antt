@@ -1,5 +1,4 @@
 use Rattle.polls.proofs.poll_reply.Laws.{failed_quiet, failed_marked}
-use borrow.Author.Rules.{rules}
 use Rattle.polls.proofs.poll_reply.fail.Goals as goal
 
 pub returns-then-completion : goal.returns-then-completion

@@ -1,5 +1,4 @@
 use Rattle.polls.proofs.poll_reply.Laws.{invalid_is}
-use borrow.Author.Rules.{rules}
 use Rattle.polls.proofs.poll_reply.invalid.Goals as goal
 
 pub returns : goal.returns

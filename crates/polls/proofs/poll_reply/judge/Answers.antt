@@ -1,5 +1,4 @@
 use Rattle.polls.proofs.poll_reply.Laws.{judged-error, judged_test_lem}
-use borrow.Author.Rules.{rules}
 use Rattle.polls.proofs.poll_reply.judge.Goals as goal
 
 pub returns-in-Some : goal.returns-in-Some

@@ -1,5 +1,4 @@
 use Rattle.polls.proofs.poll_reply.Laws.{test_valid, test_missing, test_invalid}
-use borrow.Author.Rules.{rules}
 use Rattle.polls.proofs.poll_reply.judge_test.Goals as goal
 
 pub returns-in-Valid : goal.returns-in-Valid

@@ -1,6 +1,5 @@
 use Rattle.polls.proofs.poll_reply.Laws.{reply_idle, reply_submission, reply_recovery, reply_on}
 use Rattle.polls.proofs.Said.{poll_reply_said}
-use borrow.Author.Rules.{rules}
 use Rattle.polls.proofs.poll_reply.poll_reply.Goals as goal
 
 pub returns-in-Nothing-clause-step : goal.returns-in-Nothing-clause-step

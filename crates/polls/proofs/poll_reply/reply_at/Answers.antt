@@ -1,6 +1,5 @@
 use Rattle.rows.specs.Store.{store_of}
 use Rattle.polls.proofs.poll_reply.Laws.{at_nothing, at_error, at_completion}
-use borrow.Author.Rules.{rules}
 use Rattle.polls.proofs.poll_reply.reply_at.Goals as goal
 
 pub returns-in-Nothing : goal.returns-in-Nothing

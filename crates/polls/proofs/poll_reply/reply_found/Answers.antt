@@ -1,7 +1,6 @@
 use Rattle.ledger.proofs.Found.{found_in_lem}
 use Rattle.polls.proofs.poll_reply.Laws.{found_unfit, found_none, found_at, idle_place}
 use Rattle.rows.specs.Store.{store_of}
-use borrow.Author.Rules.{rules}
 use Rattle.polls.proofs.poll_reply.reply_found.Goals as goal
 
 pub returns-then-not-memory_fits : goal.returns-then-not-memory_fits

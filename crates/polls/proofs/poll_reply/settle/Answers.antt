@@ -1,5 +1,4 @@
 use Rattle.polls.proofs.poll_reply.Laws.{settled_no, settled_done}
-use borrow.Author.Rules.{rules}
 use Rattle.polls.proofs.poll_reply.settle.Goals as goal
 
 pub returns-in-Refused : goal.returns-in-Refused

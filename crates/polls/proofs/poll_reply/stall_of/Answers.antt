@@ -1,5 +1,4 @@
 use Rattle.polls.proofs.poll_reply.Laws.{stall_none, stall_other, stall_some}
-use borrow.Author.Rules.{rules}
 use Rattle.polls.proofs.poll_reply.stall_of.Goals as goal
 
 pub returns-in_default : goal.returns-in_default

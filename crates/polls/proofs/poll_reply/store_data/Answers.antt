@@ -1,5 +1,4 @@
 use Rattle.polls.proofs.poll_reply.Laws.{data_left, data_stored}
-use borrow.Author.Rules.{rules}
 use Rattle.polls.proofs.poll_reply.store_data.Goals as goal
 
 pub returns-then-not-stored : goal.returns-then-not-stored

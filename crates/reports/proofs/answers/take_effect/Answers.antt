@@ -1,5 +1,4 @@
 use Rattle.reports.proofs.answers.Laws.{effect_mild, effect_marks}
-use borrow.Author.Rules.{rules}
 use Rattle.reports.proofs.answers.take_effect.Goals as goal
 
 pub returns-then-is_mild : goal.returns-then-is_mild

@@ -1,6 +1,5 @@
 use Rattle.reports.proofs.change.Laws.{change_stop, change_on}
 use Rattle.rows.specs.Store.{store_of}
-use borrow.Author.Rules.{rules}
 use Rattle.reports.proofs.change.change_request.Goals as goal
 
 pub returns-in-Refused : goal.returns-in-Refused

@@ -1,5 +1,4 @@
 use Rattle.reports.proofs.change.Laws.{reported_no, reported_done}
-use borrow.Author.Rules.{rules}
 use Rattle.reports.proofs.change.reported.Goals as goal
 
 pub returns-in-Refused : goal.returns-in-Refused

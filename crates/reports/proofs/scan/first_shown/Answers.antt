@@ -1,7 +1,5 @@
 use borrow.Author.Rules.{rules}
-use Prim.Native.Nat.{◌-◌}
-use Rattle.rows.specs.Table.{read_rows}
-use Rattle.reports.proofs.scan.Laws.{Scanned, scan_on, scan_at, scan_past}
+use Rattle.reports.proofs.scan.Laws.{scan_on, scan_at, scan_past}
 use Rattle.reports.proofs.scan.first_shown.Goals as goal
 
 pub returns-then-is_shown : goal.returns-then-is_shown

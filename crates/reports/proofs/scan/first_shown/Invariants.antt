@@ -1,7 +1,6 @@
-use borrow.Author.Rules.{rules}
 use Prim.Native.Nat.{◌-◌}
 use Rattle.rows.specs.Table.{read_rows}
-use Rattle.reports.proofs.scan.Laws.{Scanned, scan_on, scan_at, scan_past}
+use Rattle.reports.proofs.scan.Laws.{Scanned}
 use Rattle.reports.proofs.scan.first_shown.Given as goal
 
 abbrev pub invariant-loop-i : goal.invariant-loop-i

@@ -1,6 +1,5 @@
 use Rattle.reports.proofs.scan.Laws.{scanned_in, from_unfit, from_none, from_at}
 use Rattle.rows.specs.Store.{store_of}
-use borrow.Author.Rules.{rules}
 use Rattle.reports.proofs.scan.report_from.Goals as goal
 
 pub returns-then-not-rows_fit : goal.returns-then-not-rows_fit

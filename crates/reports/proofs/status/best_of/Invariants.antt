@@ -1,7 +1,6 @@
-use borrow.Author.Rules.{rules}
 use Prim.Native.Nat.{◌-◌}
 use Rattle.rows.specs.Table.{read_rows}
-use Rattle.reports.proofs.status.Laws.{Leads, best_near, best_on, best_none, best_inside, best_found}
+use Rattle.reports.proofs.status.Laws.{Leads}
 use Rattle.reports.proofs.status.best_of.Given as goal
 
 abbrev pub invariant-loop-i : goal.invariant-loop-i

@@ -1,5 +1,4 @@
 use Rattle.reports.proofs.status.Laws.{place_hidden, place_next, place_best}
-use borrow.Author.Rules.{rules}
 use Rattle.reports.proofs.status.better_of.Goals as goal
 
 pub returns-then-not-is_shown : goal.returns-then-not-is_shown

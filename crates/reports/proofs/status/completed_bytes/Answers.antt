@@ -1,5 +1,4 @@
-use Rattle.reports.proofs.status.Laws.{part_inside, part_fits, part_bytes, part_number_lem}
-use borrow.Author.Rules.{rules}
+use Rattle.reports.proofs.status.Laws.{part_inside, part_fits, part_bytes}
 use Rattle.reports.proofs.status.completed_bytes.Goals as goal
 
 pub overflow_add-end : goal.overflow_add-end

@@ -2,7 +2,6 @@ use Rattle.reports.proofs.status.Laws.{shown_in, part_unfit, part_none, part_at}
 use Rattle.reports.proofs.Bytes.{place_below}
 use Rattle.rows.specs.Store.{store_of}
 use Rattle.reports.proofs.Said.{part_said_lem}
-use borrow.Author.Rules.{rules}
 use Rattle.reports.proofs.status.completed_part.Goals as goal
 
 pub returns-then-not-memory_fits-clause-step : goal.returns-then-not-memory_fits-clause-step

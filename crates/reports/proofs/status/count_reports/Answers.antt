@@ -1,7 +1,6 @@
 use Rattle.reports.proofs.status.Laws.{shown_unfit, shown_on}
 use Rattle.rows.specs.Store.{store_of}
 use Rattle.reports.proofs.Said.{shown_said}
-use borrow.Author.Rules.{rules}
 use Rattle.reports.proofs.status.count_reports.Goals as goal
 
 pub returns-then-not-rows_fit-clause-step : goal.returns-then-not-rows_fit-clause-step

@@ -1,7 +1,6 @@
-use borrow.Author.Rules.{rules}
 use Prim.Native.Nat.{◌-◌}
 use Rattle.rows.specs.Table.{read_rows}
-use Rattle.reports.proofs.status.Laws.{Counted, shown_most, count_on, count_end}
+use Rattle.reports.proofs.status.Laws.{Counted}
 use Rattle.reports.proofs.status.count_shown.Given as goal
 
 abbrev pub invariant-loop-i : goal.invariant-loop-i

@@ -1,5 +1,4 @@
 use Rattle.reports.proofs.status.Laws.{shown_none, shown_find}
-use borrow.Author.Rules.{rules}
 use Rattle.reports.proofs.status.find_shown.Goals as goal
 
 pub returns-then-is_submitting : goal.returns-then-is_submitting

@@ -1,7 +1,6 @@
 use Rattle.reports.proofs.status.Laws.{bytes_unfit, bytes_on}
 use Rattle.rows.specs.Store.{store_of}
 use Rattle.reports.proofs.Said.{held_bytes_said}
-use borrow.Author.Rules.{rules}
 use Rattle.reports.proofs.status.held_bytes.Goals as goal
 
 pub returns-then-not-rows_fit-clause-step : goal.returns-then-not-rows_fit-clause-step

@@ -1,7 +1,6 @@
 use Rattle.reports.proofs.status.Laws.{held_unfit, held_on}
 use Rattle.rows.specs.Store.{store_of}
 use Rattle.reports.proofs.Said.{held_count_said}
-use borrow.Author.Rules.{rules}
 use Rattle.reports.proofs.status.held_count.Goals as goal
 
 pub returns-then-not-rows_fit-clause-step : goal.returns-then-not-rows_fit-clause-step

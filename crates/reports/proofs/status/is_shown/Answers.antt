@@ -1,5 +1,4 @@
 use Rattle.reports.proofs.status.Laws.{shown_free, shown_used}
-use borrow.Author.Rules.{rules}
 use Rattle.reports.proofs.status.is_shown.Goals as goal
 
 pub returns-then-not-used_at : goal.returns-then-not-used_at

@@ -1,7 +1,6 @@
 use Rattle.reports.proofs.status.Laws.{next_unfit, next_on}
 use Rattle.rows.specs.Store.{store_of}
 use Rattle.reports.proofs.Said.{next_said_lem}
-use borrow.Author.Rules.{rules}
 use Rattle.reports.proofs.status.request_reports.Goals as goal
 
 pub returns-then-not-rows_fit-clause-step : goal.returns-then-not-rows_fit-clause-step

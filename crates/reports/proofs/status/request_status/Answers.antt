@@ -1,7 +1,6 @@
 use Rattle.reports.proofs.status.Laws.{shown_in, status_unfit, status_none, status_at}
 use Rattle.rows.specs.Store.{store_of}
 use Rattle.reports.proofs.Said.{status_said}
-use borrow.Author.Rules.{rules}
 use Rattle.reports.proofs.status.request_status.Goals as goal
 
 pub returns-then-not-rows_fit-clause-step : goal.returns-then-not-rows_fit-clause-step

@@ -1,5 +1,4 @@
 use Rattle.rows.proofs.codec.Laws.{status_exact}
-use borrow.Author.Rules.{rules}
 use Rattle.rows.proofs.codec.status_words.Goals as goal
 
 pub returns : goal.returns

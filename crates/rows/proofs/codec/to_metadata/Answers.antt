@@ -1,5 +1,4 @@
 use Rattle.rows.specs.Codec.{read_metadata}
-use borrow.Author.Rules.{rules}
 use Rattle.rows.proofs.codec.to_metadata.Goals as goal
 
 pub returns : goal.returns

@@ -1,5 +1,4 @@
 use Rattle.rows.proofs.columns.Laws.{device_is}
-use borrow.Author.Rules.{rules}
 use Rattle.rows.proofs.columns.device_at.Goals as goal
 
 pub returns : goal.returns

@@ -1,5 +1,4 @@
 use Rattle.rows.proofs.Rows.{field_is}
-use borrow.Author.Rules.{rules}
 use Rattle.rows.proofs.columns.field.Goals as goal
 
 pub returns : goal.returns

@@ -1,6 +1,5 @@
 use native.Mathlib.Omega.{arith}
 use Rattle.rows.proofs.columns.Laws.{held_word}
-use borrow.Author.Rules.{rules}
 use Rattle.rows.proofs.columns.held_word_at.Goals as goal
 
 pub returns : goal.returns

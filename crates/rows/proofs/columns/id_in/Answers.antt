@@ -1,5 +1,4 @@
 use Rattle.rows.proofs.columns.Laws.{id_out}
-use borrow.Author.Rules.{rules}
 use Rattle.rows.proofs.columns.id_in.Goals as goal
 
 pub returns : goal.returns

@@ -2,7 +2,6 @@ use Rattle.rows.proofs.Rows.{inside}
 use Rattle.rows.specs.Table.{row_count}
 use mathlib.Core.Path.{refl}
 use native.Mathlib.Omega.{arith}
-use borrow.Author.Rules.{rules}
 use Rattle.rows.proofs.columns.record_at.Goals as goal
 
 pub overflow_mul-result-2 : goal.overflow_mul-result-2

@@ -1,5 +1,4 @@
 use Rattle.rows.proofs.columns.Laws.{length_is}
-use borrow.Author.Rules.{rules}
 use Rattle.rows.proofs.columns.requested_length_at.Goals as goal
 
 pub returns : goal.returns

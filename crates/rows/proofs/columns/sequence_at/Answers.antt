@@ -1,5 +1,4 @@
 use Rattle.rows.proofs.columns.Laws.{sequence_is}
-use borrow.Author.Rules.{rules}
 use Rattle.rows.proofs.columns.sequence_at.Goals as goal
 
 pub returns : goal.returns

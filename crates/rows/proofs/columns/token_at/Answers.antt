@@ -1,5 +1,4 @@
 use Rattle.rows.proofs.columns.Laws.{token_is}
-use borrow.Author.Rules.{rules}
 use Rattle.rows.proofs.columns.token_at.Goals as goal
 
 pub returns : goal.returns

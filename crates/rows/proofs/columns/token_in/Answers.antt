@@ -1,5 +1,4 @@
 use Rattle.rows.proofs.columns.Laws.{token_out}
-use borrow.Author.Rules.{rules}
 use Rattle.rows.proofs.columns.token_in.Goals as goal
 
 pub returns : goal.returns

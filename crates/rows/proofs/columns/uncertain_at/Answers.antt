@@ -1,5 +1,4 @@
 use Rattle.rows.proofs.columns.Laws.{uncertain_is}
-use borrow.Author.Rules.{rules}
 use Rattle.rows.proofs.columns.uncertain_at.Goals as goal
 
 pub returns : goal.returns

@@ -1,5 +1,4 @@
 use Rattle.rows.proofs.columns.Laws.{used_is}
-use borrow.Author.Rules.{rules}
 use Rattle.rows.proofs.columns.used_at.Goals as goal
 
 pub returns : goal.returns

@@ -1,5 +1,4 @@
 use Rattle.rows.proofs.in_place.Laws.{accepted_is}
-use borrow.Author.Rules.{rules}
 use Rattle.rows.proofs.in_place.accepted_record.Goals as goal
 
 pub returns : goal.returns

@@ -1,5 +1,4 @@
 use Rattle.rows.proofs.in_place.Laws.{cancel_put}
-use borrow.Author.Rules.{rules}
 use Rattle.rows.proofs.in_place.cancel_row.Goals as goal
 
 pub returns : goal.returns

@@ -1,5 +1,4 @@
 use Rattle.rows.proofs.in_place.Laws.{cancelled_is}
-use borrow.Author.Rules.{rules}
 use Rattle.rows.proofs.in_place.cancelled_record.Goals as goal
 
 pub returns : goal.returns

@@ -1,6 +1,5 @@
 use mathlib.Core.Path.{refl}
 use Rattle.rows.proofs.in_place.Laws.{complete_put}
-use borrow.Author.Rules.{rules}
 use Rattle.rows.proofs.in_place.complete_row.Goals as goal
 
 pub returns : goal.returns

@@ -1,6 +1,5 @@
 use Rattle.rows.proofs.Rows.{inside}
 use Rattle.rows.proofs.in_place.Laws.{end_put}
-use borrow.Author.Rules.{rules}
 use Rattle.rows.proofs.in_place.end_row.Goals as goal
 
 pub put_columns-requires : goal.put_columns-requires

@@ -1,6 +1,5 @@
 use Rattle.rows.proofs.Rows.{inside}
 use Rattle.rows.proofs.in_place.Laws.{free_put}
-use borrow.Author.Rules.{rules}
 use Rattle.rows.proofs.in_place.free_row.Goals as goal
 
 pub put_columns-requires : goal.put_columns-requires

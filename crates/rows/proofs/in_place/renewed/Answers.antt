@@ -1,5 +1,4 @@
 use Rattle.rows.proofs.in_place.Laws.{record_is}
-use borrow.Author.Rules.{rules}
 use Rattle.rows.proofs.in_place.renewed.Goals as goal
 
 pub returns : goal.returns

@@ -1,7 +1,6 @@
 use mathlib.Core.Path.{ap, ◌∙◌}
 use Rattle.models.specs.Values.{setup_words}
 use Rattle.rows.proofs.in_place.Laws.{setup_is}
-use borrow.Author.Rules.{rules}
 use Rattle.rows.proofs.in_place.renewed_setup.Goals as goal
 
 pub returns : goal.returns

@@ -1,5 +1,4 @@
 use Rattle.rows.specs.Codec.{read_row}
-use borrow.Author.Rules.{rules}
 use Rattle.rows.proofs.in_place.renewed_state.Goals as goal
 
 pub returns : goal.returns

@@ -1,5 +1,4 @@
 use Rattle.rows.proofs.in_place.Laws.{values_at}
-use borrow.Author.Rules.{rules}
 use Rattle.rows.proofs.in_place.report_values.Goals as goal
 
 pub returns : goal.returns

@@ -1,5 +1,4 @@
 use Rattle.rows.proofs.in_place.Laws.{timed_out_put}
-use borrow.Author.Rules.{rules}
 use Rattle.rows.proofs.in_place.time_out_row.Goals as goal
 
 pub returns : goal.returns

@@ -1,5 +1,4 @@
 use Rattle.rows.proofs.in_place.Laws.{timed_out_is}
-use borrow.Author.Rules.{rules}
 use Rattle.rows.proofs.in_place.timed_out_record.Goals as goal
 
 pub returns : goal.returns

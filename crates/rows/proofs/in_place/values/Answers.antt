@@ -1,5 +1,4 @@
 use Rattle.rows.proofs.in_place.Laws.{values_are}
-use borrow.Author.Rules.{rules}
 use Rattle.rows.proofs.in_place.values.Goals as goal
 
 pub returns : goal.returns

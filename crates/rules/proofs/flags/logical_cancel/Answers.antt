@@ -1,6 +1,5 @@
 use Rattle.rules.proofs.Rules.{settled, cancel_to}
 use Rattle.rules.specs.Rules.{logical_cancel}
-use borrow.Author.Rules.{rules}
 use Rattle.rules.proofs.flags.logical_cancel.Goals as goal
 
 pub returns-in_default : goal.returns-in_default

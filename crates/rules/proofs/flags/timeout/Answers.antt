@@ -1,6 +1,5 @@
 use Rattle.rules.proofs.Rules.{settled, timeout_to}
 use Rattle.rules.specs.Rules.{time_out}
-use borrow.Author.Rules.{rules}
 use Rattle.rules.proofs.flags.timeout.Goals as goal
 
 pub returns-in_default : goal.returns-in_default

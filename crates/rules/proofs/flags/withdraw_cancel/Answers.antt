@@ -1,6 +1,5 @@
 use Rattle.rules.proofs.Rules.{settled, withdraw_none, withdraw_to}
 use Rattle.rules.specs.Rules.{cancel_withdrawn}
-use borrow.Author.Rules.{rules}
 use Rattle.rules.proofs.flags.withdraw_cancel.Goals as goal
 
 pub returns-in_default : goal.returns-in_default

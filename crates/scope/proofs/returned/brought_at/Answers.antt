@@ -1,4 +1,3 @@
-use borrow.Author.Rules.{rules}
 use Rattle.scope.proofs.returned.Laws.{brought_is}
 use Rattle.scope.proofs.returned.brought_at.Goals as goal
 

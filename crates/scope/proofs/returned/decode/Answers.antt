@@ -1,4 +1,3 @@
-use borrow.Author.Rules.{rules}
 use Rattle.scope.specs.Returned.{read_brought}
 use Rattle.scope.proofs.returned.decode.Goals as goal
 

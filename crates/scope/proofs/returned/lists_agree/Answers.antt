@@ -1,4 +1,4 @@
-use Rattle.scope.proofs.returned.Laws.{agree_not, agree_words, agree_sum}
+use Rattle.scope.proofs.returned.Laws.{agree_not, agree_sum}
 use Rattle.scope.proofs.returned.lists_agree.Goals as goal
 
 pub returns-then-m-n : goal.returns-then-m-n

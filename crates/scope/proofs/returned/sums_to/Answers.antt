@@ -1,6 +1,5 @@
 use borrow.Author.Rules.{rules}
-use Prim.Native.Nat.{◌-◌}
-use Rattle.scope.proofs.returned.Laws.{Summed, sum_on, sum_over, sum_end}
+use Rattle.scope.proofs.returned.Laws.{sum_on, sum_over, sum_end}
 use Rattle.scope.proofs.returned.sums_to.Goals as goal
 
 pub returns-then-next-size : goal.returns-then-next-size

@@ -1,6 +1,5 @@
-use borrow.Author.Rules.{rules}
 use Prim.Native.Nat.{◌-◌}
-use Rattle.scope.proofs.returned.Laws.{Summed, sum_on, sum_over, sum_end}
+use Rattle.scope.proofs.returned.Laws.{Summed}
 use Rattle.scope.proofs.returned.sums_to.Given as goal
 
 abbrev pub invariant-loop-k : goal.invariant-loop-k

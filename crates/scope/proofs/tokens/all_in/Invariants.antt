@@ -1,7 +1,6 @@
-use borrow.Author.Rules.{rules}
 use Prim.Native.Nat.{◌-◌}
 use mathlib.Core.List.{◌++◌}
-use Rattle.scope.proofs.tokens.Laws.{Covering, cover_not, cover_on, cover_end}
+use Rattle.scope.proofs.tokens.Laws.{Covering}
 use Rattle.scope.proofs.tokens.all_in.Given as goal
 
 abbrev pub invariant-loop-k : goal.invariant-loop-k

@@ -1,4 +1,3 @@
-use borrow.Author.Rules.{rules}
 use Rattle.scope.proofs.tokens.Laws.{came_first, came_second}
 use Rattle.scope.proofs.tokens.came_back.Goals as goal
 

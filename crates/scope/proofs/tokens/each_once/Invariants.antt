@@ -1,7 +1,6 @@
-use borrow.Author.Rules.{rules}
 use Prim.Native.Nat.{◌-◌}
 use Rattle.scope.specs.Scope.{Rises}
-use Rattle.scope.proofs.tokens.Laws.{Marking, mark_start, mark_far, mark_twice, mark_on, mark_end}
+use Rattle.scope.proofs.tokens.Laws.{Marking}
 use Rattle.scope.proofs.tokens.each_once.Given as goal
 
 abbrev pub invariant-loop-k : goal.invariant-loop-k

@@ -1,4 +1,3 @@
-use borrow.Author.Rules.{rules}
 use Rattle.scope.proofs.tokens.Laws.{scope_first, scope_second, scope_not, scope_some, scope_full, scope_whole}
 use Rattle.scope.proofs.tokens.in_scope.Goals as goal
 

@@ -1,7 +1,5 @@
-use borrow.Author.Rules.{rules}
-use native.Mathlib.Omega.{arith}
 use Prim.Native.Nat.{◌-◌}
-use Rattle.scope.proofs.tokens.Laws.{RisesTo, rises_start, rises_not, rises_on, rises_end}
+use Rattle.scope.proofs.tokens.Laws.{RisesTo}
 use Rattle.scope.proofs.tokens.rises.Given as goal
 
 abbrev pub invariant-loop-k : goal.invariant-loop-k

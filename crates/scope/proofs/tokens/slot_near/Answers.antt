@@ -1,4 +1,3 @@
-use borrow.Author.Rules.{rules}
 use Rattle.scope.proofs.tokens.Laws.{near_is}
 use Rattle.scope.proofs.tokens.slot_near.Goals as goal
 

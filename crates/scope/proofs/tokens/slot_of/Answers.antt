@@ -1,7 +1,5 @@
 use borrow.Author.Rules.{rules}
-use Prim.Native.Nat.{◌-◌}
-use lib.Dec.{eqb}
-use Rattle.scope.proofs.affected.Laws.{Passed, place_end}
+use Rattle.scope.proofs.affected.Laws.{place_end}
 use Rattle.scope.proofs.tokens.Laws.{slot_here, slot_on}
 use Rattle.scope.proofs.tokens.slot_of.Goals as goal
 

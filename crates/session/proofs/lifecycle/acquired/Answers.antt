@@ -1,5 +1,4 @@
 use Rattle.session.proofs.Outcomes.{acquired_pass, acquired_kept, acquired_left}
-use borrow.Author.Rules.{rules}
 use Rattle.session.proofs.lifecycle.acquired.Goals as goal
 
 pub returns-then-retained : goal.returns-then-retained

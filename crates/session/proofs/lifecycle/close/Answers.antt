@@ -1,7 +1,6 @@
 use Rattle.session.proofs.Outcomes.{close_stop, close_closed, close_none, close_on}
 use Rattle.rows.specs.Store.{store_of}
 use Rattle.session.proofs.Said.{close_said}
-use borrow.Author.Rules.{rules}
 use Rattle.session.proofs.lifecycle.close.Goals as goal
 
 pub returns-then-is_closed-clause-step : goal.returns-then-is_closed-clause-step

@@ -1,5 +1,4 @@
 use Rattle.session.proofs.Outcomes.{closed_pass, closed_failed}
-use borrow.Author.Rules.{rules}
 use Rattle.session.proofs.lifecycle.closed.Goals as goal
 
 pub returns-in-Some : goal.returns-in-Some

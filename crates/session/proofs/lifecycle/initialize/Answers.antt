@@ -1,7 +1,6 @@
 use Rattle.chain.proofs.Chain.{chain}
 use Rattle.session.specs.Lifecycle.{initialize_of}
 use Rattle.session.proofs.Said.{initialize_said}
-use borrow.Author.Rules.{rules}
 use Rattle.session.proofs.lifecycle.initialize.Goals as goal
 
 pub returns-then-is_busy-clause-step : goal.returns-then-is_busy-clause-step

@@ -1,5 +1,4 @@
 use Rattle.session.proofs.Outcomes.{initialized_pass, initialized_failed}
-use borrow.Author.Rules.{rules}
 use Rattle.session.proofs.lifecycle.initialized.Goals as goal
 
 pub returns-in-None : goal.returns-in-None

@@ -1,9 +1,7 @@
 use Rattle.session.proofs.Outcomes.{open_unfit, open_new}
-use Rattle.session.proofs.sizes.Laws.{fit_bus}
 use Rattle.rows.specs.Store.{store_of}
 use Rattle.bus.specs.Tables.{bus_of}
 use Rattle.session.proofs.Said.{open_said}
-use borrow.Author.Rules.{rules}
 use Rattle.session.proofs.lifecycle.open.Goals as goal
 
 pub returns-then-not-lent_fits-clause-step : goal.returns-then-not-lent_fits-clause-step

@@ -4,7 +4,6 @@ use Rattle.session.specs.Place.{set_device_of}
 use Rattle.bus.specs.Tables.{bus_of}
 use Rattle.session.proofs.Said.{placed_said_lem, set_device_tabled}
 use Rattle.session.specs.Said.{place_numbers}
-use borrow.Author.Rules.{rules}
 use Rattle.session.proofs.place.set_device.Goals as goal
 
 pub returns-in_default-clause-step : goal.returns-in_default-clause-step

@@ -4,7 +4,6 @@ use Rattle.session.specs.Place.{set_port_of}
 use Rattle.bus.specs.Tables.{bus_of}
 use Rattle.session.proofs.Said.{placed_said_lem, set_port_call_tabled}
 use Rattle.session.specs.Said.{set_port_numbers}
-use borrow.Author.Rules.{rules}
 use Rattle.session.proofs.place.set_port.Goals as goal
 
 pub returns-in_default-clause-step : goal.returns-in_default-clause-step

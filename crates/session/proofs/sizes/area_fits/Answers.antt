@@ -1,6 +1,5 @@
-use Rattle.session.proofs.sizes.Laws.{unfit, fit_last, area_small}
+use Rattle.session.proofs.sizes.Laws.{unfit, fit_last}
 use Rattle.session.specs.Sizes.{area_fits}
-use borrow.Author.Rules.{rules}
 use Rattle.session.proofs.sizes.area_fits.Goals as goal
 
 pub returns-then-not-is_sized : goal.returns-then-not-is_sized

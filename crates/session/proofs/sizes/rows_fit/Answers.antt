@@ -1,6 +1,5 @@
-use Rattle.session.proofs.sizes.Laws.{unfit, fit_last, words_small}
+use Rattle.session.proofs.sizes.Laws.{unfit, fit_last}
 use Rattle.session.specs.Sizes.{rows_fit}
-use borrow.Author.Rules.{rules}
 use Rattle.session.proofs.sizes.rows_fit.Goals as goal
 
 pub returns-then-not-is_sized : goal.returns-then-not-is_sized

@@ -1,5 +1,4 @@
 use Rattle.session.proofs.start.Laws.{ready_busy, ready_unfit, ready_pass}
-use borrow.Author.Rules.{rules}
 use Rattle.session.proofs.start.ready.Goals as goal
 
 pub returns-then-busy : goal.returns-then-busy

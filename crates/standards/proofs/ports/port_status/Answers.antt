@@ -1,5 +1,4 @@
 use Rattle.standards.proofs.Masks.{enabled_mask, resetting_mask, changes_mask}
-use borrow.Author.Rules.{rules}
 use Rattle.standards.proofs.ports.port_status.Goals as goal
 
 pub returns : goal.returns

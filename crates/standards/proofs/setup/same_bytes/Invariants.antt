@@ -1,10 +1,7 @@
 use Prim.Native.Nat.{◌≤◌, ◌-◌}
-use mathlib.Core.Path.{◌≡◌, sym, ◌∙◌}
-use native.Mathlib.Omega.{arith}
+use mathlib.Core.Path.{◌≡◌}
 use lib.ListN.{length, drop}
-use borrow.Author.Rules.{rules}
 use Rattle.standards.specs.Setup.{same_bytes}
-use Rattle.standards.proofs.Packets.{same_stops, same_goes, same_ends}
 use Rattle.standards.proofs.setup.same_bytes.Given as goal
 
 abbrev pub invariant-loop-i : goal.invariant-loop-i

@@ -1,4 +1,3 @@
-use borrow.Author.Rules.{rules}
 use Rattle.targets.proofs.target.Laws.{after_refused, after_control, after_other}
 use Rattle.targets.proofs.target.check_after.Goals as goal
 

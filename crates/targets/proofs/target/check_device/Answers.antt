@@ -1,4 +1,3 @@
-use borrow.Author.Rules.{rules}
 use Rattle.targets.proofs.target.Laws.{device_refused, device_fresh}
 use Rattle.targets.proofs.target.check_device.Goals as goal
 

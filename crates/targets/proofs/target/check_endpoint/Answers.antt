@@ -1,4 +1,3 @@
-use borrow.Author.Rules.{rules}
 use Rattle.targets.proofs.target.Laws.{endpoint_early, endpoint_read}
 use Rattle.targets.proofs.target.check_endpoint.Goals as goal
 

@@ -1,4 +1,3 @@
-use borrow.Author.Rules.{rules}
 use Rattle.targets.proofs.target.Laws.{read_refused, read_on}
 use Rattle.targets.proofs.target.check_read.Goals as goal
 

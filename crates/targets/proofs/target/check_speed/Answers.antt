@@ -1,4 +1,3 @@
-use borrow.Author.Rules.{rules}
 use Rattle.targets.proofs.target.Laws.{speed-bulk, speed-isochronous, speed_absent, speed_pass}
 use Rattle.targets.proofs.target.check_speed.Goals as goal
 

@@ -1,4 +1,3 @@
-use borrow.Author.Rules.{rules}
 use Rattle.targets.proofs.Said.{target_said}
 use Rattle.targets.proofs.target.Laws.{target_is}
 use Rattle.targets.proofs.target.check_target.Goals as goal

@@ -1,4 +1,3 @@
-use borrow.Author.Rules.{rules}
 use Rattle.targets.proofs.target.Laws.{fresh_is}
 use Rattle.targets.proofs.target.fresh_device.Goals as goal
 

@@ -1,4 +1,3 @@
-use borrow.Author.Rules.{rules}
 use Rattle.targets.proofs.target.Laws.{known_marked, known_absent, known_other, known_early, known_ready}
 use Rattle.targets.proofs.target.known_device.Goals as goal
 

@@ -1,4 +1,3 @@
-use borrow.Author.Rules.{rules}
 use Rattle.targets.proofs.target.Laws.{prepared_refused, prepared_early, prepared_ready}
 use Rattle.targets.proofs.target.prepared_device.Goals as goal
 

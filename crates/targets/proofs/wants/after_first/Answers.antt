@@ -1,5 +1,4 @@
 use Rattle.targets.proofs.wants.Laws.{after_stop, after_on}
-use borrow.Author.Rules.{rules}
 use Rattle.targets.proofs.wants.after_first.Goals as goal
 
 pub returns-in-Refused : goal.returns-in-Refused

@@ -1,5 +1,4 @@
 use Rattle.targets.proofs.wants.Laws.{port_stop, port_on}
-use borrow.Author.Rules.{rules}
 use Rattle.targets.proofs.wants.device_wanted.Goals as goal
 
 pub returns-in-Refused : goal.returns-in-Refused

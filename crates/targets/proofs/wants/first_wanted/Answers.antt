@@ -1,5 +1,4 @@
 use Rattle.targets.proofs.wants.Laws.{first_missing, first_on}
-use borrow.Author.Rules.{rules}
 use Rattle.targets.proofs.wants.first_wanted.Goals as goal
 
 pub returns-in-Error : goal.returns-in-Error

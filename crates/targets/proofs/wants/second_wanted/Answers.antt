@@ -1,6 +1,5 @@
 use Rattle.chain.proofs.Chain.{chain}
 use Rattle.targets.specs.Wants.{second_wanted}
-use borrow.Author.Rules.{rules}
 use Rattle.targets.proofs.wants.second_wanted.Goals as goal
 
 pub returns-then-control : goal.returns-then-control

@@ -1,5 +1,4 @@
 use Rattle.targets.proofs.wants.Laws.{known_stop, known_on}
-use borrow.Author.Rules.{rules}
 use Rattle.targets.proofs.wants.wanted_reading.Goals as goal
 
 pub returns-in-Refused : goal.returns-in-Refused

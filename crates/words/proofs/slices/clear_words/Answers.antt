@@ -1,4 +1,3 @@
-use borrow.Author.Rules.{rules}
 use Rattle.words.proofs.Parts.{cleared}
 use Rattle.words.proofs.slices.clear_words.Goals as goal
 

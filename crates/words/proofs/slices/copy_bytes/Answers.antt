@@ -1,6 +1,3 @@
-use native.Mathlib.Omega.{arith}
-use lib.ListN.{length-take, length-drop}
-use borrow.Author.Rules.{rules}
 use Rattle.words.proofs.Parts.{copied}
 use Rattle.words.proofs.slices.copy_bytes.Goals as goal
 

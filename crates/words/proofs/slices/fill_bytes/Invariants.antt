@@ -1,7 +1,6 @@
 use Prim.Native.Nat.{◌-◌}
 use lib.ListN.{length}
-use borrow.Author.Rules.{rules}
-use Rattle.words.proofs.Parts.{Filled, copy_step, copy_end}
+use Rattle.words.proofs.Parts.{Filled}
 use Rattle.words.proofs.slices.fill_bytes.Given as goal
 
 abbrev pub invariant-loop-k : goal.invariant-loop-k

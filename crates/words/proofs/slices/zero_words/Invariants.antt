@@ -1,7 +1,6 @@
 use Prim.Native.Nat.{◌-◌}
 use lib.ListN.{length, replicate}
-use borrow.Author.Rules.{rules}
-use Rattle.words.proofs.Parts.{Filled, clear_step, clear_end}
+use Rattle.words.proofs.Parts.{Filled}
 use Rattle.words.proofs.slices.zero_words.Given as goal
 
 abbrev pub invariant-loop-k : goal.invariant-loop-k
