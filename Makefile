@@ -4,11 +4,8 @@ SHELL := /bin/bash
 .PHONY: run test fmt staticlib key oracle compare fuzz bench mutants
 
 run:
-	@rt check examples life recoveries key | .ci/progress examples life recoveries key
-	./target/bin/examples
-	./target/bin/life
-	./target/bin/recoveries
-	./target/bin/key < papers/example.paper
+	@for it in examples life recoveries; do .ci/program $$it </dev/null || exit; done
+	@.ci/program key < papers/example.paper
 	@echo "papers/belt.txt, each event beside its line of ./target/bin/key < papers/belt.paper:"
 	@./target/bin/key < papers/belt.paper | paste <(sed '/^#/d; s/ *#.*//' papers/belt.txt) - | expand -t 46
 
@@ -16,16 +13,16 @@ test:
 	.ci/run
 
 fmt:
-	rt fmt
+	@for it in crates/*/; do (cd "$$it" && rt fmt) || exit; done
 	cd host && cargo fmt
 
 # Proves the port and writes target/staticlib/libtapewoad.a.
 staticlib:
-	rt staticlib tapewoad
+	.ci/library
 
 # Proves the key program and writes target/bin/key.
 key:
-	rt check key
+	.ci/program key < papers/example.paper > /dev/null
 
 # Builds the unchanged Rust and runs it over the recorded scripts.
 oracle:
