@@ -18,8 +18,10 @@ impl Built {
         let list = fs::read_to_string(&path);
         let list = list.map_err(|error| format!("{}: {error}", path.display()))?;
         let has = |program: &str| {
+            // `NAME: ..`, or `NAME staticlib: ..`.
             let mut lines = list.lines().filter_map(|line| line.split_once(": "));
-            let below = lines.find(|(it, _)| *it == program).map(|(_, below)| below);
+            let below = lines.find(|(it, _)| it.split(' ').next() == Some(program));
+            let below = below.map(|(_, below)| below);
             name == program || below.is_some_and(|it| it.split(' ').any(|it| it == name))
         };
         match (has("tapewoad"), has("key")) {

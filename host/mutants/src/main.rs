@@ -101,14 +101,14 @@ fn chosen<'a>(all: &'a [Edit], names: &[String]) -> Result<Vec<&'a Edit>, String
 /// The port without a change is told from the Rust by nothing: neither the
 /// library nor the key program, where a mutant is tried on it.
 fn unchanged(tools: &Tools, chosen: &[&Edit], amount: Amount) -> Result<(), String> {
-    let folder = &tools.unchanged;
+    let folder = tools.copy("unchanged", None)?;
     for built in [Built::Library, Built::Key] {
         let has = |edit: &&Edit| edit.built().is_ok_and(|all| all.contains(&built));
         if !chosen.iter().any(has) {
             continue;
         }
-        tools.build(folder, built)?;
-        let trial = Trial::run(tools, folder, built, amount)?;
+        tools.build(&folder, built)?;
+        let trial = Trial::run(tools, &folder, built, amount)?;
         if trial.found() {
             return Err(format!(
                 "the unchanged port is taken for a mutant: {trial:?}"

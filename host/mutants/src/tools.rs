@@ -1,7 +1,8 @@
-//! The programs that a mutant is made and tried with. Everything lies below
-//! target/mutants: a folder for each mutant with its sources and its
-//! libtapewoad.so or its `key`, `unchanged` for the port as it is, and `host` for
-//! the comparison, linked once and run on each library in turn.
+//! The programs that a mutant is made and tried with. They lie below
+//! target/mutants: a folder for each mutant with its libtapewoad.so or its `key`,
+//! `unchanged` for the port as it is, and `host` for the comparison, linked once
+//! and run on each library in turn. The sources that they are made from lie in a
+//! temporary folder: `rt ci` takes none in the repository but those of crates/.
 use std::fs::{self, File};
 use std::io;
 use std::path::{Path, PathBuf};
@@ -17,6 +18,7 @@ const MEMORY: &str = "--as=6000000000";
 
 pub struct Tools {
     work: PathBuf,
+    sources: PathBuf,
     /// The folder of the port without a change.
     pub unchanged: PathBuf,
     /// The executables of the tests of `tapewoad` and `port`.
@@ -27,9 +29,11 @@ impl Tools {
     /// Builds the unchanged port, the comparison and the tests over it.
     pub fn new() -> Result<Self, String> {
         let work = root().join("target/mutants");
+        let sources = format!("tapewoad-mutants-{}", std::process::id());
         let mut tools = Self {
             unchanged: work.join("unchanged"),
             work,
+            sources: std::env::temp_dir().join(sources),
             tests: Vec::new(),
         };
         tools.copy("unchanged", None)?;
@@ -56,24 +60,26 @@ impl Tools {
         succeeded(&mut cargo)
     }
 
-    /// Copies the sources to a folder of their own and changes them. Gives the
-    /// folder.
+    /// Copies the sources anew and changes them. Gives the folder for what is
+    /// built from them.
     pub fn copy(&self, name: &str, edit: Option<&Edit>) -> Result<PathBuf, String> {
         let folder = self.work.join(name);
-        let told = |error: io::Error| format!("{}: {error}", folder.display());
-        copy_sources(&folder).map_err(told)?;
+        let told = |error: io::Error| format!("{name}: {error}");
+        fs::create_dir_all(&folder).map_err(told)?;
+        copy_sources(&self.sources).map_err(told)?;
         if let Some(edit) = edit {
-            let file = folder.join(&edit.file);
+            let file = self.sources.join(&edit.file);
             let text = fs::read_to_string(&file).map_err(told)?;
             fs::write(&file, edit.apply(&text)?).map_err(told)?;
         }
         Ok(folder)
     }
 
-    /// Builds the library or the key program from the sources in a folder.
+    /// Builds the library or the key program from the sources that were copied
+    /// last, into a folder.
     pub fn build(&self, folder: &Path, built: Built) -> Result<(), String> {
         let mut build = Command::new(root().join("host/mutants/build"));
-        build.arg(folder);
+        build.arg(&self.sources).arg(folder);
         if built == Built::Key {
             build.arg("key");
         }
@@ -96,6 +102,12 @@ impl Tools {
     pub fn run_tests(&self, library: &Path) -> impl Iterator<Item = Result<Output, String>> {
         let run = move |test: &PathBuf| output(limited(test).env("LD_LIBRARY_PATH", library));
         self.tests.iter().map(run)
+    }
+}
+
+impl Drop for Tools {
+    fn drop(&mut self) {
+        let _ = fs::remove_dir_all(&self.sources);
     }
 }
 
