@@ -1,4 +1,4 @@
-/* The calls of libtapewoad.a (x86-64 Linux), which `rt staticlib tapewoad` proves and writes. docs/CALLS.md has the words. */
+/* The calls of libtapewoad.a (x86-64 Linux), which `make staticlib` proves and writes. docs/CALLS.md has the words. */
 #ifndef TAPEWOAD_H
 #define TAPEWOAD_H
 

@@ -6,7 +6,7 @@ use std::env;
 use std::path::PathBuf;
 
 /// No library has this name, so that the linker's message shows it.
-const MISSING: &str = "tapewoad_is_not_there__run_rt_staticlib_tapewoad__or_set_TAPEWOAD_LIB";
+const MISSING: &str = "tapewoad_is_not_there__run_make_staticlib__or_set_TAPEWOAD_LIB";
 
 fn main() {
     println!("cargo::rerun-if-env-changed=TAPEWOAD_LIB");
@@ -31,7 +31,7 @@ fn main() {
     let library = library.display();
     println!("cargo::warning=the static library is not there, so nothing can be linked: {library}");
     println!(
-        "cargo::warning=run `rt staticlib tapewoad` at the repository's root, which proves the port and writes it,"
+        "cargo::warning=run `make staticlib` at the repository's root, which proves the port and writes it,"
     );
     println!("cargo::warning=or let TAPEWOAD_LIB name the folder of a libtapewoad.a");
 }

@@ -22,7 +22,11 @@ fn every_edit_applies() {
 fn every_crate_of_the_library_and_of_the_key_has_edits() {
     let list = fs::read_to_string(root().join("crates.txt")).unwrap();
     let below = |program| list.lines().find_map(|it| it.strip_prefix(program));
-    let names = [below("tapewoad staticlib: "), below("key: "), Some("tapewoad")];
+    let names = [
+        below("tapewoad staticlib: "),
+        below("key: "),
+        Some("tapewoad"),
+    ];
     let names = names.into_iter().flat_map(|it| it.unwrap().split(' '));
     let edits = all();
     for name in names.filter(|name| *name != "chain") {

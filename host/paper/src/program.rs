@@ -15,7 +15,7 @@ impl Program {
         match path.canonicalize() {
             Ok(whole) if whole.is_file() => Ok(Self(whole)),
             _ => Err(format!(
-                "the key program is not there: {} (`rt check key` proves and writes it)",
+                "the key program is not there: {} (`make key` proves and writes it)",
                 path.display()
             )),
         }
