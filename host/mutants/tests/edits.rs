@@ -17,7 +17,7 @@ fn every_edit_applies() {
     }
 }
 
-/// `chain`, the lowest crate, has no function.
+/// `chain`, the lowest crate, has no function; the kit's have no sources here.
 #[test]
 fn every_crate_of_the_library_and_of_the_key_has_edits() {
     let list = fs::read_to_string(root().join("crates.txt")).unwrap();
@@ -31,6 +31,9 @@ fn every_crate_of_the_library_and_of_the_key_has_edits() {
     let edits = all();
     for name in names.filter(|name| *name != "chain") {
         let source = format!("crates/{name}/src/");
+        if !root().join(&source).is_dir() {
+            continue;
+        }
         let there = edits.iter().any(|edit| edit.file.starts_with(&source));
         assert!(there, "no edit of {name}");
     }
