@@ -1,13 +1,10 @@
 -- The lists of every call have at most 386 words: a recovery affects at most 128 requests, and a reply in scope names each once. Assumes nothing.
-use Prim.Native.Nat.{ℕ, zero, suc, ◌+◌, ◌≤◌}
-use mathlib.Core.List.{List, [], ◌∷◌, ◌++◌}
+use Prim.Native.Nat.{ℕ, ◌≤◌}
+use mathlib.Core.List.{List}
 use mathlib.Core.Path.{◌≡◌, refl}
 use native.Mathlib.Omega.{arith}
 use native.Mathlib.Nat.{min-le_left}
-use lib.Dec.{ltb}
 use lib.ListN.{length, take, drop, length-take, length-append, length-map}
-use borrow.Author.Tests.{ltb-true}
-use Rattle.chain.specs.Chain.{◌if◌else◌}
 use Rattle.chain.specs.declared.{Found.Found}
 use Rattle.chain.proofs.Chain.{if_all}
 use Rattle.words.specs.Records.{splice}

@@ -3,10 +3,9 @@ use Rattle.std.specs.Prelude.{ℕ, List}
 use Rattle.chain.specs.After.{After, after}
 use Rattle.rows.specs.Store.{Store}
 use Rattle.ledger.specs.declared.{Applied.Applied}
-use Rattle.session.specs.declared.{Session.Session}
 use Rattle.polls.specs.declared.{Polled.Polled}
 use Rattle.reports.specs.declared.{Reported.Reported}
-use Rattle.session_words.specs.State.{Kept, read_session, kept_as}
+use Rattle.session_words.specs.State.{Kept, kept_as}
 use Rattle.calls.specs.Answers.{of_report, of_poll}
 use Rattle.calls.specs.declared.{Answer.Answer}
 use Rattle.answer_words.specs.Encode.{answer_words, written}

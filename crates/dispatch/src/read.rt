@@ -12,7 +12,6 @@ ghost use Rattle.question_words.specs.Decode.{read_question};
 ghost use Rattle.dispatch.specs.Read.{read_words, reading_of};
 ghost use Rattle.calls.specs.Step.{world};
 
-
 use crate::requests;
 use answer_words::encode;
 use call_words::arguments;

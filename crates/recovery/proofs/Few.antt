@@ -6,7 +6,6 @@ use mathlib.Core.Path.{◌≡◌, refl, ap}
 use native.Mathlib.Omega.{arith}
 use lib.ListN.{length, length-map}
 use Rattle.chain.specs.After.{After, after}
-use Rattle.chain.specs.Chain.{◌if◌else◌}
 use Rattle.chain.proofs.Chain.{if_all, if_by}
 use Rattle.models.specs.declared.{Verdict.Verdict}
 use Rattle.rows.specs.Table.{token_in}

@@ -1,7 +1,7 @@
 -- The session as words. Every list of words says a session. Assumes nothing.
 use Rattle.std.specs.Prelude.{ℕ, ◌+◌, ◌-◌, ◌%◌, ◌^◌, Bool, true, cond, not, ◌&&◌, List, [], ◌∷◌, get_or, length, eqb}
 use Rattle.chain.specs.Chain.{◌if◌else◌}
-use Rattle.words.specs.Words.{flag_word, read_flag, read_option_u64, option_u64_words}
+use Rattle.words.specs.Words.{read_flag, read_option_u64, option_u64_words}
 use Rattle.words.specs.declared.{OptionU64.OptionU64, OptionWords.OptionWords}
 use Rattle.models.specs.Codes.{read_controller, controller_word}
 use Rattle.models.specs.Values.{read_request_words, read_request_id, read_device_id}

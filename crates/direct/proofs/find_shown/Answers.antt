@@ -1,5 +1,4 @@
 use Rattle.reports.proofs.status.Laws.{shown_find, shown_none}
-use borrow.Author.Rules.{rules}
 use Rattle.direct.proofs.find_shown.Goals as goal
 
 pub returns-then-is_submitting : goal.returns-then-is_submitting

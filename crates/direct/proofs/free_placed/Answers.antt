@@ -1,7 +1,5 @@
-use Rattle.ledger.proofs.in_place.Laws.{placed_in}
-use Rattle.direct.proofs.Laws.{freed_at_lem, freed_none}
+use Rattle.direct.proofs.Laws.{freed_at_lem}
 use Rattle.rows.specs.Store.{store_of}
-use borrow.Author.Rules.{rules}
 use Rattle.direct.proofs.free_placed.Goals as goal
 
 pub returns-in-At : goal.returns-in-At

@@ -1,7 +1,6 @@
 use Rattle.direct.proofs.Laws.{change_stop, cancel_on}
 use Rattle.ledger.proofs.in_place.Laws.{cancel_inside}
 use Rattle.rows.specs.Store.{store_of}
-use borrow.Author.Rules.{rules}
 use Rattle.direct.proofs.logical_cancel_request.Goals as goal
 
 pub answer_placed-requires : goal.answer_placed-requires

@@ -1,7 +1,6 @@
 use Rattle.direct.proofs.Laws.{found_used, idle, poll_at, poll_none, poll_stop}
 use Rattle.ledger.proofs.Found.{found_in_lem}
 use Rattle.rows.specs.Store.{store_of}
-use borrow.Author.Rules.{rules}
 use Rattle.direct.proofs.poll_request.Goals as goal
 
 pub returns-in_default : goal.returns-in_default

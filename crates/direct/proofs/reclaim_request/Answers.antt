@@ -1,7 +1,6 @@
 use Rattle.direct.proofs.Laws.{change_stop, reclaim_on}
 use Rattle.ledger.proofs.in_place.Laws.{reclaim_inside}
 use Rattle.rows.specs.Store.{store_of}
-use borrow.Author.Rules.{rules}
 use Rattle.direct.proofs.reclaim_request.Goals as goal
 
 pub free_placed-requires : goal.free_placed-requires

@@ -1,5 +1,4 @@
 use Rattle.direct.proofs.Laws.{report_told}
-use borrow.Author.Rules.{rules}
 use Rattle.direct.proofs.report.Goals as goal
 
 pub returns : goal.returns

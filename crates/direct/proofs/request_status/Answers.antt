@@ -1,7 +1,6 @@
 use Rattle.direct.proofs.Laws.{status_at, status_none, status_unfit}
 use Rattle.reports.proofs.status.Laws.{shown_in}
 use Rattle.rows.specs.Store.{store_of}
-use borrow.Author.Rules.{rules}
 use Rattle.direct.proofs.request_status.Goals as goal
 
 pub returns-then-not-rows_fit : goal.returns-then-not-rows_fit

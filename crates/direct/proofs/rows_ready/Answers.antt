@@ -1,6 +1,5 @@
 use Rattle.direct.proofs.Laws.{start_pass, start_unfit}
 use Rattle.session.proofs.start.Laws.{ready_busy}
-use borrow.Author.Rules.{rules}
 use Rattle.direct.proofs.rows_ready.Goals as goal
 
 pub returns-then-is_busy : goal.returns-then-is_busy

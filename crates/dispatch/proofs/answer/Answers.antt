@@ -1,5 +1,4 @@
-use Rattle.dispatch.proofs.Dispatch.{other_is, poll_ran, change_ran, report_ran}
-use borrow.Author.Rules.{rules}
+use Rattle.dispatch.proofs.Dispatch.{poll_ran, change_ran, report_ran}
 use Rattle.dispatch.proofs.answer.Goals as goal
 
 pub returns-then-number-eq11 : goal.returns-then-number-eq11

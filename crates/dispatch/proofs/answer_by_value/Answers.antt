@@ -1,5 +1,4 @@
 use Rattle.dispatch.proofs.Dispatch.{answer_done}
-use borrow.Author.Rules.{rules}
 use Rattle.dispatch.proofs.answer_by_value.Goals as goal
 
 pub returns : goal.returns

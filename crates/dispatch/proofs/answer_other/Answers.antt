@@ -1,6 +1,4 @@
-use Rattle.dispatch.proofs.Dispatch.{by_value_is}
 use Rattle.dispatch.proofs.requests.Reply.{submit_reply_ran, poll_reply_ran}
-use borrow.Author.Rules.{rules}
 use Rattle.dispatch.proofs.answer_other.Goals as goal
 
 pub returns-then-number-eq10 : goal.returns-then-number-eq10

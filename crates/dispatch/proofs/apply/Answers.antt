@@ -1,8 +1,7 @@
-use Rattle.chain.proofs.Chain.{chain, fits_told}
+use Rattle.chain.proofs.Chain.{chain}
 use Rattle.session_words.specs.State.{kept_of}
 use Rattle.dispatch.specs.Apply.{dispatch_of}
 use Rattle.dispatch.proofs.Dispatch.{apply_done}
-use borrow.Author.Rules.{rules}
 use Rattle.dispatch.proofs.apply.Goals as goal
 
 pub returns-then-not-is_call : goal.returns-then-not-is_call

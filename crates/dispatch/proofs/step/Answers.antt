@@ -1,5 +1,4 @@
 use Rattle.dispatch.proofs.Dispatch.{place_said, move_said, submit_said_lem, recover_said, withdraw_said}
-use borrow.Author.Rules.{rules}
 use Rattle.dispatch.proofs.step.Goals as goal
 
 pub returns-then-number-le4 : goal.returns-then-number-le4

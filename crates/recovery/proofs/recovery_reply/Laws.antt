@@ -7,8 +7,6 @@ use native.Mathlib.Omega.{arith}
 use lib.Dec.{eqb}
 use lib.ListN.{length, take, drop, length-take, length-map}
 use borrow.Author.Tests.{eq-eqb, ne_eqb}
-use mir.Syntax.{w64}
-use mir.Val.{Fits}
 use Rattle.chain.specs.After.{After, after}
 use Rattle.chain.specs.Lists.{any_in, listed}
 use Rattle.chain.proofs.Chain.{takes, passes, both, fits_told}

@@ -1,7 +1,6 @@
 use Rattle.chain.proofs.Chain.{chain}
 use Rattle.answer_words.specs.Encode.{written}
 use Rattle.answer_words.proofs.encode.Laws.{put_on}
-use borrow.Author.Rules.{rules}
 use Rattle.answer_words.proofs.encode.put.Goals as goal
 
 pub returns-then-out-lt-WORDS : goal.returns-then-out-lt-WORDS

@@ -1,5 +1,4 @@
 use Rattle.answer_words.proofs.encode.Laws.{recovered_exact}
-use borrow.Author.Rules.{rules}
 use Rattle.answer_words.proofs.encode.recovered_words.Goals as goal
 
 pub returns : goal.returns

@@ -1,5 +1,4 @@
 use Rattle.answer_words.proofs.encode.Laws.{report_exact}
-use borrow.Author.Rules.{rules}
 use Rattle.answer_words.proofs.encode.report_words.Goals as goal
 
 pub returns : goal.returns

@@ -1,10 +1,4 @@
-use Prim.Native.Nat.{◌+◌, ◌-◌, ◌≤◌}
-use mathlib.Core.Path.{◌≡◌}
-use lib.ListN.{length, take}
-use Rattle.words.specs.Records.{splice}
 use Rattle.rows.specs.Table.{read_rows}
-use Rattle.recovery.specs.Reports.{ids_of}
-use Rattle.answer_words.specs.Lists.{id_words}
 use Rattle.answer_words.proofs.lists.Laws.{ids_start, place_on, place_end}
 use borrow.Author.Rules.{rules}
 use Rattle.answer_words.proofs.lists.put_ids.Goals as goal

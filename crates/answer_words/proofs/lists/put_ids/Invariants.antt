@@ -5,8 +5,6 @@ use Rattle.words.specs.Records.{splice}
 use Rattle.rows.specs.Table.{read_rows}
 use Rattle.recovery.specs.Reports.{ids_of}
 use Rattle.answer_words.specs.Lists.{id_words}
-use Rattle.answer_words.proofs.lists.Laws.{ids_start, place_on, place_end}
-use borrow.Author.Rules.{rules}
 use Rattle.answer_words.proofs.lists.put_ids.Given as goal
 
 abbrev pub invariant-loop-k : goal.invariant-loop-k

@@ -1,7 +1,4 @@
-use native.Mathlib.Omega.{arith}
-use lib.ListN.{length-take}
 use Rattle.answer_words.proofs.lists.Laws.{two_short, two_put}
-use borrow.Author.Rules.{rules}
 use Rattle.answer_words.proofs.lists.put_parts.Goals as goal
 
 pub returns-then-lists-second : goal.returns-then-lists-second

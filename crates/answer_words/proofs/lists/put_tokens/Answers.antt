@@ -1,5 +1,4 @@
 use Rattle.answer_words.proofs.lists.Laws.{tokens_short, tokens_put}
-use borrow.Author.Rules.{rules}
 use Rattle.answer_words.proofs.lists.put_tokens.Goals as goal
 
 pub returns-then-lists-n : goal.returns-then-lists-n

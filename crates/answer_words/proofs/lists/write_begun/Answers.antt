@@ -1,5 +1,4 @@
 use Rattle.answer_words.proofs.lists.Laws.{begun_refused, begun_put}
-use borrow.Author.Rules.{rules}
 use Rattle.answer_words.proofs.lists.write_begun.Goals as goal
 
 pub returns-in-Refused : goal.returns-in-Refused

@@ -1,5 +1,4 @@
 use Rattle.call_words.proofs.Parts.{aborted_is}
-use borrow.Author.Rules.{rules}
 use Rattle.call_words.proofs.arguments.aborted.Goals as goal
 
 pub returns : goal.returns

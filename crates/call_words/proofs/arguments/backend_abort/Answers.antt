@@ -1,5 +1,4 @@
 use Rattle.call_words.proofs.arguments.Laws.{abort_done, abort_failed}
-use borrow.Author.Rules.{rules}
 use Rattle.call_words.proofs.arguments.backend_abort.Goals as goal
 
 pub returns-then-word_at-eq0 : goal.returns-then-word_at-eq0

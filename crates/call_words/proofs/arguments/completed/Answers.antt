@@ -1,5 +1,4 @@
 use Rattle.call_words.proofs.Parts.{completed_is}
-use borrow.Author.Rules.{rules}
 use Rattle.call_words.proofs.arguments.completed.Goals as goal
 
 pub returns : goal.returns

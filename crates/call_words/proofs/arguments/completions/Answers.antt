@@ -1,5 +1,4 @@
 use Rattle.call_words.proofs.Parts.{completions_is}
-use borrow.Author.Rules.{rules}
 use Rattle.call_words.proofs.arguments.completions.Goals as goal
 
 pub returns : goal.returns

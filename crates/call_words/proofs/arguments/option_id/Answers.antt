@@ -1,4 +1,3 @@
-use borrow.Author.Rules.{rules}
 use Rattle.models.proofs.values.Laws.{tagged, untagged}
 use Rattle.call_words.specs.Arguments.{read_option_id}
 use Rattle.call_words.proofs.arguments.option_id.Goals as goal

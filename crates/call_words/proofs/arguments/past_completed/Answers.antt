@@ -1,5 +1,4 @@
 use Rattle.call_words.proofs.Parts.{past_is}
-use borrow.Author.Rules.{rules}
 use Rattle.call_words.proofs.arguments.past_completed.Goals as goal
 
 pub returns : goal.returns

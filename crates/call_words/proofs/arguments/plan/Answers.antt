@@ -1,4 +1,3 @@
-use borrow.Author.Rules.{rules}
 use Rattle.call_words.specs.Arguments.{read_plan}
 use Rattle.call_words.proofs.arguments.plan.Goals as goal
 

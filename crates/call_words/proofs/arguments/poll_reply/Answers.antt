@@ -1,4 +1,3 @@
-use borrow.Author.Rules.{rules}
 use Rattle.models.proofs.values.Laws.{tagged, untagged}
 use Rattle.call_words.proofs.arguments.Laws.{completion_read}
 use Rattle.call_words.specs.Arguments.{read_poll_reply}

@@ -1,4 +1,3 @@
-use borrow.Author.Rules.{rules}
 use Rattle.call_words.specs.Arguments.{read_port_row}
 use Rattle.call_words.proofs.arguments.port_row.Goals as goal
 

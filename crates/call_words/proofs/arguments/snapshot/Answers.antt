@@ -1,4 +1,3 @@
-use borrow.Author.Rules.{rules}
 use Rattle.call_words.specs.Arguments.{read_snapshot}
 use Rattle.call_words.proofs.arguments.snapshot.Goals as goal
 

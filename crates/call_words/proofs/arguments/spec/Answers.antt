@@ -1,4 +1,3 @@
-use borrow.Author.Rules.{rules}
 use Rattle.call_words.proofs.arguments.Laws.{spec_read}
 use Rattle.call_words.proofs.arguments.spec.Goals as goal
 

@@ -1,4 +1,3 @@
-use borrow.Author.Rules.{rules}
 use Rattle.models.proofs.values.Laws.{tagged, untagged}
 use Rattle.call_words.specs.Arguments.{read_submit_reply}
 use Rattle.call_words.proofs.arguments.submit_reply.Goals as goal

@@ -1,9 +1,5 @@
-use Prim.Native.Nat.{◌-◌, ◌≤◌}
-use lib.Dec.{ltb}
-use lib.ListN.{length}
 use borrow.Author.Rules.{rules}
-use Rattle.chain.specs.Lists.{find}
-use Rattle.call_words.proofs.arguments.Laws.{above_on, above_here, above_none}
+use Rattle.call_words.proofs.arguments.Laws.{above_on, above_here}
 use Rattle.call_words.proofs.form.any_above.Goals as goal
 
 pub returns-then-w-i : goal.returns-then-w-i

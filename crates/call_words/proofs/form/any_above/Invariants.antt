@@ -1,9 +1,7 @@
 use Prim.Native.Nat.{◌-◌, ◌≤◌}
 use lib.Dec.{ltb}
 use lib.ListN.{length}
-use borrow.Author.Rules.{rules}
 use Rattle.chain.specs.Lists.{find}
-use Rattle.call_words.proofs.arguments.Laws.{above_on, above_here, above_none}
 use Rattle.call_words.proofs.form.any_above.Given as goal
 
 abbrev pub invariant-loop-i : goal.invariant-loop-i

@@ -1,8 +1,6 @@
 use Prim.Native.Nat.{◌-◌, ◌≤◌}
 use mathlib.Core.Path.{◌≡◌}
-use Rattle.call_words.proofs.form.Laws.{completions_on, completions_end}
 use Rattle.call_words.specs.Form.{are_completions}
-use borrow.Author.Rules.{rules}
 use Rattle.call_words.proofs.form.are_completions.Given as goal
 
 abbrev pub invariant-loop-k : goal.invariant-loop-k

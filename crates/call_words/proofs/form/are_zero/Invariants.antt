@@ -1,8 +1,6 @@
-use borrow.Author.Rules.{rules}
 use Prim.Native.Nat.{◌-◌, ◌≤◌}
 use mathlib.Core.Path.{◌≡◌}
 use Rattle.call_words.specs.Parts.{are_zero}
-use Rattle.call_words.proofs.form.Laws.{zeros_on, zeros_end}
 use Rattle.call_words.proofs.form.are_zero.Given as goal
 
 abbrev pub invariant-loop-k : goal.invariant-loop-k

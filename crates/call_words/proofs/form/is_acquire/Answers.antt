@@ -1,4 +1,3 @@
-use borrow.Author.Rules.{rules}
 use Rattle.call_words.specs.Form.{is_acquire}
 use Rattle.call_words.proofs.form.is_acquire.Goals as goal
 

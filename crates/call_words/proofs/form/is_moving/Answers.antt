@@ -1,4 +1,3 @@
-use borrow.Author.Rules.{rules}
 use Rattle.chain.proofs.Chain.{chain}
 use Rattle.call_words.specs.Form.{is_moving}
 use Rattle.call_words.proofs.form.is_moving.Goals as goal

@@ -1,4 +1,3 @@
-use borrow.Author.Rules.{rules}
 use Rattle.call_words.specs.Form.{is_open_call}
 use Rattle.call_words.proofs.form.is_open_call.Goals as goal
 

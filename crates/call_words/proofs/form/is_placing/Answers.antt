@@ -1,4 +1,3 @@
-use borrow.Author.Rules.{rules}
 use Rattle.chain.proofs.Chain.{chain}
 use Rattle.call_words.specs.Form.{is_placing}
 use Rattle.call_words.proofs.form.is_placing.Goals as goal

@@ -1,4 +1,3 @@
-use borrow.Author.Rules.{rules}
 use Rattle.call_words.specs.Form.{is_plan}
 use Rattle.call_words.proofs.form.is_plan.Goals as goal
 

@@ -1,4 +1,3 @@
-use borrow.Author.Rules.{rules}
 use Rattle.call_words.proofs.form.Laws.{poll_nothing, poll_failed, poll_completed}
 use Rattle.call_words.proofs.form.is_poll_reply.Goals as goal
 

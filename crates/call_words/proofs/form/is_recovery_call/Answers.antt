@@ -1,6 +1,5 @@
 use Rattle.chain.proofs.Chain.{chain}
 use Rattle.call_words.specs.Form.{is_recovery_call}
-use borrow.Author.Rules.{rules}
 use Rattle.call_words.proofs.form.is_recovery_call.Goals as goal
 
 pub returns-then-number-eq22 : goal.returns-then-number-eq22

@@ -1,4 +1,3 @@
-use borrow.Author.Rules.{rules}
 use Rattle.call_words.proofs.form.Laws.{reply_short, reply_tokens_lem, reply_completions, reply_is}
 use Rattle.call_words.proofs.form.is_recovery_reply.Goals as goal
 

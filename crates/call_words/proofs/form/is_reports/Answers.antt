@@ -1,4 +1,3 @@
-use borrow.Author.Rules.{rules}
 use Rattle.call_words.specs.Form.{is_reports}
 use Rattle.call_words.proofs.form.is_reports.Goals as goal
 

@@ -1,5 +1,4 @@
 use Rattle.call_words.specs.Form.{is_reset}
-use borrow.Author.Rules.{rules}
 use Rattle.call_words.proofs.form.is_reset.Goals as goal
 
 pub returns : goal.returns

@@ -1,4 +1,3 @@
-use borrow.Author.Rules.{rules}
 use Rattle.call_words.specs.Form.{is_set_reconcile}
 use Rattle.call_words.proofs.form.is_set_reconcile.Goals as goal
 

@@ -1,4 +1,3 @@
-use borrow.Author.Rules.{rules}
 use Rattle.call_words.specs.Form.{is_submit_reply}
 use Rattle.call_words.proofs.form.is_submit_reply.Goals as goal
 

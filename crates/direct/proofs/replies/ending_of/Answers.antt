@@ -1,5 +1,4 @@
 use Rattle.direct.proofs.replies.Laws.{ending_marked, ending_failed, ending_tested}
-use borrow.Author.Rules.{rules}
 use Rattle.direct.proofs.replies.ending_of.Goals as goal
 
 pub returns-then-not-completion : goal.returns-then-not-completion

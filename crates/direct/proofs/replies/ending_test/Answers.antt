@@ -1,5 +1,4 @@
 use Rattle.direct.proofs.replies.Laws.{test_valid, test_missing, test_invalid}
-use borrow.Author.Rules.{rules}
 use Rattle.direct.proofs.replies.ending_test.Goals as goal
 
 pub returns-in-Valid : goal.returns-in-Valid

@@ -1,6 +1,5 @@
 use Rattle.ledger.proofs.in_place.Laws.{still_in}
 use Rattle.direct.proofs.replies.Laws.{fail_told}
-use borrow.Author.Rules.{rules}
 use Rattle.direct.proofs.replies.fail.Goals as goal
 
 pub end_flight-requires : goal.end_flight-requires

@@ -1,6 +1,5 @@
-use Rattle.direct.proofs.replies.Laws.{poll_said_lem, pending_told, poll_mild, poll_nothing, polled_in_lem, says_completion, says_error, says_nothing}
+use Rattle.direct.proofs.replies.Laws.{poll_said_lem, poll_mild, poll_nothing, polled_in_lem, says_completion, says_error, says_nothing}
 use Rattle.rows.specs.Store.{store_of}
-use borrow.Author.Rules.{rules}
 use Rattle.direct.proofs.replies.poll_at.Goals as goal
 
 pub end_flight-requires : goal.end_flight-requires

@@ -1,6 +1,5 @@
 use Rattle.direct.proofs.replies.Laws.{poll_completed, poll_failed, polled_in_lem, polled_room}
 use Rattle.rows.specs.Store.{store_of}
-use borrow.Author.Rules.{rules}
 use Rattle.direct.proofs.replies.poll_completion.Goals as goal
 
 pub requested_length_at-requested-requires : goal.requested_length_at-requested-requires

@@ -1,6 +1,5 @@
-use Rattle.direct.proofs.replies.Laws.{poll_refused_lem, polled_told_lem}
+use Rattle.direct.proofs.replies.Laws.{poll_refused_lem}
 use Rattle.rows.specs.Store.{store_of}
-use borrow.Author.Rules.{rules}
 use Rattle.direct.proofs.replies.poll_reply.Goals as goal
 
 pub returns-in-Refused : goal.returns-in-Refused

@@ -1,6 +1,5 @@
-use Rattle.direct.proofs.replies.Laws.{poll_busy, polled_found, polled_none, polled_other, polled_unfit}
+use Rattle.direct.proofs.replies.Laws.{polled_found, polled_none, polled_other, polled_unfit}
 use Rattle.rows.specs.Store.{store_of}
-use borrow.Author.Rules.{rules}
 use Rattle.direct.proofs.replies.polled_row.Goals as goal
 
 pub returns-then-not-is_polling : goal.returns-then-not-is_polling

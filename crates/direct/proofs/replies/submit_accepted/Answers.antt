@@ -1,5 +1,4 @@
 use Rattle.direct.proofs.replies.Laws.{submit_at, submit_none, submit_other, submit_unfit}
-use Rattle.direct.proofs.Laws.{submission_busy}
 use Rattle.ledger.proofs.in_place.Laws.{accept_inside}
 use Rattle.rows.specs.Store.{store_of}
 use borrow.Author.Rules.{rules}

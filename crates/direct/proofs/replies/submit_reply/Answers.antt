@@ -1,5 +1,4 @@
-use Rattle.direct.proofs.replies.Laws.{submit_said_lem, says_token, submit_told}
-use borrow.Author.Rules.{rules}
+use Rattle.direct.proofs.replies.Laws.{submit_said_lem, says_token}
 use Rattle.direct.proofs.replies.submit_reply.Goals as goal
 
 pub returns-then-kind-eq0 : goal.returns-then-kind-eq0

@@ -1,5 +1,4 @@
 use Rattle.dispatch.proofs.controller.Move.{acquire_step, initialize_step, close_step}
-use borrow.Author.Rules.{rules}
 use Rattle.dispatch.proofs.controller.move_call.Goals as goal
 
 pub returns-then-number-eq5 : goal.returns-then-number-eq5

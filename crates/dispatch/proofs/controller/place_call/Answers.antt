@@ -1,5 +1,4 @@
 use Rattle.dispatch.proofs.controller.Place.{open_step, device_step, port_step, endpoints_step, reconcile_step}
-use borrow.Author.Rules.{rules}
 use Rattle.dispatch.proofs.controller.place_call.Goals as goal
 
 pub returns-then-number-eq0 : goal.returns-then-number-eq0

@@ -1,5 +1,4 @@
 use Rattle.dispatch.proofs.read.Laws.{report_read, question_read}
-use borrow.Author.Rules.{rules}
 use Rattle.dispatch.proofs.read.answer.Goals as goal
 
 pub returns-then-number-le21 : goal.returns-then-number-le21

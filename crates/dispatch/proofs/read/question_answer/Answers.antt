@@ -1,5 +1,4 @@
 use Rattle.dispatch.proofs.read.Laws.{status_said, report_said_lem, submit_said_lem, plan_said_lem}
-use borrow.Author.Rules.{rules}
 use Rattle.dispatch.proofs.read.question_answer.Goals as goal
 
 pub returns-then-number-eq25 : goal.returns-then-number-eq25

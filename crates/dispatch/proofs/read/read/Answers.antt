@@ -1,8 +1,7 @@
-use Rattle.chain.proofs.Chain.{chain, fits_told}
+use Rattle.chain.proofs.Chain.{chain}
 use Rattle.session_words.specs.State.{kept_of}
 use Rattle.dispatch.specs.Read.{reading_of}
 use Rattle.dispatch.proofs.read.Laws.{read_done}
-use borrow.Author.Rules.{rules}
 use Rattle.dispatch.proofs.read.read.Goals as goal
 
 pub returns-then-not-is_read : goal.returns-then-not-is_read

@@ -1,5 +1,4 @@
 use Rattle.dispatch.proofs.requests.Change.{cancel_writes, timeout_writes, reclaim_writes}
-use borrow.Author.Rules.{rules}
 use Rattle.dispatch.proofs.requests.change_call.Goals as goal
 
 pub returns-then-number-eq13 : goal.returns-then-number-eq13

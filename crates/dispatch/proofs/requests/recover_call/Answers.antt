@@ -1,5 +1,4 @@
 use Rattle.dispatch.proofs.requests.Recover.{replied_run, abort_run, reset_run}
-use borrow.Author.Rules.{rules}
 use Rattle.dispatch.proofs.requests.recover_call.Goals as goal
 
 pub returns-then-number-eq22 : goal.returns-then-number-eq22

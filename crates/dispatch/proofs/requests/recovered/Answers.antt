@@ -1,6 +1,5 @@
 use Rattle.dispatch.proofs.requests.Recover.{places_run}
 use Rattle.recovery.proofs.Few.{few_told}
-use borrow.Author.Rules.{rules}
 use Rattle.dispatch.proofs.requests.recovered.Goals as goal
 
 pub write_replied-requires : goal.write_replied-requires

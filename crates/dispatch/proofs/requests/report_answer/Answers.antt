@@ -1,5 +1,4 @@
 use Rattle.dispatch.proofs.requests.Read.{reports_step, count_step, bytes_step, held_count_step, held_bytes_step}
-use borrow.Author.Rules.{rules}
 use Rattle.dispatch.proofs.requests.report_answer.Goals as goal
 
 pub returns-then-number-eq17 : goal.returns-then-number-eq17

@@ -1,5 +1,4 @@
 use Rattle.dispatch.proofs.requests.Read.{status_writes, answer_writes}
-use borrow.Author.Rules.{rules}
 use Rattle.dispatch.proofs.requests.report_call.Goals as goal
 
 pub returns-then-number-eq16 : goal.returns-then-number-eq16

@@ -1,5 +1,4 @@
 use Rattle.dispatch.proofs.requests.Change.{withdraw_steps}
-use borrow.Author.Rules.{rules}
 use Rattle.dispatch.proofs.requests.withdraw_call.Goals as goal
 
 pub returns : goal.returns

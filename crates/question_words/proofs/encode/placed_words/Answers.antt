@@ -1,5 +1,4 @@
-use Rattle.question_words.proofs.encode.Laws.{placed_exact, placed_room}
-use borrow.Author.Rules.{rules}
+use Rattle.question_words.proofs.encode.Laws.{placed_exact}
 use Rattle.question_words.proofs.encode.placed_words.Goals as goal
 
 pub returns : goal.returns

@@ -1,5 +1,4 @@
-use Rattle.question_words.proofs.encode.Laws.{status_exact, status_room}
-use borrow.Author.Rules.{rules}
+use Rattle.question_words.proofs.encode.Laws.{status_exact}
 use Rattle.question_words.proofs.encode.status_words.Goals as goal
 
 pub returns : goal.returns

@@ -1,6 +1,5 @@
 use Rattle.chain.proofs.Chain.{chain}
 use Rattle.question_words.specs.Form.{is_question}
-use borrow.Author.Rules.{rules}
 use Rattle.question_words.proofs.form.is_question.Goals as goal
 
 pub returns-then-number-eq25 : goal.returns-then-number-eq25

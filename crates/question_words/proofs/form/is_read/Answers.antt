@@ -1,6 +1,5 @@
 use Rattle.chain.proofs.Chain.{chain}
 use Rattle.question_words.specs.Form.{is_read}
-use borrow.Author.Rules.{rules}
 use Rattle.question_words.proofs.form.is_read.Goals as goal
 
 pub returns-then-number : goal.returns-then-number

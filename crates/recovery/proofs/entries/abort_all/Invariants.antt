@@ -1,6 +1,5 @@
-use borrow.Author.Rules.{rules}
 use Prim.Native.Nat.{◌-◌}
-use Rattle.recovery.proofs.entries.Laws.{place_below, Aborting, abort_on, abort_stop, abort_end}
+use Rattle.recovery.proofs.entries.Laws.{Aborting}
 use Rattle.recovery.proofs.entries.abort_all.Given as goal
 
 abbrev pub invariant-loop-j : goal.invariant-loop-j

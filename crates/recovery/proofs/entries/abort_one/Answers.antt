@@ -1,4 +1,3 @@
-use borrow.Author.Rules.{rules}
 use Rattle.recovery.proofs.entries.Laws.{abort_no, abort_to}
 use Rattle.recovery.proofs.entries.abort_one.Goals as goal
 

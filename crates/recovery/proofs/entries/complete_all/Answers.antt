@@ -1,8 +1,7 @@
 use native.Mathlib.Omega.{arith}
 use lib.ListN.{length-take, length-drop}
 use borrow.Author.Rules.{rules}
-use Prim.Native.Nat.{◌-◌}
-use Rattle.recovery.proofs.entries.Laws.{place_below, fit_kept, Completing, begin_given, words_in, given_on, given_fits, complete_on, complete_stop, complete_end}
+use Rattle.recovery.proofs.entries.Laws.{place_below, fit_kept, begin_given, words_in, given_on, given_fits, complete_on, complete_stop, complete_end}
 use Rattle.recovery.proofs.entries.complete_all.Goals as goal
 
 pub loop-k-init : goal.loop-k-init

@@ -1,4 +1,3 @@
-use borrow.Author.Rules.{rules}
 use Rattle.rows.specs.Store.{store_of}
 use Rattle.recovery.proofs.entries.Laws.{one_missing, one_invalid, one_valid}
 use Rattle.recovery.proofs.entries.complete_one.Goals as goal

@@ -1,4 +1,3 @@
-use borrow.Author.Rules.{rules}
 use Rattle.recovery.proofs.entries.Laws.{row_room, completed_no, completed_to}
 use Rattle.recovery.proofs.entries.complete_row.Goals as goal
 

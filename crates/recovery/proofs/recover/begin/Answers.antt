@@ -1,6 +1,3 @@
-use native.Mathlib.Omega.{arith}
-use lib.ListN.{length-take}
-use borrow.Author.Rules.{rules}
 use Rattle.recovery.proofs.recover.Laws.{begun_is}
 use Rattle.recovery.proofs.recover.begin.Goals as goal
 

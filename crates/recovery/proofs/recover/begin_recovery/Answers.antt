@@ -1,4 +1,3 @@
-use borrow.Author.Rules.{rules}
 use Rattle.recovery.proofs.Said.{recover_said}
 use Rattle.recovery.proofs.recover.Laws.{begin_stop, begin_40, begin_on}
 use Rattle.rows.specs.Store.{store_of}

@@ -1,4 +1,3 @@
-use borrow.Author.Rules.{rules}
 use Rattle.recovery.proofs.recover.Laws.{row_43, row_44, row_on}
 use Rattle.recovery.proofs.recover.begin_row.Goals as goal
 

@@ -1,6 +1,3 @@
-use native.Mathlib.Omega.{arith}
-use lib.ListN.{length-take}
-use borrow.Author.Rules.{rules}
 use Rattle.recovery.proofs.recovery_reply.Laws.{apply_stop, apply_on, rest_below}
 use Rattle.recovery.proofs.recovery_reply.apply_all.Goals as goal
 

@@ -1,4 +1,3 @@
-use borrow.Author.Rules.{rules}
 use Rattle.recovery.proofs.recovery_reply.Laws.{conclude_no, conclude_on}
 use Rattle.recovery.proofs.recovery_reply.conclude.Goals as goal
 

@@ -1,4 +1,3 @@
-use borrow.Author.Rules.{rules}
 use Rattle.recovery.proofs.recovery_reply.Laws.{refused_marked, refused_idle}
 use Rattle.recovery.proofs.recovery_reply.refused_after.Goals as goal
 

@@ -1,4 +1,3 @@
-use borrow.Author.Rules.{rules}
 use Rattle.recovery.proofs.recovery_reply.Laws.{scope_46, scope_on}
 use Rattle.scope.proofs.tokens.Laws.{scope_few}
 use Rattle.recovery.proofs.recovery_reply.reply_affected.Goals as goal

@@ -1,4 +1,3 @@
-use borrow.Author.Rules.{rules}
 use Rattle.recovery.proofs.Said.{recovery_reply_said}
 use Rattle.recovery.proofs.recovery_reply.Laws.{in_idle, in_submission, in_poll, in_recovery}
 use Rattle.recovery.proofs.recovery_reply.reply_by_places.Goals as goal

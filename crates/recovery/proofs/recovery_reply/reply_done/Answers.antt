@@ -1,5 +1,3 @@
-use native.Mathlib.Omega.{arith}
-use lib.ListN.{length-take}
 use borrow.Author.Rules.{rules}
 use Rattle.recovery.proofs.recovery_reply.Laws.{own_few, affected_places, done_is}
 use Rattle.recovery.proofs.recovery_reply.reply_done.Goals as goal

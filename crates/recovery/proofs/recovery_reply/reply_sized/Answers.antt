@@ -1,8 +1,5 @@
-use borrow.Author.Rules.{rules}
 use Rattle.rows.specs.Store.{store_of}
-use Rattle.recovery.proofs.recovery_reply.Laws.{sized_3, sized_49, sized_on, fit_is, agreed_is}
-use mathlib.Core.Path.{ap}
-use mathlib.Core.Bool.{not}
+use Rattle.recovery.proofs.recovery_reply.Laws.{sized_3, sized_49, sized_on}
 use Rattle.recovery.proofs.recovery_reply.reply_sized.Goals as goal
 
 pub returns-then-not-memory_fits : goal.returns-then-not-memory_fits

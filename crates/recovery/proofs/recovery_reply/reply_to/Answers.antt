@@ -1,5 +1,4 @@
-use borrow.Author.Rules.{rules}
-use Rattle.recovery.proofs.recovery_reply.Laws.{reply_45, reply_done}
+use Rattle.recovery.proofs.recovery_reply.Laws.{reply_45}
 use Rattle.recovery.proofs.recovery_reply.reply_to.Goals as goal
 
 pub returns-in-Error : goal.returns-in-Error

@@ -1,4 +1,3 @@
-use borrow.Author.Rules.{rules}
 use Rattle.recovery.proofs.recovery_reply.Laws.{reset_abort, reset_on}
 use Rattle.recovery.proofs.recovery_reply.reset.Goals as goal
 

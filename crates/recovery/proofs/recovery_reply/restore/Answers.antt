@@ -1,4 +1,3 @@
-use borrow.Author.Rules.{rules}
 use Rattle.recovery.proofs.recovery_reply.Laws.{restored_none, restored_on, restored_off}
 use Rattle.recovery.proofs.recovery_reply.restore.Goals as goal
 

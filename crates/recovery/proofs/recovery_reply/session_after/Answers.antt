@@ -1,4 +1,3 @@
-use borrow.Author.Rules.{rules}
 use Rattle.recovery.proofs.recovery_reply.Laws.{after_marked, after_on}
 use Rattle.recovery.proofs.recovery_reply.session_after.Goals as goal
 

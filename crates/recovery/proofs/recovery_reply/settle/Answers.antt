@@ -1,6 +1,3 @@
-use native.Mathlib.Omega.{arith}
-use lib.ListN.{length-take}
-use borrow.Author.Rules.{rules}
 use Rattle.recovery.proofs.Tokens.{first_in, done_places, gone_below, done_agree, settled_is}
 use Rattle.recovery.proofs.recovery_reply.settle.Goals as goal
 

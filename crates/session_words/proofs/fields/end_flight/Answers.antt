@@ -1,5 +1,4 @@
 use Rattle.session_words.proofs.fields.Laws.{flight_room, flight_ended}
-use borrow.Author.Rules.{rules}
 use Rattle.session_words.proofs.fields.end_flight.Goals as goal
 
 pub clear_words-requires : goal.clear_words-requires

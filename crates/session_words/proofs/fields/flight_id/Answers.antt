@@ -1,5 +1,4 @@
 use Rattle.session_words.proofs.fields.Laws.{flight_id_is}
-use borrow.Author.Rules.{rules}
 use Rattle.session_words.proofs.fields.flight_id.Goals as goal
 
 pub returns : goal.returns

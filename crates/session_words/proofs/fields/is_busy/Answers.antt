@@ -1,5 +1,4 @@
 use Rattle.session_words.proofs.fields.Laws.{busy_is}
-use borrow.Author.Rules.{rules}
 use Rattle.session_words.proofs.fields.is_busy.Goals as goal
 
 pub returns : goal.returns

@@ -1,5 +1,4 @@
 use Rattle.session_words.proofs.fields.Laws.{poll_is}
-use borrow.Author.Rules.{rules}
 use Rattle.session_words.proofs.fields.is_polling.Goals as goal
 
 pub returns : goal.returns

@@ -1,5 +1,4 @@
 use Rattle.session_words.proofs.fields.Laws.{size_is}
-use borrow.Author.Rules.{rules}
 use Rattle.session_words.proofs.fields.size.Goals as goal
 
 pub returns : goal.returns

@@ -1,5 +1,4 @@
 use Rattle.session_words.proofs.Own.{session_own}
-use borrow.Author.Rules.{rules}
 use Rattle.session_words.proofs.state.is_session.Goals as goal
 
 pub returns : goal.returns

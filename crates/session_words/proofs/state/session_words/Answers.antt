@@ -1,5 +1,4 @@
 use Rattle.session_words.proofs.state.Laws.{session_back, session_exact}
-use borrow.Author.Rules.{rules}
 use Rattle.session_words.proofs.state.session_words.Goals as goal
 
 pub returns : goal.returns

@@ -1,5 +1,4 @@
 use Rattle.session_words.proofs.state.Laws.{session_read}
-use borrow.Author.Rules.{rules}
 use Rattle.session_words.proofs.state.to_session.Goals as goal
 
 pub returns : goal.returns

@@ -1,5 +1,4 @@
 use Rattle.session_words.proofs.state.Laws.{kept_out, kept_in_lem}
-use borrow.Author.Rules.{rules}
 use Rattle.session_words.proofs.state.write_session.Goals as goal
 
 pub returns-then-w-ne-WORDS : goal.returns-then-w-ne-WORDS

@@ -1,7 +1,6 @@
 use Rattle.rows.specs.Store.{store_of}
 use Rattle.bus.specs.Tables.{bus_of}
 use Rattle.submissions.proofs.admit.Laws.{ready_memory, admit_no, admit_on}
-use borrow.Author.Rules.{rules}
 use Rattle.submissions.proofs.admit.admit.Goals as goal
 
 pub admit_packets-requires : goal.admit_packets-requires

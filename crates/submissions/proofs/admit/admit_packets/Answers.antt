@@ -1,5 +1,4 @@
 use Rattle.submissions.proofs.admit.Laws.{packets_no, packets_on}
-use borrow.Author.Rules.{rules}
 use Rattle.submissions.proofs.admit.admit_packets.Goals as goal
 
 pub returns-in-Refused : goal.returns-in-Refused

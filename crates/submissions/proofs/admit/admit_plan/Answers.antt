@@ -1,7 +1,6 @@
 use Rattle.rows.specs.Store.{store_of}
 use Rattle.bus.specs.Tables.{bus_of}
 use Rattle.submissions.proofs.admit.Laws.{ready_memory, plan_no, plan_on}
-use borrow.Author.Rules.{rules}
 use Rattle.submissions.proofs.admit.admit_plan.Goals as goal
 
 pub admit_plan_room-requires : goal.admit_plan_room-requires

@@ -1,5 +1,4 @@
 use Rattle.submissions.proofs.admit.Laws.{plan_room_no, plan_room_on}
-use borrow.Author.Rules.{rules}
 use Rattle.submissions.proofs.admit.admit_plan_room.Goals as goal
 
 pub returns-in-Refused : goal.returns-in-Refused

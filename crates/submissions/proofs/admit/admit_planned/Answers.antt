@@ -1,5 +1,4 @@
 use Rattle.submissions.proofs.admit.Laws.{planned_no, planned_ready}
-use borrow.Author.Rules.{rules}
 use Rattle.submissions.proofs.admit.admit_planned.Goals as goal
 
 pub returns-in-Refused : goal.returns-in-Refused

@@ -1,5 +1,4 @@
 use Rattle.submissions.proofs.admit.Laws.{prepared_no, prepared_ready}
-use borrow.Author.Rules.{rules}
 use Rattle.submissions.proofs.admit.admit_prepared.Goals as goal
 
 pub returns-in-Refused : goal.returns-in-Refused

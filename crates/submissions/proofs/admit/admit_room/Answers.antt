@@ -1,5 +1,4 @@
 use Rattle.submissions.proofs.admit.Laws.{room_no, room_on}
-use borrow.Author.Rules.{rules}
 use Rattle.submissions.proofs.admit.admit_room.Goals as goal
 
 pub returns-in-Refused : goal.returns-in-Refused

@@ -1,5 +1,4 @@
 use Rattle.submissions.proofs.admit.Laws.{room_fits, place_none, place_at}
-use borrow.Author.Rules.{rules}
 use Rattle.submissions.proofs.admit.find_place.Goals as goal
 
 pub returns-in_default : goal.returns-in_default

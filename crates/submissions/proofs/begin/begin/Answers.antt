@@ -1,5 +1,4 @@
 use Rattle.submissions.proofs.begin.Laws.{begin_stop, begin_on}
-use borrow.Author.Rules.{rules}
 use Rattle.submissions.proofs.begin.begin.Goals as goal
 
 pub returns-in-Refused : goal.returns-in-Refused

@@ -1,5 +1,4 @@
 use Rattle.submissions.proofs.begin.Laws.{target_stop, target_on}
-use borrow.Author.Rules.{rules}
 use Rattle.submissions.proofs.begin.begin_target.Goals as goal
 
 pub returns-in-Refused : goal.returns-in-Refused

@@ -1,5 +1,4 @@
 use Rattle.submissions.proofs.begin.Laws.{room_full, room_first}
-use borrow.Author.Rules.{rules}
 use Rattle.submissions.proofs.begin.find_room.Goals as goal
 
 pub returns-then-held_count-ge-HELD_MOST : goal.returns-then-held_count-ge-HELD_MOST

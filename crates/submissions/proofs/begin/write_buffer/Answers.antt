@@ -1,5 +1,4 @@
 use Rattle.submissions.proofs.begin.Laws.{write_in, write_out}
-use borrow.Author.Rules.{rules}
 use Rattle.submissions.proofs.begin.write_buffer.Goals as goal
 
 pub returns-then-is_in : goal.returns-then-is_in

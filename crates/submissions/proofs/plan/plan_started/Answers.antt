@@ -1,5 +1,4 @@
 use Rattle.submissions.proofs.plan.Laws.{started_no, started_at}
-use borrow.Author.Rules.{rules}
 use Rattle.submissions.proofs.plan.plan_started.Goals as goal
 
 pub returns-in-Refused : goal.returns-in-Refused

@@ -1,5 +1,4 @@
 use Rattle.submissions.proofs.plan.Laws.{plan_target_is}
-use borrow.Author.Rules.{rules}
 use Rattle.submissions.proofs.plan.plan_target.Goals as goal
 
 pub returns : goal.returns

@@ -1,7 +1,6 @@
 use Rattle.submissions.proofs.Admission.{plan_placed}
 use Rattle.submissions.proofs.Said.{submit_plan_said}
 use Rattle.submissions.proofs.plan.Laws.{plan_stop, plan_on}
-use borrow.Author.Rules.{rules}
 use Rattle.submissions.proofs.plan.submit_control_plan.Goals as goal
 
 pub plan_target-requires : goal.plan_target-requires

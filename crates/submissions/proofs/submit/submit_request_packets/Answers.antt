@@ -1,7 +1,6 @@
 use Rattle.submissions.proofs.Admission.{admitted_placed}
 use Rattle.submissions.proofs.Said.{submit_said_lem}
 use Rattle.submissions.proofs.submit.Laws.{submit_no, submit_on}
-use borrow.Author.Rules.{rules}
 use Rattle.submissions.proofs.submit.submit_request_packets.Goals as goal
 
 pub submit_target-requires : goal.submit_target-requires

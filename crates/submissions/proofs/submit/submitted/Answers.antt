@@ -1,5 +1,4 @@
 use Rattle.submissions.proofs.submit.Laws.{submitted_no, submitted_at}
-use borrow.Author.Rules.{rules}
 use Rattle.submissions.proofs.submit.submitted.Goals as goal
 
 pub returns-in-Refused : goal.returns-in-Refused

@@ -1,5 +1,4 @@
 use Rattle.submissions.proofs.submit_reply.Laws.{accepted_done, accepted_none}
-use borrow.Author.Rules.{rules}
 use Rattle.submissions.proofs.submit_reply.accepted.Goals as goal
 
 pub returns-in_default : goal.returns-in_default

@@ -1,5 +1,4 @@
 use Rattle.submissions.proofs.submit_reply.Laws.{discarded_done, discarded_none}
-use borrow.Author.Rules.{rules}
 use Rattle.submissions.proofs.submit_reply.discarded.Goals as goal
 
 pub returns-in_default : goal.returns-in_default

@@ -1,5 +1,4 @@
 use Rattle.submissions.proofs.submit_reply.Laws.{reply_token, reply_error}
-use borrow.Author.Rules.{rules}
 use Rattle.submissions.proofs.submit_reply.reply_to.Goals as goal
 
 pub returns-in-Token : goal.returns-in-Token

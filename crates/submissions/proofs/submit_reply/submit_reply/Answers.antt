@@ -1,7 +1,6 @@
 use Rattle.rows.specs.Store.{store_of}
 use Rattle.submissions.proofs.submit_reply.Laws.{reply_unfit, reply_idle, reply_on, reply_poll, reply_recovery}
 use Rattle.submissions.proofs.Said.{submit_reply_said}
-use borrow.Author.Rules.{rules}
 use Rattle.submissions.proofs.submit_reply.submit_reply.Goals as goal
 
 pub returns-then-not-rows_fit-clause-step : goal.returns-then-not-rows_fit-clause-step

@@ -1,8 +1,6 @@
-use Rattle.rows.specs.Store.{store_of}
 use Rattle.bus.specs.Tables.{bus_of}
 use Rattle.submissions.proofs.Admission.{admitted_tables}
 use Rattle.submissions.proofs.wants.Laws.{submit_none, submit_wants_lem}
-use borrow.Author.Rules.{rules}
 use Rattle.submissions.proofs.wants.submit_wants.Goals as goal
 
 pub target_wants-requires : goal.target_wants-requires
