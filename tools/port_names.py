@@ -1,5 +1,5 @@
 #!/usr/bin/env python3
-"""Brings the repository's own antt names to today's spelling: run once, at the top, right after port.py.
+"""Brings the repository's own antt names to today's spelling: run once, at the top, right after port.py; docs/PORT.md says why.
 
 Definitions and fields are in snake case, as `held_count`. A lemma's plain words are joined by `_`; a dash stays where both
 sides are names in the lemma's own statement, as in `length-read_rows`. A type's name has no dash, as `BeginKept`. A lemma
@@ -8,6 +8,7 @@ It prints the table of names that changed.
 """
 import collections
 import glob
+import os
 import re
 import sys
 
@@ -144,6 +145,8 @@ def write(path, text):
 
 
 def main():
+    if os.path.exists("docs/PORT.md"):
+        return "port_names.py: docs/PORT.md is there, so it ran already; a second run would turn names that the check makes"
     names, snakes = table()
     for path in antt_files():
         text = text_of(path)
