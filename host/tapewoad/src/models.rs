@@ -326,7 +326,7 @@ pub struct BackendCompletion {
 pub enum RequestState {
     /// The device has it.
     Pending {
-        /// Whether it was cancelled.
+        /// Whether it was cancelled and that was not taken back.
         logical_cancel: bool,
         /// Whether it timed out.
         timed_out: bool,

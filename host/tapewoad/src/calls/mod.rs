@@ -362,7 +362,7 @@ pub struct Stages {
 pub enum State {
     /// The device has it.
     Pending {
-        /// Whether it was cancelled.
+        /// Whether it was cancelled and that was not taken back.
         logical_cancel: bool,
         /// Whether it timed out.
         timed_out: bool,
@@ -400,7 +400,7 @@ pub struct Report {
     pub metadata: Metadata,
     /// Where it stands.
     pub state: State,
-    /// Whether it was ever cancelled.
+    /// Whether it was cancelled and that was not taken back.
     pub logical_cancel: bool,
     /// Whether it ever timed out.
     pub timed_out: bool,
