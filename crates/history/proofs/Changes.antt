@@ -188,7 +188,7 @@ module _ (rows : List Row) (entries : List Entry) (k : Led rows entries) (x : Re
     known = λ y. omega (arith, count_new y, k.known y);
     once = λ y. caseB (same_request x y)
         (λ e. let n : count (is_entry y) entries ≡ 0 = subst (λ (z : RequestId). count (is_entry z) entries ≡ 0) (same_request_lem x y e) new in
-            rw e (omega (arith, n)))
+        rw e (omega (arith, n)))
         (λ e. rw e (omega (arith, k.once y)));
     single = omega (arith, k.single);
   }

@@ -35,7 +35,7 @@ use Rattle.session.specs.Session.{with_flight}
 use Rattle.session.specs.Lifecycle.{open_of, acquired_by, acquire_of, initialized_by, initialize_of, closed_by, fresh_by, close_of}
 use Rattle.session.specs.Place.{placed, set_device_of, set_port_of, set_endpoints_of, set_reconcile_of}
 use Rattle.session.specs.Start.{guarded}
-use Rattle.session.specs.Lent.{Lent, Memory, memory}
+use Rattle.session.specs.Lent.{Lent, Memory}
 use Rattle.session.specs.Sizes.{place_of}
 use Rattle.session.specs.declared.{Called.Called, InFlight.InFlight, Recovery.Recovery, RecoveryKind.RecoveryKind, Session.Session, lifecycle.AcquireReply.AcquireReply, lifecycle.Opened.Opened, lifecycle.Opening.Opening}
 use Rattle.reports.specs.Change.{reported_by, change_of}

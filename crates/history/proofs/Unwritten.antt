@@ -28,7 +28,7 @@ use Rattle.checks.specs.Completion.{test_completion}
 use Rattle.checks.specs.Plan.{plan_of}
 use Rattle.checks.specs.Prepare.{metadata_of}
 use Rattle.checks.specs.declared.{completion.CompletionTest.CompletionTest}
-use Rattle.session.specs.Lent.{Memory, Lent, memory, lent, memory_fits, lent_fits}
+use Rattle.session.specs.Lent.{Memory, Lent, memory, memory_fits, lent_fits}
 use Rattle.session.specs.Session.{with_flight}
 use Rattle.session.specs.Sizes.{place_of}
 use Rattle.session.specs.declared.{InFlight.InFlight, Session.Session, Size.Size}

@@ -35,7 +35,7 @@ use Rattle.submissions.specs.Submit.{Request, submitted_by, submitted_to}
 use Rattle.submissions.specs.Plan.{plan_started, planned_to}
 use Rattle.submissions.specs.declared.{begin.Started.Started}
 use Rattle.calls.specs.Answers.{of_submit, of_plan}
-use Rattle.calls.specs.Calls.{Beginning, Submit, SubmitPlan, Poll, Recover, Call, Begin, Read}
+use Rattle.calls.specs.Calls.{Beginning, Submit, SubmitPlan, Poll, Recover, Call, Begin}
 use Rattle.calls.specs.Step.{World, begun_of, step_of, next}
 use Rattle.calls.specs.declared.{Answer.Answer}
 use Rattle.runs.specs.Run.{Handed, own, rows_only, other, Event, left_by, end_of, Handing, Follows, calls}

@@ -1,5 +1,3 @@
-use borrow.Author.Rules.{rules}
-use Rattle.chain.proofs.Chain.{through}
 use Rattle.lines.proofs.Walk.{text_counts, key_refused, key_lines}
 use Rattle.lines.proofs.key.Goals as goal
 

@@ -1,4 +1,3 @@
-use borrow.Author.Rules.{rules}
 use Rattle.lines.proofs.Walk.{from_start}
 use Rattle.lines.proofs.mark_all.Goals as goal
 

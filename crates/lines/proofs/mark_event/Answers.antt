@@ -1,4 +1,3 @@
-use borrow.Author.Rules.{rules}
 use Rattle.lines.proofs.Walk.{event_walked_lem}
 use Rattle.lines.proofs.mark_event.Goals as goal
 

@@ -1,16 +1,8 @@
-use Prim.Native.Nat.{◌-◌, ◌*◌, ◌≤◌}
-use mathlib.Core.Path.{◌≡◌, refl, sym, ◌∙◌}
+use mathlib.Core.Path.{sym, ◌∙◌}
 use native.Mathlib.Omega.{arith}
-use lib.ListN.{length, drop}
 use borrow.Author.Rules.{rules}
-use Rattle.rows.specs.Store.{store_of}
-use Rattle.bus.specs.Tables.{bus_of}
-use Rattle.session.specs.Lent.{memory, lent}
-use Rattle.calls.specs.Step.{world}
-use Rattle.paper.specs.Events.{event_count, events_of}
 use Rattle.paper.proofs.Papers.{event_none}
-use Rattle.lines.specs.Lines.{line_room, text_from}
-use Rattle.lines.proofs.Walk.{index_next, room_next, few_next, walk_done, walk_last, walk_on}
+use Rattle.lines.proofs.Walk.{room_next, few_next, walk_done, walk_last, walk_on}
 use Rattle.lines.proofs.mark_events.Goals as goal
 
 pub returns-in_default : goal.returns-in_default

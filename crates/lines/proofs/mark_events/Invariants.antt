@@ -1,16 +1,12 @@
 use Prim.Native.Nat.{◌-◌, ◌*◌, ◌≤◌}
-use mathlib.Core.Path.{◌≡◌, refl, sym, ◌∙◌}
-use native.Mathlib.Omega.{arith}
+use mathlib.Core.Path.{◌≡◌}
 use lib.ListN.{length, drop}
-use borrow.Author.Rules.{rules}
 use Rattle.rows.specs.Store.{store_of}
 use Rattle.bus.specs.Tables.{bus_of}
 use Rattle.session.specs.Lent.{memory, lent}
 use Rattle.calls.specs.Step.{world}
 use Rattle.paper.specs.Events.{event_count, events_of}
-use Rattle.paper.proofs.Papers.{event_none}
 use Rattle.lines.specs.Lines.{line_room, text_from}
-use Rattle.lines.proofs.Walk.{index_next, room_next, few_next, walk_done, walk_last, walk_on}
 use Rattle.lines.proofs.mark_events.Given as goal
 
 abbrev pub invariant-loop-i : goal.invariant-loop-i

@@ -1,5 +1,4 @@
 use Rattle.marking.proofs.Laws.{abort_refused, abort_begun}
-use borrow.Author.Rules.{rules}
 use Rattle.marking.proofs.abort_event.Goals as goal
 
 pub returns-in-Refused : goal.returns-in-Refused

@@ -1,5 +1,4 @@
 use Rattle.marking.proofs.Laws.{cancel_marks, timeout_marks, reclaim_marks}
-use borrow.Author.Rules.{rules}
 use Rattle.marking.proofs.change_event.Goals as goal
 
 pub returns-then-e-eq2 : goal.returns-then-e-eq2

@@ -1,5 +1,4 @@
 use Rattle.marking.proofs.Laws.{damaged_marks, calls_mark}
-use borrow.Author.Rules.{rules}
 use Rattle.marking.proofs.mark.Goals as goal
 
 pub returns-then-is_damaged : goal.returns-then-is_damaged

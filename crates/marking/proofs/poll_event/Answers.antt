@@ -1,5 +1,4 @@
 use Rattle.marking.proofs.Laws.{poll_refused_lem, poll_told, poll_asked}
-use borrow.Author.Rules.{rules}
 use Rattle.marking.proofs.poll_event.Goals as goal
 
 pub returns-in-Refused : goal.returns-in-Refused

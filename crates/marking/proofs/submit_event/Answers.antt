@@ -1,5 +1,4 @@
 use Rattle.marking.proofs.Laws.{submit_refused_lem, submit_begun}
-use borrow.Author.Rules.{rules}
 use Rattle.marking.proofs.submit_event.Goals as goal
 
 pub returns-in-Refused : goal.returns-in-Refused

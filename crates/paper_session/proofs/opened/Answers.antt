@@ -1,5 +1,4 @@
 use Rattle.paper_session.proofs.Laws.{opens_to}
-use borrow.Author.Rules.{rules}
 use Rattle.paper_session.proofs.opened.Goals as goal
 
 pub returns : goal.returns

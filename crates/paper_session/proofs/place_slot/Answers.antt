@@ -1,5 +1,4 @@
 use Rattle.paper_session.proofs.Laws.{slot_placed}
-use borrow.Author.Rules.{rules}
 use Rattle.paper_session.proofs.place_slot.Goals as goal
 
 pub returns : goal.returns

@@ -1,8 +1,4 @@
-use Rattle.paper_session.proofs.Laws.{Placed, none_placed, next_placed, all_placed}
-use Prim.Native.Nat.{◌-◌, ◌≤◌}
-use mathlib.Core.Path.{◌≡◌}
-use lib.ListN.{length}
-use Rattle.bus.specs.Tables.{bus_of}
+use Rattle.paper_session.proofs.Laws.{none_placed, next_placed}
 use borrow.Author.Rules.{rules}
 use Rattle.paper_session.proofs.place_slots.Goals as goal
 

@@ -1,9 +1,8 @@
-use Rattle.paper_session.proofs.Laws.{Placed, none_placed, next_placed, all_placed}
+use Rattle.paper_session.proofs.Laws.{Placed}
 use Prim.Native.Nat.{◌-◌, ◌≤◌}
 use mathlib.Core.Path.{◌≡◌}
 use lib.ListN.{length}
 use Rattle.bus.specs.Tables.{bus_of}
-use borrow.Author.Rules.{rules}
 use Rattle.paper_session.proofs.place_slots.Given as goal
 
 abbrev pub invariant-loop-slot : goal.invariant-loop-slot

@@ -1,5 +1,4 @@
 use Rattle.paper_session.proofs.Laws.{readied_by}
-use borrow.Author.Rules.{rules}
 use Rattle.paper_session.proofs.ready.Goals as goal
 
 pub returns : goal.returns

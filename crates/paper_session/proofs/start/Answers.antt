@@ -1,5 +1,4 @@
 use Rattle.paper_session.proofs.Laws.{started}
-use borrow.Author.Rules.{rules}
 use Rattle.paper_session.proofs.start.Goals as goal
 
 pub returns : goal.returns

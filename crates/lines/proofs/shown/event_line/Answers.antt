@@ -1,5 +1,4 @@
 use Rattle.lines.proofs.shown.Laws.{event_told}
-use borrow.Author.Rules.{rules}
 use Rattle.lines.proofs.shown.event_line.Goals as goal
 
 pub returns : goal.returns

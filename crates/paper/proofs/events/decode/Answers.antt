@@ -1,9 +1,6 @@
-use Prim.Native.Nat.{◌/◌, ◌^◌}
 use mathlib.Core.Path.{sym}
 use native.Mathlib.Omega.{arith}
-use lib.Bits.{mask_lt}
 use lib.Pow.{shr_mod}
-use borrow.Author.Rules.{rules}
 use Rattle.standards.proofs.Masks.{shifted, low_mask}
 use Rattle.paper.proofs.Papers.{decoded-by}
 use Rattle.paper.proofs.events.decode.Goals as goal

@@ -1,5 +1,4 @@
 use native.Mathlib.Omega.{arith}
-use borrow.Author.Rules.{rules}
 use Rattle.paper.proofs.Papers.{encoded_none, encoded_some}
 use Rattle.paper.proofs.events.encode.Goals as goal
 

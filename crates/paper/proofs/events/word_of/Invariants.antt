@@ -1,12 +1,7 @@
-use Prim.Native.Nat.{◌+◌, ◌*◌, ◌^◌, ◌<◌, ◌≤◌, ◌-◌}
-use mathlib.Core.Path.{◌≡◌, sym}
-use native.Mathlib.Omega.{arith}
-use native.Mathlib.Numerals.{add-one}
-use lib.ListN.{get_or, take, replicate}
-use borrow.Author.Rules.{rules}
+use Prim.Native.Nat.{◌*◌, ◌^◌, ◌<◌, ◌≤◌, ◌-◌}
+use mathlib.Core.Path.{◌≡◌}
+use lib.ListN.{take, replicate}
 use Rattle.paper.specs.Widths.{packed}
-use Rattle.paper.proofs.Widths.{packed_next, next_fits}
-use Rattle.paper.proofs.Papers.{word_whole}
 use Rattle.paper.proofs.events.word_of.Given as goal
 
 abbrev pub invariant-loop-i : goal.invariant-loop-i
