@@ -36,7 +36,7 @@ enum tapewoad_status {
    the pointer is not null and is aligned for its elements, even where the length is 0; that so many elements can be read, and
    written where it is not const; that no two slices overlap; and that nothing else touches them during the call. No pointer is
    kept. `bus`, `rows` and `area` of a wrong length are answered by refusal 3 where the call uses them, an opening all three.
-   No proof bounds the stack: at most 10,320 bytes were measured (docs/TRUST.md).
+   No proof bounds the stack: at most 20,744 bytes were measured (docs/TRUST.md).
      session  zeros before the opening, the library's own afterwards
      bus      ports, devices, endpoints and marks
      rows     TAPEWOAD_ROW_WORDS for each row that the opening names
