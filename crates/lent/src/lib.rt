@@ -18,7 +18,7 @@ use polls::{PollAnswer, poll};
 use reports::{ReportAnswer, change};
 use session::Session;
 
-// The rows are lent again, as the others lend theirs: one proof serves all five.
+// The rows are lent again, as the others lend theirs.
 pub fn poll_request(session: &mut Session, rows: &[u64], id: RequestId) -> PollAnswer
     ensures step { polled_as result session.new ≡ poll_of id session.old (store_of rows.now) }
     ensures table { Tabled poll_numbers (poll_said result) }

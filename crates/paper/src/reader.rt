@@ -6,7 +6,7 @@ ghost use Rattle.paper.specs.Events.{event_at};
 use crate::{OptionEvent, events};
 
 // `at` counts events, from 0.
-#[derive(Drop)]
+#[derive(Clone, Copy)]
 pub struct Reader<'a> {
     pub paper: &'a [u8],
     pub at: usize,

@@ -29,11 +29,8 @@ fn every_crate_of_the_library_and_of_the_key_has_edits() {
     ];
     let names = names.into_iter().flat_map(|it| it.unwrap().split(' '));
     let edits = all();
-    for name in names.filter(|name| *name != "chain") {
+    for name in names.filter(|name| !["chain", "io"].contains(name)) {
         let source = format!("crates/{name}/src/");
-        if !root().join(&source).is_dir() {
-            continue;
-        }
         let there = edits.iter().any(|edit| edit.file.starts_with(&source));
         assert!(there, "no edit of {name}");
     }
