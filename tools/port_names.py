@@ -17,6 +17,8 @@ TOKEN = re.compile(NAME)
 SIGNATURE = re.compile(r"^(\s*)(?:(?:abbrev|unfoldable|pub|private|opaque)\s+)*(" + NAME + r")(?:\s+[A-Za-z_][\w'-]*)?\s*:\s(.*)")
 # Names of proofs that the port's converter turns, since the check makes the goals' names.
 GOALS = "/Proof.antt"
+# A word of the older library in our names, as LANDED has it and as port.py leaves it, and today's.
+LIBRARY = {"getD": "get_or", "get_d": "get_or"}
 
 
 def antt_files():
@@ -63,6 +65,14 @@ def camel_name(name):
     return "-".join(snake(p) for p in name.split("-"))
 
 
+def library_word(name):
+    """The name with today's word of the library, a name of its own between dashes."""
+    for old, new in LIBRARY.items():
+        name = re.sub(rf"^{old}[_-]", f"{new}-", name)
+        name = re.sub(rf"[_-]{old}$", f"-{new}", name)
+    return name
+
+
 def dashed_name(name, words):
     parts = name.split("-")
     out = parts[0] if parts[0][:1].isupper() else snake(parts[0])
@@ -84,6 +94,8 @@ def table():
     for name in files:
         if name.endswith("-spec"):
             names[name] = name.replace("-", "_")
+        elif library_word(name) != name:
+            names[name] = library_word(name)
         elif all(f.endswith(GOALS) for f in files[name]):
             if is_lower_camel(name) and "-" not in name:
                 names[name] = camel_name(name)
@@ -151,15 +163,15 @@ def main():
     for path in antt_files():
         text = text_of(path)
         write(path, turned(text, names_in(path, text, names, snakes)))
-    names = {a: b for a, b in names.items() if a not in snakes}
+    everywhere = {a: b for a, b in names.items() if a not in snakes}
     for path in sorted(glob.glob("crates/*/src/**/*.rt", recursive=True)):
-        write(path, outside_strings(text_of(path), names))
+        write(path, outside_strings(text_of(path), everywhere))
     for path in sorted(glob.glob("crates/*/must-fail/*.edit")):
-        write(path, turned(text_of(path), names))
+        write(path, turned(text_of(path), everywhere))
     for path in sorted(["README.md", *glob.glob("docs/**/*.md", recursive=True), *glob.glob("host/**/*.md", recursive=True), *glob.glob("papers/**/*.md", recursive=True)]):
         if not path.startswith("docs/PORT"):
-            write(path, in_code_marks(text_of(path), names))
-    for old, new in sorted((names | {a: a + "_lem" for a in snakes}).items()):
+            write(path, in_code_marks(text_of(path), everywhere))
+    for old, new in sorted(names.items()):
         print(f"{old}\t{new}")
 
 

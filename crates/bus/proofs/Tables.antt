@@ -12,7 +12,7 @@ use borrow.Author.Tests.{ne_eqb}
 use Rattle.words.specs.Words.{read_flag, flag_word, read_option_u32, option_u32_word}
 use Rattle.words.specs.Records.{splice, part, chunks}
 use Rattle.words.specs.declared.{OptionU32.OptionU32}
-use Rattle.words.proofs.Records.{part_get_d, part_first, part_length, splice-set, chunks_at, chunks_put, chunks_kept}
+use Rattle.words.proofs.Records.{part-get_or, part_first, part_length, splice-set, chunks_at, chunks_put, chunks_kept}
 use Rattle.models.specs.Codes.{read_device_state}
 use Rattle.models.specs.declared.{DeviceSnapshot.DeviceSnapshot, DeviceState.DeviceState, OptionDevice.OptionDevice}
 use Rattle.bus.specs.Layout.{devices_at, lists_at, marks_at, bus_words, read_port, read_device, device_record, read_endpoints, read_mark}
@@ -43,7 +43,7 @@ pub port_is : (l : List ℕ) (number i : ℕ) (r : OptionU32) → i ≡ port_ind
 unfolding bus_of
 port_is l number i r ei h e =
     let z : 0 + i * 2 ≡ i * 2 = omega arith in
-    rw (← ei, chunks_at 0 2 read_port 255 l i new_port h, e, z, part_first 0 (i * 2) 2 l (omega arith), part_get_d 0 (i * 2) 2 l 1 (omega arith))
+    rw (← ei, chunks_at 0 2 read_port 255 l i new_port h, e, z, part_first 0 (i * 2) 2 l (omega arith), part-get_or 0 (i * 2) 2 l 1 (omega arith))
 
 pub put_port_lem : (l x : List ℕ) (number i w : ℕ) (r : PortRow) → length l ≡ bus_words → i ≡ port_index number → i < 255 → read_option_u32 w ≡ r.reading
     → w ≡ option_u32_word r.reading → x ≡ splice (i * 2) (r.generation ∷ w ∷ []) l → bus_of x ≡ put_port (bus_of l) number r
@@ -75,7 +75,7 @@ module _ (l : List ℕ) (slot : ℕ) (h : slot < 256) where
   device_row = chunks_at devices_at 8 read_device 256 l slot OptionDevice.None h
 
   word : (k : ℕ) → k < 8 → get_or (part at 8 l) k 0 ≡ get_or l (at + k) 0
-  word k g = part_get_d 0 at 8 l k g
+  word k g = part-get_or 0 at 8 l k g
 
   pub device_none : get_or l at 0 ≡ 0 → OptionDevice.None ≡ device_at (bus_of l) slot
   unfolding read_device

@@ -15,7 +15,7 @@ use Rattle.words.specs.Words.{read_flag, flag_word, option_u64_words, read_optio
 use Rattle.words.specs.declared.{OptionWords.OptionWords}
 use Rattle.words.proofs.Options.{low}
 use Rattle.words.proofs.Signed.{option_i32_word_lem}
-use Rattle.words.proofs.Records.{get_d_tab, tab_all, tab_same, tab_list}
+use Rattle.words.proofs.Records.{get_or-tab, tab_all, tab_same, tab_list}
 use Rattle.models.specs.Codes.{read_category, category_word, read_transfer, transfer_word, read_direction, direction_word, read_profile, profile_word, read_device_state, device_state_word}
 use Rattle.models.specs.Values.{setup_words, error_words, option_error_words, read_error, read_option_error}
 use Rattle.models.specs.declared.{SetupWords.SetupWords}
@@ -30,7 +30,7 @@ module _ {A : Type 0} (f : A → ℕ) (g : ℕ → A) (n : ℕ) where
   pub coded : tab (λ (i : ℕ). f (g i)) n ≡ tab (λ (i : ℕ). i) n → (x : ℕ) → leb x (n - 1) ≡ true → 0 < n → f (g x) ≡ x
   coded e x t h =
       let l = leb-true x (n - 1) t in
-      sym (get_d_tab (λ (i : ℕ). f (g i)) n x 0 (omega arith)) ∙ ap (λ (m : List ℕ). get_or m x 0) e ∙ get_d_tab (λ (i : ℕ). i) n x 0 (omega arith)
+      sym (get_or-tab (λ (i : ℕ). f (g i)) n x 0 (omega arith)) ∙ ap (λ (m : List ℕ). get_or m x 0) e ∙ get_or-tab (λ (i : ℕ). i) n x 0 (omega arith)
 
 module _ (x : ℕ) where
   pub flag_word_lem : leb x 1 ≡ true → flag_word (read_flag x) ≡ x
@@ -80,7 +80,7 @@ zero_at w at (suc n) t k h =
     (λ e. let z = eqb-false k n e in zero_at w at n p.0 k (omega arith))
 
 pub zeros_words : (f : ℕ → ℕ) (n : ℕ) → are_zero (tab f n) 0 n ≡ true → tab f n ≡ zeros n
-zeros_words f n t = tab_all f n 0 (λ j h. sym (get_d_tab f n j 0 h) ∙ (let z : 0 + j ≡ j = omega arith in rw z at (zero_at (tab f n) 0 n t j h)))
+zeros_words f n t = tab_all f n 0 (λ j h. sym (get_or-tab f n j 0 h) ∙ (let z : 0 + j ≡ j = omega arith in rw z at (zero_at (tab f n) 0 n t j h)))
 
 pub by_flag_lem : {P : Type 0} (k : ℕ) (x y : Bool) → by_flag k x y ≡ true → (k ≡ 0 → x ≡ true → P) → (k ≡ 1 → y ≡ true → P) → P
 by_flag_lem k x y t a b =

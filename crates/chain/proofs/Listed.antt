@@ -10,7 +10,7 @@ use lib.Seq.{take-suc, drop-cons, set_at, take_all, append_snoc, take-append-le,
 use borrow.Author.Tests.{ltb-true, ltb-false}
 use Rattle.chain.specs.Lists.{listed}
 use Rattle.chain.proofs.Chain.{caseB}
-use Rattle.chain.proofs.Lists.{get_d_any}
+use Rattle.chain.proofs.Lists.{get_or-any}
 
 module _ {A : Type 0} (m : ℕ) (z : A) where
   pub length-listed : (l : List A) → length (listed m z l) ≡ m
@@ -27,7 +27,7 @@ module _ {A : Type 0} (m : ℕ) (z : A) where
   listed_at f l k d h small =
       let long : k < length (map f l) = omega (arith, length-map l f) in
       get_or-append (take m (map f l)) (drop (length (map f l)) (replicate m z)) z k (omega (arith, length-take m (map f l)))
-      ∙ get_or-take m (map f l) k z small ∙ get_d_any (map f l) k z (f d) long ∙ get_or-map f l k d
+      ∙ get_or-take m (map f l) k z small ∙ get_or-any (map f l) k z (f d) long ∙ get_or-map f l k d
 
   pub list_start : (x : A) (s : List A) → x ≡ z → replicate m x ≡ take 0 s ++ drop 0 (replicate m z)
   list_start x s e = rw e

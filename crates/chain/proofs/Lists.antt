@@ -146,10 +146,10 @@ module _ {A : Type 0} where
   sum_take f (x ∷ xs) (suc i) = omega (arith, sum_take f xs i)
 
   -- inside a list the default does not matter
-  pub get_d_any : (l : List A) (i : ℕ) (a b : A) → i < length l → get_or l i a ≡ get_or l i b
-  get_d_any [] i a b h = absurd (omega arith)
-  get_d_any (x ∷ xs) zero a b h = refl
-  get_d_any (x ∷ xs) (suc i) a b h = get_d_any xs i a b (le_of_suc-le-suc h)
+  pub get_or-any : (l : List A) (i : ℕ) (a b : A) → i < length l → get_or l i a ≡ get_or l i b
+  get_or-any [] i a b h = absurd (omega arith)
+  get_or-any (x ∷ xs) zero a b h = refl
+  get_or-any (x ∷ xs) (suc i) a b h = get_or-any xs i a b (le_of_suc-le-suc h)
 
   pub find_le : (p : A → Bool) (l : List A) → find p l ≤ length l
   find_le p [] = omega arith

@@ -48,8 +48,8 @@ fn setup_case<W: Write>(
     print_verdict(out, same_setup(&bytes, expected))
 }
 
-// USB 2.0, tables 9-3 to 9-6.
-fn setup_cases<W: Write>(out: &mut W) -> io::Result<()> {
+// USB 2.0, tables 9-3 to 9-6: what a host sends a new device.
+fn enumeration_cases<W: Write>(out: &mut W) -> io::Result<()> {
     setup_case(
         out,
         b"GET_DESCRIPTOR(device)",
@@ -73,7 +73,11 @@ fn setup_cases<W: Write>(out: &mut W) -> io::Result<()> {
         b"SET_CONFIGURATION(1)",
         packet(0, 9, 1, 0, 0),
         b"\x00\x09\x01\x00\x00\x00\x00\x00",
-    )?;
+    )
+}
+
+// Tables 9-3 to 9-6: what it sends a device that is there.
+fn state_cases<W: Write>(out: &mut W) -> io::Result<()> {
     setup_case(
         out,
         b"SET_INTERFACE(2, 1)",
@@ -202,7 +206,8 @@ fn number_cases<W: Write>(out: &mut W) -> io::Result<()> {
 
 fn main(rt: HostRuntime) -> io::Result<()> {
     let mut out = rt.stdout();
-    setup_cases(&mut out)?;
+    enumeration_cases(&mut out)?;
+    state_cases(&mut out)?;
     port_cases(&mut out)?;
     number_cases(&mut out)
 }

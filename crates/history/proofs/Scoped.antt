@@ -8,7 +8,7 @@ use borrow.Author.Tests.{eqb-true, ltb-true}
 use lib.Dec.{eqb}
 use lib.ListN.{length, get_or, length-map, get_or-map}
 use Rattle.chain.specs.Lists.{count, find, is_among}
-use Rattle.chain.proofs.Lists.{find_hit, get_d_any}
+use Rattle.chain.proofs.Lists.{find_hit, get_or-any}
 use Rattle.models.specs.declared.{DeviceId.DeviceId}
 use Rattle.rows.specs.Table.{is_held, row_in, token_in}
 use Rattle.rows.specs.declared.{Row.Row}
@@ -46,14 +46,14 @@ module _ (d : DeviceId) (endpoint : ℕ) (rows : List Row) (entries : List Entry
     view_at : row_view (row_in rows (place t)) ≡ view t
     view_at =
         let a : get_or (map (seen d endpoint rows) affected) (slot_of own t) (seen d endpoint rows 0) ≡ seen d endpoint rows (place t) = get_or-map (seen d endpoint rows) affected (slot_of own t) 0 in
-        let b = get_d_any (map (seen d endpoint rows) affected) (slot_of own t) (seen d endpoint rows 0) no_entry.view (omega (arith, slot_in d endpoint rows t e, length-map affected (seen d endpoint rows))) in
+        let b = get_or-any (map (seen d endpoint rows) affected) (slot_of own t) (seen d endpoint rows 0) no_entry.view (omega (arith, slot_in d endpoint rows t e, length-map affected (seen d endpoint rows))) in
         sym a ∙ b ∙ ap (λ (l : List View). get_or l (slot_of own t) no_entry.view) (affected_same d endpoint rows entries few k)
         ∙ ap (λ (l : List ℕ). get_or (affected_views d endpoint entries) (find (eqb t) l) no_entry.view) (sym own_is)
 
     token_at : (view t).token ≡ t
     token_at =
         let a : get_or own (slot_of own t) (token_in rows 0) ≡ token_in rows (place t) = get_or-map (token_in rows) affected (slot_of own t) 0 in
-        let b = get_d_any own (slot_of own t) (token_in rows 0) 0 (ltb-true (slot_of own t) (length own) e) in
+        let b = get_or-any own (slot_of own t) (token_in rows 0) 0 (ltb-true (slot_of own t) (length own) e) in
         let c = eqb-true t (get_or own (slot_of own t) 0) (find_hit (eqb t) own 0 (ltb-true (slot_of own t) (length own) e)) in
         ap (λ (v : View). v.token) (sym view_at) ∙ sym a ∙ b ∙ sym c
 

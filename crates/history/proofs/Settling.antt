@@ -11,7 +11,7 @@ use lib.Seq.{ext_get_or}
 use Rattle.chain.specs.Lists.{count, is_among, all_in}
 use Rattle.chain.specs.After.{After}
 use Rattle.chain.proofs.Chain.{caseB, both, or_false}
-use Rattle.chain.proofs.Lists.{get_d_any, in_cons, in_append, all_in_lem}
+use Rattle.chain.proofs.Lists.{get_or-any, in_cons, in_append, all_in_lem}
 use Rattle.models.specs.declared.{DeviceId.DeviceId, Refusal.Refusal, Verdict.Verdict}
 use Rattle.models.specs.declared.RequestState.TheVariants.{Aborted}
 use Rattle.rows.specs.InPlace.{completed_row}
@@ -130,7 +130,7 @@ module _ (d : DeviceId) (endpoint : ℕ) (rows : List Row) (few : count is_held 
         record {
           rows_are = ext_get_or empty_row rows' (map f rows) (k.size ∙ sym (length-map rows f))
               (λ i h. each i (omega (arith, h, k.size))
-              ∙ sym (get_d_any (map f rows) i empty_row (f empty_row) (omega (arith, h, k.size, length-map rows f)) ∙ get_or-map f rows i empty_row));
+              ∙ sym (get_or-any (map f rows) i empty_row (f empty_row) (omega (arith, h, k.size, length-map rows f)) ∙ get_or-map f rows i empty_row));
           named = λ i h e. all_in_lem own (l.tokens ++ l.aborted) (token_in rows i) all_of_them (expected d endpoint rows few i h e);
           settled = λ i h e.
               ap (λ (r : Row). is_settled r.state) (each i h)

@@ -9,7 +9,7 @@ use lib.Seq.{take_at, drop_at}
 use Rattle.chain.specs.After.{After, after}
 use Rattle.chain.specs.Lists.{listed}
 use Rattle.chain.proofs.Listed.{listed-take}
-use Rattle.chain.proofs.Lists.{get_d_any}
+use Rattle.chain.proofs.Lists.{get_or-any}
 use Rattle.words.proofs.Records.{map-tab, tab_same}
 use Rattle.models.specs.declared.{Verdict.Verdict}
 use Rattle.rows.specs.Table.{read_rows}
@@ -30,7 +30,7 @@ onward_same Verdict.Pass o f g h = h o.lent
 
 module _ (place : ℕ → ℕ) where
   map_at_lem : (l : List ℕ) (k : ℕ) → k < length l → get_or (map place l) k 0 ≡ place (get_or l k 0)
-  map_at_lem l k h = get_d_any (map place l) k 0 (place 0) (omega (arith, length-map l place)) ∙ get_or-map place l k 0
+  map_at_lem l k h = get_or-any (map place l) k 0 (place 0) (omega (arith, length-map l place)) ∙ get_or-map place l k 0
 
   -- what a token's row is brought
   abbrev row_meant : Returned → Returned

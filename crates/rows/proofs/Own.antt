@@ -10,7 +10,7 @@ use lib.ListN.{length, get_or, set, drop, replicate, length-replicate, get_or-re
 use lib.Seq.{ext_get_or, get_or-set_same, get_or-set_other, set-set, set-get_or}
 use Rattle.chain.proofs.Chain.{caseB}
 use Rattle.words.specs.Records.{part}
-use Rattle.words.proofs.Records.{le_or_lt, part_get_d}
+use Rattle.words.proofs.Records.{le_or_lt, part-get_or}
 use Rattle.rows.specs.Codec.{read_row, read_metadata, record_of}
 use Rattle.rows.specs.Table.{record_words, row_words, row_count, record_at, words_at, words_of, put_words, put_row, empty_row, row_in}
 use Rattle.rows.specs.Store.{Store, put_in, emptied, OwnAt}
@@ -49,8 +49,8 @@ module _ (n i : ℕ) (l m : List ℕ) (e : words_at n l i ≡ words_at n m i) wh
       let j = k - record_at n i in
       let z : record_at n i + j ≡ k = omega arith in
       rw z at
-      (sym (part_get_d 0 (record_at n i) record_words l j (omega arith)) ∙ ap (λ (w : List ℕ). get_or w j 0) same_record
-      ∙ part_get_d 0 (record_at n i) record_words m j (omega arith))
+      (sym (part-get_or 0 (record_at n i) record_words l j (omega arith)) ∙ ap (λ (w : List ℕ). get_or w j 0) same_record
+      ∙ part-get_or 0 (record_at n i) record_words m j (omega arith))
 
 -- other words of row i, and then its own again
 module _ (n : ℕ) (l : List ℕ) (i : ℕ) (inside : i < n) (fits : n * row_words ≤ length l) (s t : ℕ) (p : List ℕ) (sized : length p ≡ record_words)

@@ -6,7 +6,7 @@ use native.Mathlib.Omega.{arith}
 use lib.ListN.{length, get_or, set, take, drop, replicate, length-replicate, drop_of_length-le}
 use lib.Seq.{get_or-append-add, take_all}
 use Rattle.words.specs.Records.{splice, part}
-use Rattle.words.proofs.Records.{length-tab, get_d_tab, set-tab, tab_all, part_get_d}
+use Rattle.words.proofs.Records.{length-tab, get_or-tab, set-tab, tab_all, part-get_or}
 use Rattle.rows.specs.Codec.{read_row, read_metadata, record_of, status_words}
 use Rattle.rows.specs.Table.{record_words, row_words, row_count, record_at, words_at, put_words, put_row, read_rows, empty_row, row_at, word_at}
 use Rattle.rows.specs.Store.{store_of, put_in, emptied}
@@ -29,7 +29,7 @@ inside l i h = let e = length-read_rows l in record { row = omega arith; whole =
 
 pub row_is : (l : List ℕ) (i : ℕ) → i < length (read_rows l) → read_row (words_at (row_count l) l i) ≡ row_at l i
 unfolding read_rows
-row_is l i h = sym (get_d_tab (λ (k : ℕ). read_row (words_at (row_count l) l k)) (row_count l) i empty_row (rw length-tab at h))
+row_is l i h = sym (get_or-tab (λ (k : ℕ). read_row (words_at (row_count l) l k)) (row_count l) i empty_row (rw length-tab at h))
 
 -- word k of row i, in a column and in the record
 pub column_in : (l : List ℕ) (i k : ℕ) → i < length (read_rows l) → k < 2 → length l / row_words * k + i < length l
@@ -48,7 +48,7 @@ unfolding row_count words_at
 field_is l i k at g e =
     let n = length l / row_words in
     let p = part (record_at n i) record_words l in
-    rw e (sym (get_or-append-add (get_or l i 0 ∷ get_or l (n + i) 0 ∷ []) p k 0 ∙ part_get_d 0 (record_at n i) record_words l k g))
+    rw e (sym (get_or-append-add (get_or l i 0 ∷ get_or l (n + i) 0 ∷ []) p k 0 ∙ part-get_or 0 (record_at n i) record_words l k g))
 
 -- the record of row i, as `&rows[at..end]` says it
 pub row_at_lem : (l : List ℕ) (i s t at : ℕ) → i < length (read_rows l) → s ≡ word_at l i 0 → t ≡ word_at l i 1 → at ≡ record_at (row_count l) i

@@ -11,7 +11,7 @@ use lib.ListN.{length, get_or, take, length-map, get_or-map}
 use lib.Seq.{take_all}
 use Rattle.chain.specs.Lists.{sum_by, only, count, is_among}
 use Rattle.chain.proofs.Chain.{caseB, both}
-use Rattle.chain.proofs.Lists.{sum_suc, sum_le, sum_part, find_hit, get_d_any, in_cons}
+use Rattle.chain.proofs.Lists.{sum_suc, sum_le, sum_part, find_hit, get_or-any, in_cons}
 use Rattle.models.specs.declared.{DeviceId.DeviceId}
 use Rattle.rows.specs.Table.{empty_row, is_held, row_in, id_in, token_in}
 use Rattle.rows.specs.declared.{Row.Row}
@@ -72,7 +72,7 @@ module _ (d : DeviceId) (endpoint : ℕ) (rows : List Row) where
     own_token =
         let h = ltb-true (slot_of own_tokens t) (length own_tokens) e in
         sym (get_or-map (token_in rows) (affected_of d endpoint rows) (slot_of own_tokens t) 0)
-        ∙ get_d_any own_tokens (slot_of own_tokens t) (token_in rows 0) 0 h ∙ sym (eqb-true t (get_or own_tokens (slot_of own_tokens t) 0) (find_hit (eqb t) own_tokens 0 h))
+        ∙ get_or-any own_tokens (slot_of own_tokens t) (token_in rows 0) 0 h ∙ sym (eqb-true t (get_or own_tokens (slot_of own_tokens t) 0) (find_hit (eqb t) own_tokens 0 h))
 
   -- ---- with 128 held rows or fewer none is left out
 

@@ -5,7 +5,7 @@ use Rattle.std.specs.Io.KnownBytes.{Appends}
 use Rattle.std.proofs.KnownBytes.{Appends-trans}
 use Rattle.std.specs.Fmt.{decimal}
 use Rattle.words.specs.Records.{tab}
-use Rattle.texts.specs.Lines.{numbers_text, line_text, words_between}
+use Rattle.texts.specs.Lines.{numbers_text, numbered_line, words_between}
 
 -- one more number comes last
 pub numbers_more : (a : List ℕ) (n : ℕ) → numbers_text (a ++ (n ∷ [])) ≡ numbers_text a ++ (32 ∷ decimal n)
@@ -37,7 +37,7 @@ number_written a b c ns m n e p q =
 
 -- a name, numbers and the line's end
 pub line_written : {E : Type 0} (a b c d : Option (List ℕ)) (name ms ns : List ℕ) (r : Result (Unit {0}) E)
-    → ms ≡ ns → Appends a b name → Appends b c (numbers_text ms) → OnOk r (Appends c d (10 ∷ [])) → OnOk r (Appends a d (line_text name ns))
+    → ms ≡ ns → Appends a b name → Appends b c (numbers_text ms) → OnOk r (Appends c d (10 ∷ [])) → OnOk r (Appends a d (numbered_line name ns))
 line_written a b c d name ms ns (Ok x) e p q t =
-    subst (Appends a d) (ap (line_text name) e) (Appends-trans a b d name _ p (Appends-trans b c d _ _ q t))
+    subst (Appends a d) (ap (numbered_line name) e) (Appends-trans a b d name _ p (Appends-trans b c d _ _ q t))
 line_written a b c d name ms ns (Err x) e p q t = t

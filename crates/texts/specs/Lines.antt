@@ -9,8 +9,8 @@ numbers_text [] = []
 numbers_text (n ∷ ns) = (32 ∷ decimal n) ++ numbers_text ns
 
 -- a line: a name, and numbers
-abbrev pub line_text : List ℕ → List ℕ → List ℕ
-line_text name ns = name ++ (numbers_text ns ++ (10 ∷ []))
+abbrev pub numbered_line : List ℕ → List ℕ → List ℕ
+numbered_line name ns = name ++ (numbers_text ns ++ (10 ∷ []))
 
 -- the words from `from` up to `to`, 0 where there are none
 abbrev pub words_between : List ℕ → ℕ → ℕ → List ℕ

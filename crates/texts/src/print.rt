@@ -2,7 +2,7 @@
 ghost use Rattle.std.specs.Prelude.{◌∷◌, OnOk};
 ghost use Rattle.std.specs.Fmt.{decimal};
 ghost use Rattle.std.specs.Io.KnownBytes.{Appends};
-ghost use Rattle.texts.specs.Lines.{line_text, words_between};
+ghost use Rattle.texts.specs.Lines.{numbered_line, words_between};
 
 use std::io;
 use std::io::Write;
@@ -35,7 +35,7 @@ pub fn words<W: Write>(
     from: usize,
     to: usize,
 ) -> io::Result<()>
-    ensures { OnOk result (Appends (W.contents out.old) (W.contents out.new) (line_text name.now (words_between w.now from to))) }
+    ensures { OnOk result (Appends (W.contents out.old) (W.contents out.new) (numbered_line name.now (words_between w.now from to))) }
 {
     text(out, name)?;
     for i in from..to {
@@ -46,7 +46,7 @@ pub fn words<W: Write>(
 
 // A line: a name, and bytes.
 pub fn bytes<W: Write>(out: &mut W, name: &[u8], b: &[u8]) -> io::Result<()>
-    ensures { OnOk result (Appends (W.contents out.old) (W.contents out.new) (line_text name.now b.now)) }
+    ensures { OnOk result (Appends (W.contents out.old) (W.contents out.new) (numbered_line name.now b.now)) }
 {
     text(out, name)?;
     for byte in b {

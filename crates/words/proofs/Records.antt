@@ -19,10 +19,10 @@ module _ {A : Type 0} where
   length-tab f zero = refl
   length-tab f (suc n) = ap suc (length-tab (next f) n)
 
-  pub get_d_tab : (f : ℕ → A) (n i : ℕ) (d : A) → i < n → get_or (tab f n) i d ≡ f i
-  get_d_tab f zero i d h = absurd (not-suc-le-zero h)
-  get_d_tab f (suc n) zero d h = refl
-  get_d_tab f (suc n) (suc i) d h = get_d_tab (next f) n i d (le_of_suc-le-suc h)
+  pub get_or-tab : (f : ℕ → A) (n i : ℕ) (d : A) → i < n → get_or (tab f n) i d ≡ f i
+  get_or-tab f zero i d h = absurd (not-suc-le-zero h)
+  get_or-tab f (suc n) zero d h = refl
+  get_or-tab f (suc n) (suc i) d h = get_or-tab (next f) n i d (le_of_suc-le-suc h)
 
   pub tab_same : (f g : ℕ → A) (n : ℕ) → ((j : ℕ) → j < n → g j ≡ f j) → tab g n ≡ tab f n
   tab_same f g zero h = refl
@@ -68,24 +68,24 @@ module _ {A : Type 0} where
   unfolding part
   part_length at w l h = simp (length-take, length-drop) (omega arith)
 
-  pub part_get_d : (d : A) (at w : ℕ) (l : List A) (k : ℕ) → k < w → get_or (part at w l) k d ≡ get_or l (at + k) d
+  pub part-get_or : (d : A) (at w : ℕ) (l : List A) (k : ℕ) → k < w → get_or (part at w l) k d ≡ get_or l (at + k) d
   unfolding part
-  part_get_d d at w l k h = rw (get_or-take, get_or-drop)
+  part-get_or d at w l k h = rw (get_or-take, get_or-drop)
 
   pub part_first : (d : A) (at w : ℕ) (l : List A) → 0 < w → get_or (part at w l) 0 d ≡ get_or l at d
-  part_first d at w l h = let z : at + 0 ≡ at = omega arith in rw z at (part_get_d d at w l 0 h)
+  part_first d at w l h = let z : at + 0 ≡ at = omega arith in rw z at (part-get_or d at w l 0 h)
 
   pub part_is : (d : A) (at w : ℕ) (l q : List A) → at + w ≤ length l → length q ≡ w
       → ((i : ℕ) → i < w → get_or l (at + i) d ≡ get_or q i d) → part at w l ≡ q
   part_is d at w l q h e same =
       let n : length (part at w l) ≡ w = part_length at w l h in
-      ext_get_or d (part at w l) q (n ∙ sym e) (λ i hi. part_get_d d at w l i (omega arith) ∙ same i (omega arith))
+      ext_get_or d (part at w l) q (n ∙ sym e) (λ i hi. part-get_or d at w l i (omega arith) ∙ same i (omega arith))
 
   pub part_same : (d : A) (l m : List A) (at w : ℕ) → at + w ≤ length l → length m ≡ length l
       → ((k : ℕ) → at ≤ k → k < at + w → get_or m k d ≡ get_or l k d) → part at w m ≡ part at w l
   part_same d l m at w h e same =
       part_is d at w m (part at w l) (omega arith) (part_length at w l h)
-      (λ i hi. same (at + i) (omega arith) (omega arith) ∙ sym (part_get_d d at w l i hi))
+      (λ i hi. same (at + i) (omega arith) (omega arith) ∙ sym (part-get_or d at w l i hi))
 
   pub part_all : (d x : A) (at w : ℕ) (l : List A) → at + w ≤ length l
       → ((k : ℕ) → at ≤ k → k < at + w → get_or l k d ≡ x) → part at w l ≡ replicate w x
@@ -138,8 +138,8 @@ module _ {A : Type 0} (d : A) (at : ℕ) (p l : List A) (fits : at + length p �
   apart h =
       let e : m + 0 ≡ m = omega arith in
       rw e at
-      (sym (part_get_d d m 1 (splice at p l) 0 (omega arith)) ∙ ap (λ (x : List A). get_or x 0 d) (part-splice_apart at p l fits m 1 h)
-      ∙ part_get_d d m 1 l 0 (omega arith))
+      (sym (part-get_or d m 1 (splice at p l) 0 (omega arith)) ∙ ap (λ (x : List A). get_or x 0 d) (part-splice_apart at p l fits m 1 h)
+      ∙ part-get_or d m 1 l 0 (omega arith))
 
   pub splice_before : m < at → get_or (splice at p l) m d ≡ get_or l m d
   splice_before h = apart (inl (omega arith))
@@ -151,7 +151,7 @@ module _ {A : Type 0} (d : A) (at : ℕ) (p l : List A) (fits : at + length p �
   splice_in lo hi =
       let e : at + (m - at) ≡ m = omega arith in
       rw e at
-      (sym (part_get_d d at (length p) (splice at p l) (m - at) (omega arith)) ∙ ap (λ (x : List A). get_or x (m - at) d) (splice-part at p l fits))
+      (sym (part-get_or d at (length p) (splice at p l) (m - at) (omega arith)) ∙ ap (λ (x : List A). get_or x (m - at) d) (splice-part at p l fits))
 
 -- a record lies in the room of n of them
 pub record_in : (w n i : ℕ) → i < n → i * w + w ≤ n * w
@@ -170,7 +170,7 @@ module _ {A : Type 0} (base w : ℕ) (f : List ℕ → A) (n : ℕ) where
 
   pub chunks_at : (l : List ℕ) (i : ℕ) (d : A) → i < n → get_or (chunks base w f n l) i d ≡ f (part (base + i * w) w l)
   unfolding chunks
-  chunks_at l i d h = get_d_tab (reader l) n i d h
+  chunks_at l i d h = get_or-tab (reader l) n i d h
 
   pub chunks_put : (l : List ℕ) (i : ℕ) (p : List ℕ) → i < n → base + n * w ≤ length l → length p ≡ w
       → chunks base w f n (splice (base + i * w) p l) ≡ set (chunks base w f n l) i (f p)

@@ -13,7 +13,7 @@ use Rattle.chain.specs.Lists.{find}
 use Rattle.chain.proofs.Chain.{takes, passes}
 use Rattle.chain.proofs.Lists.{find_on, find_here}
 use Rattle.words.specs.Records.{splice, part}
-use Rattle.words.proofs.Records.{part_get_d, part_first, part_length, chunks_at}
+use Rattle.words.proofs.Records.{part-get_or, part_first, part_length, chunks_at}
 use Rattle.models.specs.Refusals.{refusal_of}
 use Rattle.models.specs.declared.{Refusal.Refusal, TransferType.TransferType, Verdict.Verdict}
 use Rattle.bus.specs.Layout.{lists_at, bus_words, endpoint_word, read_endpoints}
@@ -62,7 +62,7 @@ module _ (l : List ℕ) (slot : ℕ) (sized : length l ≡ bus_words) (h : slot 
   endpoint_at i k =
       let s : at + (1 + i) ≡ at + 1 + i = omega arith in
       let c = count_is in
-      rw (endpoints_are, listed_at (part at 31 l) i (omega arith) (omega arith), part_get_d 0 at 31 l (1 + i) (omega arith), s)
+      rw (endpoints_are, listed_at (part at 31 l) i (omega arith) (omega arith), part-get_or 0 at 31 l (1 + i) (omega arith), s)
 
   -- a search for w that has come to i
   module _ (w n i : ℕ) (en : n ≡ min (get_or l at 0) 30) (on : i ≤ find (eqb w) (endpoints_at (bus_of l) slot)) where

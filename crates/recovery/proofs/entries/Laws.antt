@@ -17,7 +17,7 @@ use Rattle.chain.proofs.Chain.{caseB, both}
 use Rattle.chain.proofs.Listed.{list_on}
 use Rattle.words.specs.Records.{tab}
 use Rattle.words.proofs.Parts.{rest_some}
-use Rattle.words.proofs.Records.{record_in, length-tab, get_d_tab}
+use Rattle.words.proofs.Records.{record_in, length-tab, get_or-tab}
 use Rattle.models.specs.Refusals.{refusal_of, invalid_completion}
 use Rattle.models.specs.declared.{BackendCompletion.BackendCompletion, Refusal.Refusal, RequestReport.RequestReport, Verdict.Verdict}
 use Rattle.rows.specs.Table.{empty_row, read_rows, row_count}
@@ -147,7 +147,7 @@ module _ (places words : List ℕ) where
   unfolding read_returned
   entries_drop k lt =
       drop-cons (read_returned places words) k (returned_at places words k) (omega (arith, entries_length))
-      ∙ rw (get_d_tab (returned_at places words) (length places) k (returned_at places words k) lt)
+      ∙ rw (get_or-tab (returned_at places words) (length places) k (returned_at places words k) lt)
 
 -- the words of n completions, and their data lengths, where the lists agree
 module _ (n : ℕ) (words : List ℕ) where
@@ -160,7 +160,7 @@ module _ (n : ℕ) (words : List ℕ) where
 
   left_next : (k : ℕ) → k < n → left k ≡ (brought_at words k).given + left (suc k)
   left_next k lt =
-      rw (drop-cons (tab (brought_at words) n) k (brought_at words k) (omega (arith, length-tab (brought_at words) n)), get_d_tab (brought_at words) n k (brought_at words k) lt)
+      rw (drop-cons (tab (brought_at words) n) k (brought_at words k) (omega (arith, length-tab (brought_at words) n)), get_or-tab (brought_at words) n k (brought_at words k) lt)
 
 abbrev pub Completing : Size → List ℕ → List ℕ → List ℕ → List ℕ → List ℕ → ℕ → List ℕ → List ℕ → ℕ → ℕ → Type 0
 Completing z places words bytes w₀ area₀ n w area at k =

@@ -12,7 +12,7 @@ use borrow.Author.Tests.{eq-eqb, ne_eqb, eqb-true}
 use Rattle.chain.specs.Lists.{sum_by}
 use Rattle.chain.proofs.Lists.{sum_suc, sum_take}
 use Rattle.words.specs.Records.{tab, part}
-use Rattle.words.proofs.Records.{part_get_d, length-tab, get_d_tab}
+use Rattle.words.proofs.Records.{part-get_or, length-tab, get_or-tab}
 use Rattle.scope.specs.Returned.{completion_words, read_brought, brought_at, given_of, lists_agree}
 use Rattle.scope.specs.declared.{returned.Brought.Brought}
 
@@ -24,7 +24,7 @@ module _ (w : List ℕ) where
 
   given_is : (k : ℕ) → (brought_at w k).given ≡ get_or w (k * completion_words + 10) 0
   unfolding read_brought brought_at
-  given_is k = part_get_d 0 (k * completion_words) completion_words w 10 (omega arith)
+  given_is k = part-get_or 0 (k * completion_words) completion_words w 10 (omega arith)
 
 -- ---- the data lengths
 abbrev givens : List ℕ → ℕ → List Brought
@@ -38,7 +38,7 @@ module _ (w : List ℕ) (n size sum k : ℕ) (e : sum ≡ sum_by given_of (take 
     one_more : sum_by given_of (take (suc k) (givens w n)) ≡ sum + get_or w (k * completion_words + 10) 0
     one_more =
         sum_suc given_of (givens w n) k (brought_at w k) (omega (arith, length-tab (brought_at w) n))
-        ∙ rw (← e, get_d_tab (brought_at w) n k (brought_at w k) lt, given_is w k)
+        ∙ rw (← e, get_or-tab (brought_at w) n k (brought_at w k) lt, given_is w k)
 
     pub sum_on : sum + get_or w (k * completion_words + 10) 0 ≡ sum_by given_of (take (k + 1) (givens w n))
     sum_on = rw add-one (sym one_more)
