@@ -1,11 +1,11 @@
 -- The lists of every call have at most 386 words: a recovery affects at most 128 requests, and a reply in scope names each once. Assumes nothing.
+use Rattle.std.specs.Prelude.{Option, Some, None, Result, Ok, Err}
 use Prim.Native.Nat.{ℕ, ◌≤◌}
 use mathlib.Core.List.{List}
 use mathlib.Core.Path.{◌≡◌, refl}
 use native.Mathlib.Omega.{arith}
 use native.Mathlib.Nat.{min-le_left}
 use lib.ListN.{length, take, drop, length-take, length-append, length-map}
-use Rattle.chain.specs.declared.{Found.Found}
 use Rattle.chain.proofs.Chain.{if_all}
 use Rattle.words.specs.Records.{splice}
 use Rattle.models.specs.declared.{Refusal.Refusal, RequestId.RequestId}
@@ -19,7 +19,7 @@ use Rattle.scope.proofs.affected.Laws.{affected_most}
 use Rattle.recovery.specs.Recover.{begin_refused, begun_as, begin_row, recover_by, recover_of}
 use Rattle.recovery.specs.RecoveryReply.{recovery_reply_of}
 use Rattle.recovery.specs.Reports.{ids_of, many_in}
-use Rattle.recovery.specs.declared.{Begun.Begun, RecoveryAnswer.RecoveryAnswer}
+use Rattle.recovery.specs.declared.{AbortReport.AbortReport, Begun.Begun}
 use Rattle.recovery.proofs.Few.{reply_few}
 use Rattle.calls.specs.Calls.{Beginning, Submit, SubmitPlan, Poll, Recover, Replying, ToSubmit, ToPoll, ToRecovery, Call, Open, Place, Move, Begin, Reply, Change, Read}
 use Rattle.answer_words.specs.Lists.{list_size, id_list, begun_lists, recovered_by, recovered_lists, begun_in, replied_in, lists_of, put_lists}
@@ -45,10 +45,10 @@ module _ (id : RequestId) (k : RecoveryKind) (s : Session) (rows : List Row) whe
   unfolding begin_row
   row_begun r = if_all ShortBegun _ _ _ (refused_begun _) (if_all ShortBegun _ _ _ (refused_begun _) (begun_short _))
 
-  found_begun : (f : Found) → ShortBegun (recover_by f id k s rows)
+  found_begun : (f : Option ℕ) → ShortBegun (recover_by f id k s rows)
   unfolding recover_by
-  found_begun Found.Nothing = refused_begun _
-  found_begun (Found.At i) = row_begun _
+  found_begun None = refused_begun _
+  found_begun (Some i) = row_begun _
 
 begin_short : (id : RequestId) (k : RecoveryKind) (s : Session) (store : Store) → ShortBegun (recover_of id k s store)
 unfolding recover_of guarded
@@ -57,9 +57,9 @@ begin_short id k s store =
     if_all ShortBegun _ _ _ (r _) (if_all ShortBegun _ _ _ (r _) (found_begun id k s store.rows _))
 
 -- ---- and of its reply
-recovered_short : (a : RecoveryAnswer) (rows : List Row) (places : List ℕ) → many_in a ≤ 128 → length (recovered_by a rows places) ≤ list_size
-recovered_short (RecoveryAnswer.Refused r) rows places h = omega arith
-recovered_short (RecoveryAnswer.Report x) rows places h =
+recovered_short : (a : Result AbortReport Refusal) (rows : List Row) (places : List ℕ) → many_in a ≤ 128 → length (recovered_by a rows places) ≤ list_size
+recovered_short (Err r) rows places h = omega arith
+recovered_short (Ok x) rows places h =
     let n = x.completed in
     let m = x.aborted in
     let a = ids_of rows (take n places) in

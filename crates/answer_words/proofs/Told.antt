@@ -1,4 +1,5 @@
 -- An answer's words tell it whole, and so do the 32 words of `out`. Assumes nothing.
+use Rattle.std.specs.Prelude.{Option, Some, None}
 use Prim.Native.Nat.{ℕ, ◌+◌, ◌-◌, ◌<◌, ◌≤◌}
 use mathlib.Core.Bool.{Bool, true, false}
 use mathlib.Core.List.{List, [], ◌++◌}
@@ -15,7 +16,7 @@ use Rattle.words.specs.Words.{flag_word, read_flag}
 use Rattle.words.proofs.Options.{low, flag_back}
 use Rattle.words.proofs.Records.{tab_same, le_or_lt}
 use Rattle.models.specs.Values.{option_error_words, metadata_tail, read_device_words}
-use Rattle.models.specs.declared.{ControlProfile.ControlProfile, DeviceId.DeviceId, Direction.Direction, OperationError.OperationError, OptionError.OptionError, Refusal.Refusal, RequestMetadata.RequestMetadata, RequestReport.RequestReport, RequestState.RequestState}
+use Rattle.models.specs.declared.{ControlProfile.ControlProfile, DeviceId.DeviceId, Direction.Direction, OperationError.OperationError, Refusal.Refusal, RequestMetadata.RequestMetadata, RequestReport.RequestReport, RequestState.RequestState}
 use Rattle.models.proofs.Enums.{transfer_back, direction_back, profile_back}
 use Rattle.standards.specs.Setup.{setup_bytes}
 use Rattle.rows.specs.Codec.{read_metadata, read_state_words, state_words}
@@ -126,9 +127,9 @@ pub answer_told : (a b : Answer) → AnswerFits a → AnswerFits b → answer_wo
 answer_told a b h k e = sym (answer_back a h) ∙ ap read_answer e ∙ answer_back b k
 
 -- ---- in `out`
-option_error_many : (o : OptionError) → length (option_error_words o) ≡ 5
-option_error_many OptionError.None = refl
-option_error_many (OptionError.Some e) = refl
+option_error_many : (o : Option OperationError) → length (option_error_words o) ≡ 5
+option_error_many None = refl
+option_error_many (Some e) = refl
 
 words_few : (a : Answer) → length (answer_words a) ≤ answer_size
 unfolding refusal_words begun_words plan_words report_words recovering_words recovered_words setup_bytes

@@ -1,16 +1,17 @@
 -- The words beside an answer: lists that it can't hold, each its length and then its items. Assumes nothing.
-use Rattle.std.specs.Prelude.{ℕ, List, [], ◌∷◌, ◌++◌, length, take, drop, ltb}
+use Rattle.std.specs.Prelude.{ℕ, List, [], ◌∷◌, ◌++◌, length, take, drop, ltb, Result, Ok, Err}
 use Rattle.chain.specs.Chain.{◌if◌else◌}
 use Rattle.words.specs.Records.{splice}
 use Rattle.models.specs.Values.{request_id_words}
-use Rattle.models.specs.declared.{RequestId.RequestId}
+use Rattle.models.specs.declared.{Refusal.Refusal, RequestId.RequestId}
 use Rattle.rows.specs.declared.{Row.Row}
 use Rattle.recovery.specs.Recover.{recover_of}
 use Rattle.recovery.specs.RecoveryReply.{recovery_reply_of}
 use Rattle.recovery.specs.Reports.{ids_of}
-use Rattle.recovery.specs.declared.{BeginAnswer.BeginAnswer, Begun.Begun, RecoveryAnswer.RecoveryAnswer, Replied.Replied}
+use Rattle.recovery.specs.declared.{AbortReport.AbortReport, Begun.Begun, Replied.Replied}
 use Rattle.calls.specs.Calls.{Beginning, Submit, SubmitPlan, Poll, Recover, Replying, ToSubmit, ToPoll, ToRecovery, Call, Open, Place, Move, Begin, Reply, Change, Read}
 use Rattle.calls.specs.Step.{World, world_store}
+use Rattle.session.specs.declared.{Recovery.Recovery}
 
 -- how many words the lists have at most: two lengths, and 128 ids
 abbrev pub list_size : ℕ
@@ -27,9 +28,9 @@ abbrev pub id_list : List RequestId → List ℕ
 id_list ids = length ids ∷ id_words ids
 
 -- the tokens of the affected requests
-abbrev pub begun_list : BeginAnswer → ℕ → List ℕ → List ℕ
-begun_list (BeginAnswer.Refused r) n tokens = []
-begun_list (BeginAnswer.Recover x) n tokens = token_list (take n tokens)
+abbrev pub begun_list : Result Recovery Refusal → ℕ → List ℕ → List ℕ
+begun_list (Err r) n tokens = []
+begun_list (Ok x) n tokens = token_list (take n tokens)
 
 unfoldable pub begun_lists : Begun → List ℕ
 begun_lists o = begun_list o.answer o.count o.tokens
@@ -38,9 +39,9 @@ begun_lists o = begun_list o.answer o.count o.tokens
 abbrev pub part_lists : List Row → List ℕ → ℕ → ℕ → List ℕ
 part_lists rows places n m = id_list (ids_of rows (take n places)) ++ id_list (ids_of rows (take m (drop n places)))
 
-abbrev pub recovered_by : RecoveryAnswer → List Row → List ℕ → List ℕ
-recovered_by (RecoveryAnswer.Refused r) rows places = []
-recovered_by (RecoveryAnswer.Report x) rows places = part_lists rows places x.completed x.aborted
+abbrev pub recovered_by : Result AbortReport Refusal → List Row → List ℕ → List ℕ
+recovered_by (Err r) rows places = []
+recovered_by (Ok x) rows places = part_lists rows places x.completed x.aborted
 
 unfoldable pub recovered_lists : Replied → List Row → List ℕ
 recovered_lists o rows = recovered_by o.answer rows o.places

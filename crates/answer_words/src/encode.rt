@@ -7,7 +7,7 @@ ghost use Rattle.answer_words.specs.Encode.{refusal_words, begun_words, plan_wor
 
 use calls::Answer;
 use checks::plan::ValidatedControlPlan;
-use models::{OptionError, Refusal, RequestMetadata, RequestReport, SetupPacket, codes};
+use models::{OperationError, Refusal, RequestMetadata, RequestReport, SetupPacket};
 use recovery::AbortReport;
 use rows::codec;
 use session::Recovery;
@@ -29,7 +29,7 @@ fn refusal_words(r: Refusal) -> [u64; 6]
     [
         0,
         r.number as u64,
-        codes::category_word(category),
+        u64::from(category),
         error.message as u64,
         words::option_i32_word(os_code),
         words::option_u32_word(code),
@@ -49,8 +49,8 @@ fn metadata_words(m: RequestMetadata) -> [u64; 13]
         m.device.generation,
         m.device.slot as u64,
         m.endpoint as u64,
-        codes::transfer_word(transfer_type),
-        codes::direction_word(direction),
+        u64::from(transfer_type),
+        u64::from(direction),
         m.requested_length,
         p.present,
         p.request_type,
@@ -69,9 +69,9 @@ fn begun_words(x: Submission) -> [u64; 19]
     let head = [2, x.id.session, x.id.generation, x.id.sequence, x.row];
     let tail = [words::flag_word(x.has_packets)];
     let mut w = [0; 19];
-    slices::copy_words(&mut w, 0, &head, 5);
-    slices::copy_words(&mut w, 5, &m, 13);
-    slices::copy_words(&mut w, 18, &tail, 1);
+    slices::copy(&mut w, 0, &head, 5);
+    slices::copy(&mut w, 5, &m, 13);
+    slices::copy(&mut w, 18, &tail, 1);
     w
 }
 
@@ -101,9 +101,9 @@ fn stage_words(plan: ValidatedControlPlan) -> [u64; 4]
     let profile = plan.profile;
     [
         words::flag_word(plan.has_data),
-        codes::direction_word(data_direction),
-        codes::direction_word(status_direction),
-        codes::profile_word(profile),
+        u64::from(data_direction),
+        u64::from(status_direction),
+        u64::from(profile),
     ]
 }
 
@@ -119,10 +119,10 @@ fn plan_words(x: PlanSubmission) -> [u64; 30]
     let head = [3, x.id.session, x.id.generation, x.id.sequence, x.row];
     let stages = stage_words(plan);
     let mut w = [0; 30];
-    slices::copy_words(&mut w, 0, &head, 5);
-    slices::copy_words(&mut w, 5, &m, 13);
-    slices::copy_words(&mut w, 18, &stages, 4);
-    slices::copy_words(&mut w, 22, &b, 8);
+    slices::copy(&mut w, 0, &head, 5);
+    slices::copy(&mut w, 5, &m, 13);
+    slices::copy(&mut w, 18, &stages, 4);
+    slices::copy(&mut w, 22, &b, 8);
     w
 }
 
@@ -140,10 +140,10 @@ pub fn report_words(x: RequestReport) -> [u64; 26]
         words::flag_word(x.timed_out),
     ];
     let mut w = [0; 26];
-    slices::copy_words(&mut w, 0, &head, 4);
-    slices::copy_words(&mut w, 4, &m, 13);
-    slices::copy_words(&mut w, 17, &state_words, 7);
-    slices::copy_words(&mut w, 24, &flags, 2);
+    slices::copy(&mut w, 0, &head, 4);
+    slices::copy(&mut w, 4, &m, 13);
+    slices::copy(&mut w, 17, &state_words, 7);
+    slices::copy(&mut w, 24, &flags, 2);
     w
 }
 
@@ -164,18 +164,18 @@ fn recovering_words(x: Recovery) -> [u64; 9]
     ]
 }
 
-fn option_error_words(error: OptionError) -> [u64; 5]
+fn option_error_words(error: Option<OperationError>) -> [u64; 5]
     ensures { result ≡ option_error_words error }
 {
     match error {
-        OptionError::None => [0, 0, 0, 0, 0],
-        OptionError::Some(e) => {
+        None => [0, 0, 0, 0, 0],
+        Some(e) => {
             let category = e.category;
             let os_code = e.os_code;
             let code = e.completion_code;
             [
                 1,
-                codes::category_word(category),
+                u64::from(category),
                 e.message as u64,
                 words::option_i32_word(os_code),
                 words::option_u32_word(code),
@@ -220,8 +220,8 @@ pub fn put(out: &mut [u64], w: &[u64])
     if n > WORDS {
         return;
     }
-    slices::clear_words(out, 0, 32);
-    slices::copy_words(out, 0, w, n);
+    slices::fill(out, 0, 32, 0);
+    slices::copy(out, 0, w, n);
 }
 
 // A report by its values, put behind its tag.
@@ -236,7 +236,7 @@ pub fn put_report(out: &mut [u64], values: &[u64])
         return;
     }
     put(out, &[4]);
-    slices::copy_words(out, 1, values, n);
+    slices::copy(out, 1, values, n);
 }
 
 // Writes the answer; a slice of fewer than 32 words stays as it is.

@@ -7,7 +7,7 @@ ghost use Rattle.recovery.specs.Reports.{ids_of, many_in};
 ghost use Rattle.answer_words.specs.Lists.{token_list, id_list, begun_lists, part_lists, recovered_lists, put_lists};
 
 use models::RequestId;
-use recovery::{BeginAnswer, Begun, RecoveryAnswer, Replied};
+use recovery::{Begun, Replied};
 use rows::columns;
 use words::slices;
 
@@ -17,7 +17,7 @@ pub const WORDS: usize = 386;
 fn up_to_128(n: u64) -> usize
     ensures { result ≡ min n 128 }
 {
-    if n < 128 { n as usize } else { 128 }
+    n.min(128) as usize
 }
 
 fn put_tokens(lists: &mut [u64], tokens: [u64; 128], count: u64)
@@ -27,8 +27,8 @@ fn put_tokens(lists: &mut [u64], tokens: [u64; 128], count: u64)
     if lists.len() <= n {
         return;
     }
-    slices::copy_words(lists, 0, &[n as u64], 1);
-    slices::copy_words(lists, 1, &tokens, n);
+    slices::copy(lists, 0, &[n as u64], 1);
+    slices::copy(lists, 1, &tokens, n);
 }
 
 // Three words.
@@ -36,7 +36,7 @@ fn put_id(lists: &mut [u64], at: usize, id: RequestId)
     requires { at + 3 ≤ length lists.old }
     ensures { lists.new ≡ splice at (request_id_words id) lists.old }
 {
-    slices::copy_words(lists, at, &[id.session, id.generation, id.sequence], 3);
+    slices::copy(lists, at, &[id.session, id.generation, id.sequence], 3);
 }
 
 // The ids of the rows at the places, from `at` on.
@@ -46,12 +46,10 @@ fn put_ids(lists: &mut [u64], at: usize, rows: &[u64], places: &[usize])
         ≡ splice at (id_list (ids_of (read_rows rows.now) places.now)) lists.old }
 {
     let n = places.len();
-    slices::copy_words(lists, at, &[n as u64], 1);
-    let mut k = 0;
-    while k < n {
+    slices::copy(lists, at, &[n as u64], 1);
+    for k in 0..n {
         let id = columns::id_in(rows, places[k]);
         put_id(lists, at + 1 + k * 3, id);
-        k += 1;
     }
 }
 
@@ -74,11 +72,8 @@ fn put_parts(lists: &mut [u64], rows: &[u64], places: [usize; 128], n: usize, m:
 pub fn write_begun(lists: &mut [u64], begun: Begun)
     ensures { lists.new ≡ put_lists (begun_lists begun) lists.old }
 {
-    let answer = begun.answer;
-    let tokens = begun.tokens;
-    match answer {
-        BeginAnswer::Refused(_) => {}
-        BeginAnswer::Recover(_) => put_tokens(lists, tokens, begun.count),
+    if begun.answer.is_ok() {
+        put_tokens(lists, begun.tokens, begun.count);
     }
 }
 
@@ -88,16 +83,13 @@ pub fn write_replied(lists: &mut [u64], rows: &[u64], replied: Replied)
     ensures { lists.new
         ≡ put_lists (recovered_lists replied (read_rows rows.now)) lists.old }
 {
-    let answer = replied.answer;
-    let places = replied.places;
-    match answer {
-        RecoveryAnswer::Refused(_) => {}
-        RecoveryAnswer::Report(report) => put_parts(
+    if let Ok(report) = replied.answer {
+        put_parts(
             lists,
             rows,
-            places,
+            replied.places,
             report.completed as usize,
             report.aborted as usize,
-        ),
+        );
     }
 }

@@ -1,4 +1,5 @@
 -- A paper's calls are a list of calls from an opening, so that demand 3's claim holds of it. Assumes nothing.
+use Rattle.std.specs.Prelude.{None, Result}
 use Prim.Native.Nat.{ℕ, zero, suc}
 use mathlib.Core.Bool.{not}
 use mathlib.Core.List.{List, [], ◌∷◌, ◌++◌, append_assoc}
@@ -6,11 +7,9 @@ use mathlib.Core.Path.{◌≡◌, refl, sym, ap, ◌∙◌}
 use lib.ListN.{replicate}
 use Rattle.chain.specs.After.{After}
 use Rattle.chain.proofs.Chain.{passes, if_all}
-use Rattle.words.specs.declared.{OptionU64.OptionU64}
 use Rattle.rows.specs.declared.{Row.Row}
 use Rattle.session.specs.Lent.{Lent}
 use Rattle.session.specs.Lifecycle.{open_of}
-use Rattle.session.specs.declared.{lifecycle.Opened.Opened}
 use Rattle.calls.specs.Calls.{Call, Open}
 use Rattle.calls.specs.Step.{World, world, opens, step_of, made_on, no_session}
 use Rattle.calls.specs.declared.{Answer.Answer}
@@ -26,6 +25,8 @@ use Rattle.paper_session.specs.Start.{paper_opening, ready_calls, slot_calls, sl
 use Rattle.paper_session.proofs.Started.{blank_fits}
 use Rattle.marking.specs.Marking.{event_call, reply_calls, event_calls}
 use Rattle.board.specs.Board.{events_calls, paper_calls, opened, paper_run}
+use Rattle.models.specs.declared.{Refusal.Refusal}
+use Rattle.session.specs.declared.{Session.Session}
 
 -- ---- no call after the opening hands over a session number
 
@@ -35,7 +36,7 @@ slots_unnumbered zero = tt
 slots_unnumbered (suc n) = unnumbered_append (slots_calls n) (slot_calls n) (slots_unnumbered n) (refl, (refl, tt))
 
 abbrev Bare : Call → Type 0
-Bare c = number_of c ≡ OptionU64.None
+Bare c = number_of c ≡ None
 
 call_unnumbered : (e : PaperEvent) → Bare (event_call e)
 unfolding event_call
@@ -74,7 +75,7 @@ paper_unnumbered es =
 opening_passes : (step_of (Open paper_opening) (world no_session blank_lent)).result.answer ≡ Answer.Pass
 unfolding step_of open_of
 opening_passes =
-    ap (λ (z : After Opened Lent). (opens z (world no_session blank_lent)).result.answer) (sym (passes (After Opened Lent) _ _ _ _ (ap not blank_fits) refl))
+    ap (λ (z : After (Result Session Refusal) Lent). (opens z (world no_session blank_lent)).result.answer) (sym (passes (After (Result Session Refusal) Lent) _ _ _ _ (ap not blank_fits) refl))
 
 module _ (es : List PaperEvent) where
   follows : Follows (paper_run es)

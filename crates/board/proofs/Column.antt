@@ -1,4 +1,5 @@
 -- The board's sentence, of every paper. Assumes nothing.
+use Rattle.std.specs.Prelude.{Option, Some, None, Result, Ok, Err}
 use Prim.Native.Nat.{ℕ, suc, ◌<◌}
 use mathlib.Core.Bool.{true, false, cond}
 use mathlib.Core.List.{List, [], ◌∷◌, ◌++◌}
@@ -7,10 +8,9 @@ use native.Mathlib.Omega.{arith}
 use lib.ListN.{length}
 use Rattle.chain.specs.Chain.{◌if◌else◌}
 use Rattle.chain.specs.Lists.{count, find, any_in, found_in}
-use Rattle.chain.specs.declared.{Found.Found}
 use Rattle.chain.proofs.Chain.{caseB, if_all}
 use Rattle.models.specs.Refusals.{refusal_of}
-use Rattle.models.specs.declared.{Refusal.Refusal, RequestId.RequestId, RequestState.RequestState}
+use Rattle.models.specs.declared.{Refusal.Refusal, RequestId.RequestId, RequestReport.RequestReport, RequestState.RequestState}
 use Rattle.models.specs.declared.RequestState.TheVariants.{Pending, Completed, Failed, Aborted}
 use Rattle.rows.specs.Table.{row_in}
 use Rattle.rows.specs.Store.{Store}
@@ -19,7 +19,6 @@ use Rattle.ledger.specs.Search.{is_at}
 use Rattle.session.specs.Lent.{store_fits}
 use Rattle.session.specs.declared.{Session.Session}
 use Rattle.reports.specs.Status.{is_submitting, shown_at, status_by, status_of, held_count_of, tally_of}
-use Rattle.reports.specs.declared.{HeldAnswer.HeldAnswer, OptionId.OptionId, ReportAnswer.ReportAnswer}
 use Rattle.calls.specs.Answers.{of_tally}
 use Rattle.calls.specs.Step.{World, world, world_store, read_of, step_of, made_on}
 use Rattle.calls.specs.declared.{Answer.Answer}
@@ -40,9 +39,9 @@ use Rattle.board.proofs.Calls.{paper_claim, paper_fits, paper_made, made_more}
 use Rattle.board.proofs.Quiet.{FreeIn, paper_free}
 
 -- ---- the held count is the claim's
-number_told : (h : HeldAnswer) (n : ℕ) → of_tally (tally_of h) ≡ Answer.Number n → held_number h ≡ n
-number_told (HeldAnswer.Refused r) n e = let z : ◌≡◌ {A = ℕ} 0 1 = cc in absurd (omega arith)
-number_told (HeldAnswer.Count m) n e = cc
+number_told : (h : Result ℕ Refusal) (n : ℕ) → of_tally (tally_of h) ≡ Answer.Number n → held_number h ≡ n
+number_told (Err r) n e = let z : ◌≡◌ {A = ℕ} 0 1 = cc in absurd (omega arith)
+number_told (Ok m) n e = cc
 
 held_is : (w : World) (es : List Event) → Claim w es → held_in (end_of w es).session (world_store (end_of w es)) ≡ count is_open (entries_after w es)
 unfolding step_of read_of
@@ -57,13 +56,13 @@ letter_some Aborted e = absurd (omega arith)
 
 module _ (id : RequestId) (s : Session) (store : Store) where
   -- what an answer shows
-  abbrev Shown : ReportAnswer → Type 0
+  abbrev Shown : Result RequestReport Refusal → Type 0
   Shown a = (letter_by a ≡ no_letter → ⊥) → RowShown id (letter_by a) store.rows
 
-  abbrev FoundShown : Found → Type 0
+  abbrev FoundShown : Option ℕ → Type 0
   FoundShown f = Shown (status_by f store.rows)
 
-  refused_shown : (r : Refusal) → Shown (ReportAnswer.Refused r)
+  refused_shown : (r : Refusal) → Shown (Err r)
   refused_shown r other = absurd (other refl)
 
   status_shown : Shown (status_of id s store)
@@ -81,13 +80,13 @@ module _ (id : RequestId) (s : Session) (store : Store) where
       (λ some. absurd (letter_some (row_in store.rows (find (is_at id) store.rows)).state (rw (fits, free, some) at dash)))
       (λ none. none)
 
-letter_shown : (o : OptionId) (s : Session) (store : Store) → (letter_of o s store ≡ no_letter → ⊥)
-    → (id : RequestId) × (o ≡ OptionId.Some id) × RowShown id (letter_of o s store) store.rows
-letter_shown OptionId.None s store other = absurd (other refl)
-letter_shown (OptionId.Some id) s store other = (id, refl, status_shown id s store other)
+letter_shown : (o : Option RequestId) (s : Session) (store : Store) → (letter_of o s store ≡ no_letter → ⊥)
+    → (id : RequestId) × (o ≡ Some id) × RowShown id (letter_of o s store) store.rows
+letter_shown None s store other = absurd (other refl)
+letter_shown (Some id) s store other = (id, refl, status_shown id s store other)
 
-letter_dash : (o : OptionId) (s : Session) (store : Store) → store_fits s.size store ≡ true → ((id : RequestId) → is_submitting s.in_flight id ≡ false)
-    → letter_of o s store ≡ no_letter → (id : RequestId) → o ≡ OptionId.Some id → any_in (is_at id) store.rows ≡ false
+letter_dash : (o : Option RequestId) (s : Session) (store : Store) → store_fits s.size store ≡ true → ((id : RequestId) → is_submitting s.in_flight id ≡ false)
+    → letter_of o s store ≡ no_letter → (id : RequestId) → o ≡ Some id → any_in (is_at id) store.rows ≡ false
 letter_dash o s store fits free dash id e = status_dash id s store fits (free id) (rw e at dash)
 
 -- ---- a line is that of its event, after the calls of those before it

@@ -1,4 +1,5 @@
 -- Between events no submission waits for its reply: by the journal, which holds what waits. Assumes nothing.
+use Rattle.std.specs.Prelude.{Result, Ok, Err, Option, Some, None}
 use Prim.Native.Nat.{ℕ}
 use mathlib.Core.Bool.{Bool, true, false, cond}
 use mathlib.Core.List.{List, [], ◌∷◌, ◌++◌, append-nil, append_assoc}
@@ -11,7 +12,7 @@ use Rattle.chain.specs.Chain.{◌if◌else◌}
 use Rattle.chain.specs.Lists.{count, any_in, found_in}
 use Rattle.chain.proofs.Chain.{if_all}
 use Rattle.chain.proofs.Lists.{count_pos}
-use Rattle.models.specs.declared.{RequestId.RequestId}
+use Rattle.models.specs.declared.{BackendCompletion.BackendCompletion, OperationError.OperationError, Refusal.Refusal, RequestId.RequestId, RequestReport.RequestReport}
 use Rattle.models.specs.declared.RequestState.TheVariants.{Pending}
 use Rattle.rows.specs.Table.{empty_row, row_in}
 use Rattle.rows.specs.Store.{Store}
@@ -20,19 +21,15 @@ use Rattle.rules.specs.Rules.{accepted, moved, change_row}
 use Rattle.ledger.specs.Apply.{apply_by, changed_at, apply_at, apply_of}
 use Rattle.ledger.specs.Search.{is_at}
 use Rattle.session.specs.Lent.{Lent, store_fits}
-use Rattle.session.specs.declared.{InFlight.InFlight, Session.Session}
+use Rattle.session.specs.declared.{InFlight.InFlight, Recovery.Recovery, Session.Session}
 use Rattle.session.specs.declared.RecoveryKind.TheVariants.{Abort}
 use Rattle.reports.specs.Status.{is_submitting}
-use Rattle.reports.specs.declared.{ReportAnswer.ReportAnswer}
 use Rattle.polls.specs.Poll.{poll_of}
-use Rattle.polls.specs.declared.{PollAnswer.PollAnswer, PollReply.PollReply}
 use Rattle.submissions.specs.Submit.{submit_of}
 use Rattle.submissions.specs.SubmitReply.{accepted_by, submit_reply_by, submit_reply_in, submit_reply_of}
-use Rattle.submissions.specs.declared.{Submission.Submission, SubmitAnswer.SubmitAnswer}
-use Rattle.submissions.specs.declared.SubmitReply.TheVariants.{Token}
+use Rattle.submissions.specs.declared.{Submission.Submission}
 use Rattle.recovery.specs.Recover.{recover_of}
 use Rattle.recovery.specs.RecoveryReply.{ReplyLists, reply_lists}
-use Rattle.recovery.specs.declared.{BeginAnswer.BeginAnswer, RecoveryReply.RecoveryReply}
 use Rattle.calls.specs.Answers.{of_submit, of_poll, of_report, of_begin, is_asked, is_recovering, begun_id}
 use Rattle.calls.specs.Calls.{Call, Begin, Submit, Poll, Recover, Reply, ToPoll, ToRecovery, Changing, Change, Cancel, Timeout, Reclaim}
 use Rattle.calls.specs.Step.{World, world_store, change_by, begun_of, replied_of, step_of, next, made_after, made_on}
@@ -52,6 +49,8 @@ use Rattle.paper_session.proofs.Started.{start_placed, blank_fits}
 use Rattle.marking.specs.Marking.{event_request, event_id, event_call, event_reply, event_bytes, ready_reply, affected_tokens, reply_calls, event_calls}
 use Rattle.board.specs.Board.{opened, paper_run}
 use Rattle.board.proofs.Calls.{paper_sound, paper_fits, paper_holds, paper_made, made_more}
+use Rattle.polls.specs.declared.{PollAnswer.PollAnswer}
+use Rattle.recovery.specs.declared.{BackendAbort.BackendAbort}
 
 abbrev Free : InFlight → Type 0
 Free f = (id : RequestId) → is_submitting f id ≡ false
@@ -73,11 +72,11 @@ module _ (s : Session) (store : Store) (sound : Sound s store) (fits : store_fit
       any_count (is_at x) store.rows empty_row
       ∙ lt-ltb 0 (count (is_at x) store.rows) (count_pos (is_at x) store.rows k.index empty_row k.below hit)
 
-  token_by : (f : InFlight) → f ≡ InFlight.Submission x → Free (submit_reply_in f (Token t) s store).result.session.in_flight
+  token_by : (f : InFlight) → f ≡ InFlight.Submission x → Free (submit_reply_in f (Ok t) s store).result.session.in_flight
   unfolding submit_reply_in submit_reply_by apply_of apply_at changed_at apply_by change_row accepted moved accepted_by found_in ◌if◌else◌
   token_by f e = rw (e, fits, some_row) (λ id. refl)
 
-  token_ends : Free (submit_reply_of (Token t) s store).result.session.in_flight
+  token_ends : Free (submit_reply_of (Ok t) s store).result.session.in_flight
   unfolding submit_reply_of
   token_ends = token_by s.in_flight waits
 
@@ -86,10 +85,10 @@ cond_free : (b : Bool) (p q : Journal) → Free p.waiting → Free q.waiting →
 cond_free true p q f g = f
 cond_free false p q f g = g
 
-polled_free : (r : PollReply) (given : ℕ) (j : Journal) → Free (polled_by r given j).waiting
-polled_free PollReply.Nothing given j id = refl
-polled_free (PollReply.Error x) given j id = refl
-polled_free (PollReply.Completion c) given j id = refl
+polled_free : (r : Result (Option BackendCompletion) OperationError) (given : ℕ) (j : Journal) → Free (polled_by r given j).waiting
+polled_free (Ok None) given j id = refl
+polled_free (Err x) given j id = refl
+polled_free (Ok (Some c)) given j id = refl
 
 recovered_free : (a : Answer) (l : ReplyLists) (j : Journal) → Free j.waiting → Free (recovered_journal a l j).waiting
 recovered_free a l j f =
@@ -117,13 +116,13 @@ module _ (w : World) (sound : SoundIn w) (j : Journal) (seen : List ℕ) (k : Ho
     unfolding journal_step
     change_free id c = by_journal (Change id c) refl refl kept_free
 
-    poll_reply_free : (reply : PollReply) (bytes : List ℕ) → FreeIn (next (step_of (Reply (ToPoll reply bytes)) w))
+    poll_reply_free : (reply : Result (Option BackendCompletion) OperationError) (bytes : List ℕ) → FreeIn (next (step_of (Reply (ToPoll reply bytes)) w))
     unfolding journal_step
     poll_reply_free reply bytes =
         by_journal (Reply (ToPoll reply bytes)) refl refl
         (cond_free (ends_by (step_of (Reply (ToPoll reply bytes)) w).result.answer) (polled_by reply (length bytes) j) j (polled_free reply (length bytes) j) kept_free)
 
-    recovery_reply_free : (reply : RecoveryReply) (l : ReplyLists) → FreeIn (next (step_of (Reply (ToRecovery reply l)) w))
+    recovery_reply_free : (reply : Result BackendAbort OperationError) (l : ReplyLists) → FreeIn (next (step_of (Reply (ToRecovery reply l)) w))
     unfolding journal_step
     recovery_reply_free reply l =
         by_journal (Reply (ToRecovery reply l)) refl refl (recovered_free (step_of (Reply (ToRecovery reply l)) w).result.answer l j kept_free)
@@ -148,18 +147,18 @@ module _ (w : World) (sound : SoundIn w) (j : Journal) (seen : List ℕ) (k : Ho
     replies_free e rows (Answer.Recovered x) n o is = subst FreeIn (sym is) free
 
 -- ---- after an event
-poll_other : (y : PollAnswer) (x : Submission) → of_poll y ≡ Answer.Begun x → ⊥
-poll_other (PollAnswer.Refused r) x e = let z : ◌≡◌ {A = ℕ} 0 1 = cc in absurd (omega arith)
-poll_other (PollAnswer.Report r) x e = let z : ◌≡◌ {A = ℕ} 0 1 = cc in absurd (omega arith)
-poll_other (PollAnswer.Asked t) x e = let z : ◌≡◌ {A = ℕ} 0 1 = cc in absurd (omega arith)
+poll_other : (y : Result PollAnswer Refusal) (x : Submission) → of_poll y ≡ Answer.Begun x → ⊥
+poll_other (Err r) x e = let z : ◌≡◌ {A = ℕ} 0 1 = cc in absurd (omega arith)
+poll_other (Ok (PollAnswer.Report r)) x e = let z : ◌≡◌ {A = ℕ} 0 1 = cc in absurd (omega arith)
+poll_other (Ok (PollAnswer.Asked t)) x e = let z : ◌≡◌ {A = ℕ} 0 1 = cc in absurd (omega arith)
 
-report_other : (y : ReportAnswer) (x : Submission) → of_report y ≡ Answer.Begun x → ⊥
-report_other (ReportAnswer.Refused r) x e = let z : ◌≡◌ {A = ℕ} 0 1 = cc in absurd (omega arith)
-report_other (ReportAnswer.Report r) x e = let z : ◌≡◌ {A = ℕ} 0 1 = cc in absurd (omega arith)
+report_other : (y : Result RequestReport Refusal) (x : Submission) → of_report y ≡ Answer.Begun x → ⊥
+report_other (Err r) x e = let z : ◌≡◌ {A = ℕ} 0 1 = cc in absurd (omega arith)
+report_other (Ok r) x e = let z : ◌≡◌ {A = ℕ} 0 1 = cc in absurd (omega arith)
 
-begin_other : (y : BeginAnswer) (x : Submission) → of_begin y ≡ Answer.Begun x → ⊥
-begin_other (BeginAnswer.Refused r) x e = let z : ◌≡◌ {A = ℕ} 0 1 = cc in absurd (omega arith)
-begin_other (BeginAnswer.Recover r) x e = let z : ◌≡◌ {A = ℕ} 0 1 = cc in absurd (omega arith)
+begin_other : (y : Result Recovery Refusal) (x : Submission) → of_begin y ≡ Answer.Begun x → ⊥
+begin_other (Err r) x e = let z : ◌≡◌ {A = ℕ} 0 1 = cc in absurd (omega arith)
+begin_other (Ok r) x e = let z : ◌≡◌ {A = ℕ} 0 1 = cc in absurd (omega arith)
 
 module _ (e : PaperEvent) (w : World) (sound : SoundIn w) (fitted : FittedIn w) (j : Journal) (seen : List ℕ) (k : Holds w j seen) (free : FreeIn w) where
   -- a first call with the reply to what it opened
@@ -193,14 +192,14 @@ module _ (e : PaperEvent) (w : World) (sound : SoundIn w) (fitted : FittedIn w) 
   abbrev left : World
   left = next (step_of first w)
 
-  abbrev waits_by : SubmitAnswer → InFlight
+  abbrev waits_by : Result Submission Refusal → InFlight
   waits_by y = (begun_by (begun_id (of_submit y)) (event_request e).spec.device (event_request e).spec.endpoint (event_request e).spec.length j).waiting
 
-  submitted : (y : SubmitAnswer) → y ≡ (submit_of [] (event_request e) w.session w.lent).result.answer
+  submitted : (y : Result Submission Refusal) → y ≡ (submit_of [] (event_request e) w.session w.lent).result.answer
       → FreeIn (next (made_after (reply_calls (of_submit y) e (world_store w).rows) (step_of first w)))
   unfolding step_of begun_of replied_of reply_calls journal_step
-  submitted (SubmitAnswer.Refused r) is = by_journal w sound j seen k first refl refl (subst (λ (y : SubmitAnswer). Free (waits_by y)) is (subst Free (sym k.agree) free))
-  submitted (SubmitAnswer.Begun x) is =
+  submitted (Err r) is = by_journal w sound j seen k first refl refl (subst (λ (y : Result Submission Refusal). Free (waits_by y)) is (subst Free (sym k.agree) free))
+  submitted (Ok x) is =
       let leads = left_leads own first w sound refl in
       let waits : left.session.in_flight ≡ InFlight.Submission x.id = sym (step_kept w sound j seen k first refl refl).agree ∙ ap waits_by (sym is) in
       token_ends left.session (world_store left) leads.sound (leads.fitted fitted).fits x.id waits x.id.sequence

@@ -1,13 +1,12 @@
 -- The board's column. For every paper and each line of its key: the held count is the number of the book's lines without a release, the book being
 -- kept by the history of the calls of the events so far; a letter other than `-` is the state of the row that has the event's id; and `-` says that no
 -- row has it. Each event has its line, up to the first that is damaged. Assumes nothing.
-use Rattle.std.specs.Prelude.{ℕ, ◌<◌, true, false, List, [], ◌∷◌, ◌++◌, map, ◌≡◌, length}
+use Rattle.std.specs.Prelude.{ℕ, ◌<◌, true, false, List, [], ◌∷◌, ◌++◌, map, ◌≡◌, length, Option, Some}
 use Rattle.chain.specs.Lists.{count, any_in}
 use Rattle.models.specs.declared.{RequestId.RequestId}
 use Rattle.rows.specs.Table.{row_in}
 use Rattle.rows.specs.declared.{Row.Row}
 use Rattle.ledger.specs.Search.{is_at}
-use Rattle.reports.specs.declared.{OptionId.OptionId}
 use Rattle.calls.specs.Calls.{Call, Open}
 use Rattle.calls.specs.Step.{World, world, step_of, next, made_on, no_session}
 use Rattle.runs.specs.Run.{Event, calls, end_of}
@@ -50,7 +49,7 @@ abbrev pub rows_of : List PaperEvent → List Row
 rows_of es = rows_after opened (paper_run es)
 
 -- the id whose state is shown of event e, which comes after the others: a submission's new id, any other's own
-abbrev pub id_of : List PaperEvent → PaperEvent → OptionId
+abbrev pub id_of : List PaperEvent → PaperEvent → Option RequestId
 id_of before e = (event_marked e (end_of opened (paper_run before))).result.id
 
 -- ---- the sentence
@@ -65,9 +64,9 @@ pub record RowShown (id : RequestId) (letter : ℕ) (rows : List Row) : Type 0 w
 -- the line of event e, which comes after the others
 pub record LineSays (before : List PaperEvent) (e : PaperEvent) (line : Line) : Type 0 where
   pub held : line.held ≡ count is_open (book_of (before ++ (e ∷ [])))
-  pub letter : (line.letter ≡ no_letter → ⊥) → (id : RequestId) × (id_of before e ≡ OptionId.Some id) × RowShown id line.letter (rows_of (before ++ (e ∷ [])))
+  pub letter : (line.letter ≡ no_letter → ⊥) → (id : RequestId) × (id_of before e ≡ Some id) × RowShown id line.letter (rows_of (before ++ (e ∷ [])))
   -- no row has the id
-  pub dash : line.letter ≡ no_letter → (id : RequestId) → id_of before e ≡ OptionId.Some id → any_in (is_at id) (rows_of (before ++ (e ∷ []))) ≡ false
+  pub dash : line.letter ≡ no_letter → (id : RequestId) → id_of before e ≡ Some id → any_in (is_at id) (rows_of (before ++ (e ∷ []))) ≡ false
 
 pub record BoardSays (paper : List ℕ) : Type 0 where
   -- each line of the key, with the event that stands in the paper where it stands in the key

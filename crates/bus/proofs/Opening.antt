@@ -1,4 +1,5 @@
 -- The bus at opening: the ports' words written by a loop, every other word cleared. Assumes nothing.
+use Rattle.std.specs.Prelude.{None}
 use Prim.Native.Nat.{ℕ, zero, suc, ◌+◌, ◌-◌, ◌*◌, ◌<◌, ◌≤◌}
 use mathlib.Core.Path.{◌≡◌, refl, sym, ap, ◌∙◌}
 use mathlib.Core.Bool.{false}
@@ -10,7 +11,6 @@ use lib.ListN.{length, get_or, set, take, drop, replicate, length-append, length
 use lib.Seq.{take_at, drop_at, drop-drop, get_or-append-add, length-take-le}
 use Rattle.words.specs.Records.{splice, part, chunks}
 use Rattle.words.proofs.Records.{splice-set, tab_all, chunks_all, zero_at}
-use Rattle.models.specs.declared.{OptionDevice.OptionDevice}
 use Rattle.bus.specs.Layout.{devices_at, lists_at, marks_at, bus_words, read_port, read_device, read_endpoints, read_mark}
 use Rattle.bus.specs.Tables.{Bus, bus_of, new_port, new_ports, cleared}
 use Rattle.bus.proofs.Tables.{store_copy}
@@ -60,7 +60,7 @@ abbrev opened_bus : List ℕ → Bus
 opened_bus l = record {
   words = l;
   ports = replicate 255 new_port;
-  devices = replicate 256 OptionDevice.None;
+  devices = replicate 256 None;
   lists = replicate 256 [];
   marks = replicate 256 false;
 }
@@ -78,7 +78,7 @@ module _ (p z : List ℕ) (np : length p ≡ devices_at) (nz : length z ≡ 1024
   unfolding bus_of chunks
   opened_ports = tab_all (λ (j : ℕ). read_port (part (0 + j * 2) 2 (p ++ z))) 255 new_port (λ j h. let e : 0 + j * 2 ≡ j * 2 = omega arith in rw (e, ports j h))
 
-  opened_devices : (bus_of (p ++ z)).devices ≡ replicate 256 OptionDevice.None
+  opened_devices : (bus_of (p ++ z)).devices ≡ replicate 256 None
   unfolding bus_of read_device
   opened_devices = let n = whole in chunks_all devices_at 8 read_device 256 (p ++ z) (omega arith) (λ k lo hi. past k lo)
 

@@ -1,4 +1,5 @@
 -- The four tables of the bus: what a row reads, and one row put, which keeps the other tables. Assumes nothing.
+use Rattle.std.specs.Prelude.{Option, Some, None}
 use Prim.Native.Nat.{ℕ, suc, ◌+◌, ◌*◌, ◌%◌, ◌<◌, ◌≤◌}
 use mathlib.Core.Path.{◌≡◌, refl, sym, ap, ◌∙◌}
 use mathlib.Core.Bool.{Bool, false}
@@ -11,10 +12,9 @@ use lib.Seq.{take_all, take_at, take-take, take-suc-set, drop-set-lt, drop-drop,
 use borrow.Author.Tests.{ne_eqb}
 use Rattle.words.specs.Words.{read_flag, flag_word, read_option_u32, option_u32_word}
 use Rattle.words.specs.Records.{splice, part, chunks}
-use Rattle.words.specs.declared.{OptionU32.OptionU32}
 use Rattle.words.proofs.Records.{part-get_or, part_first, part_length, splice-set, chunks_at, chunks_put, chunks_kept}
 use Rattle.models.specs.Codes.{read_device_state}
-use Rattle.models.specs.declared.{DeviceSnapshot.DeviceSnapshot, DeviceState.DeviceState, OptionDevice.OptionDevice}
+use Rattle.models.specs.declared.{DeviceSnapshot.DeviceSnapshot, DeviceState.DeviceState}
 use Rattle.bus.specs.Layout.{devices_at, lists_at, marks_at, bus_words, read_port, read_device, device_record, read_endpoints, read_mark}
 use Rattle.bus.specs.Tables.{bus_of, new_port, port_index, port_at, device_at, mark_at, put_port, put_device, put_endpoints, put_mark}
 use Rattle.bus.specs.declared.{PortRow.PortRow}
@@ -38,7 +38,7 @@ module _ (l : List ℕ) (at : ℕ) (p : List ℕ) (sized : length l ≡ bus_word
   keeps_marks h = chunks_kept marks_at 1 read_mark 256 l at p (omega arith) (inl h)
 
 -- a port row
-pub port_is : (l : List ℕ) (number i : ℕ) (r : OptionU32) → i ≡ port_index number → i < 255 → r ≡ read_option_u32 (get_or l (i * 2 + 1) 0)
+pub port_is : (l : List ℕ) (number i : ℕ) (r : Option ℕ) → i ≡ port_index number → i < 255 → r ≡ read_option_u32 (get_or l (i * 2 + 1) 0)
     → ◌≡◌ {A = PortRow} (record { generation = get_or l (i * 2) 0; reading = r }) (port_at (bus_of l) number)
 unfolding bus_of
 port_is l number i r ei h e =
@@ -51,7 +51,7 @@ unfolding bus_of put_port
 put_port_lem l x number i w r sized ei h e f ex =
     let p : List ℕ = r.generation ∷ w ∷ [] in
     let fits : i * 2 + 2 ≤ devices_at = omega arith in
-    let row : read_port p ≡ r = ap (λ (o : OptionU32). record { generation = r.generation; reading = o }) e in
+    let row : read_port p ≡ r = ap (λ (o : Option ℕ). record { generation = r.generation; reading = o }) e in
     let z : 0 + i * 2 ≡ i * 2 = omega arith in
     let rows = rw z at (chunks_put 0 2 read_port 255 l i p h (omega arith) refl) in
     rw (
@@ -72,17 +72,17 @@ module _ (l : List ℕ) (slot : ℕ) (h : slot < 256) where
 
   device_row : device_at (bus_of l) slot ≡ read_device (part at 8 l)
   unfolding bus_of
-  device_row = chunks_at devices_at 8 read_device 256 l slot OptionDevice.None h
+  device_row = chunks_at devices_at 8 read_device 256 l slot None h
 
   word : (k : ℕ) → k < 8 → get_or (part at 8 l) k 0 ≡ get_or l (at + k) 0
   word k g = part-get_or 0 at 8 l k g
 
-  pub device_none : get_or l at 0 ≡ 0 → OptionDevice.None ≡ device_at (bus_of l) slot
+  pub device_none : get_or l at 0 ≡ 0 → None ≡ device_at (bus_of l) slot
   unfolding read_device
   device_none e = rw (device_row, part_first 0 at 8 l (omega arith), e)
 
   pub device_some : (s : DeviceState) → (get_or l at 0 ≡ 0 → ⊥) → s ≡ read_device_state (get_or l (at + 7) 0)
-      → OptionDevice.Some (record {
+      → Some (record {
         id = record { session = get_or l (at + 1) 0; generation = get_or l (at + 2) 0; slot = get_or l (at + 3) 0 % 256 };
         port = record { session = get_or l (at + 4) 0; generation = get_or l (at + 5) 0; number = get_or l (at + 6) 0 % 256 };
         state = s;
@@ -107,7 +107,7 @@ record_length : (d : DeviceSnapshot) → length (device_record d) ≡ 8
 unfolding device_record
 record_length d = refl
 
-pub put_device_lem : (l x w : List ℕ) (d : DeviceSnapshot) → length l ≡ bus_words → d.id.slot < 256 → read_device w ≡ OptionDevice.Some d → w ≡ device_record d
+pub put_device_lem : (l x w : List ℕ) (d : DeviceSnapshot) → length l ≡ bus_words → d.id.slot < 256 → read_device w ≡ Some d → w ≡ device_record d
     → x ≡ splice (devices_at + d.id.slot * 8) (take 8 w) l → bus_of x ≡ put_device (bus_of l) d
 unfolding bus_of put_device
 put_device_lem l x w d sized h e f ex =

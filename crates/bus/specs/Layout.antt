@@ -1,10 +1,10 @@
 -- Encoding of the bus as words: 255 port rows, 256 device rows, 256 endpoint lists and 256 marks, one table after the other.
 -- Decoding is total. Assumes nothing.
-use Rattle.std.specs.Prelude.{ℕ, ◌+◌, ◌*◌, ◌%◌, ◌^◌, Bool, cond, List, [], ◌∷◌, get_or, take, drop, eqb}
+use Rattle.std.specs.Prelude.{ℕ, ◌+◌, ◌*◌, ◌%◌, ◌^◌, Bool, cond, List, [], ◌∷◌, get_or, take, drop, eqb, Option, Some, None}
 use Rattle.words.specs.Words.{read_flag, read_option_u32, option_u32_word}
 use Rattle.models.specs.Codes.{read_device_state, transfer_word}
 use Rattle.models.specs.Values.{snapshot_words}
-use Rattle.models.specs.declared.{DeviceSnapshot.DeviceSnapshot, OptionDevice.OptionDevice, TransferType.TransferType}
+use Rattle.models.specs.declared.{DeviceSnapshot.DeviceSnapshot, TransferType.TransferType}
 use Rattle.bus.specs.declared.{PortRow.PortRow}
 
 -- how many ports and slots there are, and the most endpoints of a slot
@@ -48,10 +48,10 @@ abbrev pub port_record : PortRow → List ℕ
 port_record r = r.generation ∷ option_u32_word r.reading ∷ []
 
 -- a device row: absent, or the device
-unfoldable pub read_device : List ℕ → OptionDevice
+unfoldable pub read_device : List ℕ → Option DeviceSnapshot
 read_device w =
-    cond (eqb (get_or w 0 0) 0) OptionDevice.None
-    (OptionDevice.Some (record {
+    cond (eqb (get_or w 0 0) 0) None
+    (Some (record {
       id = record { session = get_or w 1 0; generation = get_or w 2 0; slot = get_or w 3 0 % 2 ^ 8 };
       port = record { session = get_or w 4 0; generation = get_or w 5 0; number = get_or w 6 0 % 2 ^ 8 };
       state = read_device_state (get_or w 7 0);

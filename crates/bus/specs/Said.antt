@@ -1,17 +1,16 @@
 -- What the checks of a port answer. Assumes nothing.
-use Rattle.std.specs.Prelude.{ℕ, List, [], ◌∷◌}
-use Rattle.models.specs.Said.{Said, says, refused}
+use Rattle.std.specs.Prelude.{ℕ, List, [], ◌∷◌, Result, Ok, Err}
+use Rattle.models.specs.Said.{Said, said_by}
 use Rattle.bus.specs.Layout.{port_record}
-use Rattle.bus.specs.declared.{ports.Observed.Observed, ports.PortChecked.PortChecked}
+use Rattle.models.specs.declared.{Refusal.Refusal}
+use Rattle.bus.specs.declared.{PortRow.PortRow}
 
-abbrev pub port_said : PortChecked → Said
-port_said (PortChecked.Refused r) = refused r
-port_said (PortChecked.Read raw) = says (raw ∷ [])
+abbrev pub port_said : Result ℕ Refusal → Said
+port_said = said_by (λ raw. raw ∷ [])
 
 -- the row as it is then
-abbrev pub observed_said : Observed → Said
-observed_said (Observed.Refused r) = refused r
-observed_said (Observed.To row) = says (port_record row)
+abbrev pub observed_said : Result PortRow Refusal → Said
+observed_said = said_by port_record
 
 -- a port row that is placed, and an endpoint list
 abbrev pub placed_port_numbers : List ℕ

@@ -1,16 +1,15 @@
 -- The bus: its words, the tables that they decode to, and one row of a table put. Assumes nothing.
-use Rattle.std.specs.Prelude.{ℕ, zero, suc, ◌+◌, ◌-◌, ◌*◌, Bool, false, List, [], ◌∷◌, ◌++◌, length, get_or, set, replicate}
+use Rattle.std.specs.Prelude.{ℕ, zero, suc, ◌+◌, ◌-◌, ◌*◌, Bool, false, List, [], ◌∷◌, ◌++◌, length, get_or, set, replicate, Option, Some, None}
 use Rattle.words.specs.Words.{flag_word}
 use Rattle.words.specs.Records.{splice, chunks}
-use Rattle.words.specs.declared.{OptionU32.OptionU32}
-use Rattle.models.specs.declared.{DeviceSnapshot.DeviceSnapshot, OptionDevice.OptionDevice}
+use Rattle.models.specs.declared.{DeviceSnapshot.DeviceSnapshot}
 use Rattle.bus.specs.Layout.{port_count, slot_count, port_words, device_words, list_words, devices_at, lists_at, marks_at, bus_words, read_port, port_record, read_device, device_record, read_endpoints, read_mark}
 use Rattle.bus.specs.declared.{PortRow.PortRow}
 
 pub record Bus : Type 0 where
   pub words : List ℕ
   pub ports : List PortRow
-  pub devices : List OptionDevice
+  pub devices : List (Option DeviceSnapshot)
   pub lists : List (List ℕ)
   pub marks : List Bool
 
@@ -25,7 +24,7 @@ bus_of l = record {
 
 -- a port at opening
 abbrev pub new_port : PortRow
-new_port = record { generation = 1; reading = OptionU32.None }
+new_port = record { generation = 1; reading = None }
 
 -- ports are numbered from 1
 abbrev pub port_index : ℕ → ℕ
@@ -35,8 +34,8 @@ port_index number = number - 1
 abbrev pub port_at : Bus → ℕ → PortRow
 port_at b number = get_or b.ports (port_index number) new_port
 
-abbrev pub device_at : Bus → ℕ → OptionDevice
-device_at b slot = get_or b.devices slot OptionDevice.None
+abbrev pub device_at : Bus → ℕ → Option DeviceSnapshot
+device_at b slot = get_or b.devices slot None
 
 abbrev pub endpoints_at : Bus → ℕ → List ℕ
 endpoints_at b slot = get_or b.lists slot []
@@ -58,7 +57,7 @@ unfoldable pub put_device : Bus → DeviceSnapshot → Bus
 put_device b d = record {
   words = splice (devices_at + d.id.slot * device_words) (device_record d) b.words;
   ports = b.ports;
-  devices = set b.devices d.id.slot (OptionDevice.Some d);
+  devices = set b.devices d.id.slot (Some d);
   lists = b.lists;
   marks = b.marks;
 }
@@ -92,7 +91,7 @@ unfoldable pub cleared : Bus
 cleared = record {
   words = new_ports port_count ++ replicate (bus_words - devices_at) 0;
   ports = replicate port_count new_port;
-  devices = replicate slot_count OptionDevice.None;
+  devices = replicate slot_count None;
   lists = replicate slot_count [];
   marks = replicate slot_count false;
 }

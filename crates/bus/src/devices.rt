@@ -1,17 +1,15 @@
 // Device rows and reconciliation marks, one of each for a slot.
-ghost use Rattle.std.specs.Prelude.{◌≡◌, length};
-ghost use Rattle.models.specs.declared.OptionDevice.TheVariants as device;
+ghost use Rattle.std.specs.Prelude.{◌≡◌, length, Some};
 ghost use Rattle.bus.specs.Layout.{bus_words, read_device, device_record};
 ghost use Rattle.bus.specs.Tables.{bus_of, device_at, put_device, mark_at, put_mark};
 
 use crate::{DEVICE_WORDS, DEVICES, MARKS};
-use models::{DeviceId, DeviceSnapshot, OptionDevice, PortId, codes};
+use models::{DeviceId, DeviceSnapshot, DeviceState, PortId};
 use words::slices;
 
 fn encode_device(d: DeviceSnapshot) -> [u64; DEVICE_WORDS]
-    ensures { (read_device result ≡ device.Some d) × (result ≡ device_record d) }
+    ensures { (read_device result ≡ Some d) × (result ≡ device_record d) }
 {
-    let state = d.state;
     [
         1,
         d.id.session,
@@ -20,17 +18,17 @@ fn encode_device(d: DeviceSnapshot) -> [u64; DEVICE_WORDS]
         d.port.session,
         d.port.generation,
         d.port.number as u64,
-        codes::device_state_word(state),
+        u64::from(d.state),
     ]
 }
 
-pub fn read_device(bus: &[u64], slot: u8) -> OptionDevice
+pub fn read_device(bus: &[u64], slot: u8) -> Option<DeviceSnapshot>
     requires { length bus.now ≡ bus_words }
     ensures { result ≡ device_at (bus_of bus.now) slot }
 {
     let at = DEVICES + slot as usize * DEVICE_WORDS;
     if bus[at] == 0 {
-        return OptionDevice::None;
+        return None;
     }
     let id = DeviceId {
         session: bus[at + 1],
@@ -42,8 +40,8 @@ pub fn read_device(bus: &[u64], slot: u8) -> OptionDevice
         generation: bus[at + 5],
         number: (bus[at + 6] % 256) as u8,
     };
-    let state = codes::to_device_state(bus[at + 7]);
-    OptionDevice::Some(DeviceSnapshot { id, port, state })
+    let state = DeviceState::from(bus[at + 7]);
+    Some(DeviceSnapshot { id, port, state })
 }
 
 // The device replaces its slot's.
@@ -53,7 +51,7 @@ pub fn set_device(bus: &mut [u64], d: DeviceSnapshot)
 {
     let at = DEVICES + d.id.slot as usize * DEVICE_WORDS;
     let w = encode_device(d);
-    slices::copy_words(bus, at, &w, DEVICE_WORDS);
+    slices::copy(bus, at, &w, DEVICE_WORDS);
 }
 
 // The slot waits for a raw reconciliation.

@@ -8,33 +8,33 @@ ghost use Rattle.bus.specs.Endpoints.{has_endpoint, set_endpoints};
 ghost use Rattle.bus.specs.Said.{placed_list_numbers};
 
 use crate::{ENDPOINTS, LIST_WORDS};
-use models::{TransferType, Verdict, codes};
+use models::{Cause, Refusal, TransferType};
 use words::slices;
 
 // The most endpoints of a slot.
 const ENDPOINTS_MOST: usize = 30;
 
 // The list replaces the slot's. Refuses by 53 if it is over 30.
-pub fn set_endpoints(bus: &mut [u64], slot: u8, list: &[u64]) -> Verdict
+pub fn set_endpoints(bus: &mut [u64], slot: u8, list: &[u64]) -> Result<(), Refusal>
     requires { length bus.old ≡ bus_words }
     ensures step { after result (bus_of bus.new)
         ≡ set_endpoints slot list.now (bus_of bus.old) }
     ensures table { Tabled placed_list_numbers (verdict_said result) }
 {
     if list.len() > ENDPOINTS_MOST {
-        return Verdict::Refused(models::refuse(53));
+        return Err(models::refuse(Cause::TooManyEndpoints));
     }
     let at = ENDPOINTS + slot as usize * LIST_WORDS;
     let n = list.len();
     bus[at] = n as u64;
-    slices::copy_words(bus, at + 1, list, n);
-    Verdict::Pass
+    slices::copy(bus, at + 1, list, n);
+    Ok(())
 }
 
 fn endpoint_word(address: u8, transfer_type: TransferType) -> u64
     ensures { result ≡ endpoint_word address transfer_type }
 {
-    address as u64 + 256 * codes::transfer_word(transfer_type)
+    address as u64 + 256 * u64::from(transfer_type)
 }
 
 pub fn has_endpoint(bus: &[u64], slot: u8, address: u8, transfer_type: TransferType) -> bool
@@ -43,14 +43,6 @@ pub fn has_endpoint(bus: &[u64], slot: u8, address: u8, transfer_type: TransferT
 {
     let word = endpoint_word(address, transfer_type);
     let at = ENDPOINTS + slot as usize * LIST_WORDS;
-    let n = slices::least(bus[at] as usize, ENDPOINTS_MOST);
-    let first = at + 1;
-    let mut i = 0;
-    while i < n {
-        if word == bus[first + i] {
-            return true;
-        }
-        i += 1;
-    }
-    false
+    let n = (bus[at] as usize).min(ENDPOINTS_MOST);
+    bus[at + 1..at + 1 + n].contains(&word)
 }

@@ -5,7 +5,7 @@ ghost use Rattle.std.specs.Prelude.{◌≡◌, ◌++◌, length, drop};
 ghost use Rattle.bus.specs.Layout.{port_count, devices_at, bus_words};
 ghost use Rattle.bus.specs.Tables.{bus_of, new_ports, cleared};
 
-use words::{OptionU32, slices};
+use words::slices;
 
 pub mod devices; // devices.rt: device rows and reconciliation marks
 pub mod endpoints; // endpoints.rt: the endpoints of a slot
@@ -40,7 +40,7 @@ const SLOTS: usize = WORDS - DEVICES;
 #[derive(Clone, Copy)]
 pub struct PortRow {
     pub generation: u64,
-    pub reading: OptionU32,
+    pub reading: Option<u32>,
 }
 
 // Each port has generation 1 and no reading.
@@ -48,11 +48,9 @@ fn begin_ports(bus: &mut [u64])
     requires { length bus.old ≡ bus_words }
     ensures { bus.new ≡ new_ports port_count ++ drop devices_at bus.old }
 {
-    let mut i = 0;
-    while i < PORTS {
+    for i in 0..PORTS {
         bus[i * PORT_WORDS] = 1;
         bus[i * PORT_WORDS + 1] = 0;
-        i += 1;
     }
 }
 
@@ -61,6 +59,6 @@ pub fn clear(bus: &mut [u64])
     requires { length bus.old ≡ bus_words }
     ensures { bus_of bus.new ≡ cleared }
 {
-    slices::clear_words(bus, DEVICES, SLOTS);
+    slices::fill(bus, DEVICES, SLOTS, 0);
     begin_ports(bus);
 }

@@ -55,8 +55,7 @@ module _ (w : List ℕ) where
   unfolding read_opening call_words
   opening_says e t =
       let p = opening_told w t in
-      let q = ports_words_lem (after 5) p.2 in
-      rw (number_words (after 3) p.1, q.0, q.1) (all 8 0 p.0 e)
+      rw (number_words (after 3) p.1, ports_words_lem (after 5) p.2) (all 8 0 p.0 e)
 
   device_says : get_or w 0 0 ≡ 1 → is_set_device w ≡ true → Says (Place (Device (read_snapshot w)))
   unfolding read_snapshot call_words

@@ -135,9 +135,10 @@ module _ (f : ℕ → ℕ) where
       by_flag_lem (f 0) (are_zero (tab f 3) 1 2) (leb (f 1) 1) t (λ e z. rw (e, zeros_words (from f 1) 2 z)) (λ e z. rw (e, direction_word_lem (f 1) z))
 
   -- ports: a flag, the count
-  pub ports_words_lem : by_flag (f 0) (eqb (f 1) 0) (leb (f 1) 255) ≡ true → (flag_word (read_flag (f 0)) ≡ f 0) × (f 1 % 2 ^ 8 ≡ f 1)
+  pub ports_words_lem : by_flag (f 0) (eqb (f 1) 0) (leb (f 1) 255) ≡ true
+      → ◌≡◌ {A = OptionWords} (option_u64_words (read_option_u64 (f 0) (f 1 % 2 ^ 8))) (record { present = f 0; value = f 1 })
   ports_words_lem t =
-      by_flag_lem (f 0) (eqb (f 1) 0) (leb (f 1) 255) t (λ e z. (rw e, rw (eqb-true (f 1) 0 z))) (λ e z. (rw e, byte_word (f 1) z))
+      by_flag_lem (f 0) (eqb (f 1) 0) (leb (f 1) 255) t (λ e z. rw (e, eqb-true (f 1) 0 z)) (λ e z. rw (e, byte_word (f 1) z))
 
   pub completion_words_lem : is_completion (tab f 10) ≡ true → backend_completion_words (read_completion (tab f 10)) ≡ tab f 10
   completion_words_lem t =

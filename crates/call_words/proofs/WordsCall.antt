@@ -1,5 +1,6 @@
 -- A call is what its words say: the laws of the parts, then of each call. Assumes nothing.
-use Prim.Native.Nat.{ℕ, ◌+◌, ◌*◌, ◌/◌}
+use Rattle.std.specs.Prelude.{Option, Some, None, Result, Ok, Err}
+use Prim.Native.Nat.{ℕ, ◌+◌, ◌*◌, ◌/◌, ◌%◌, ◌^◌}
 use mathlib.Core.Path.{◌≡◌, refl, sym, ap, ◌∙◌}
 use mathlib.Core.List.{List, ◌∷◌, ◌++◌, append_assoc}
 use native.Mathlib.Omega.{arith}
@@ -8,63 +9,63 @@ use lib.Seq.{drop-drop, take_at, drop_at}
 use Rattle.chain.specs.Chain.{◌if◌else◌}
 use Rattle.words.specs.Records.{tab, part}
 use Rattle.words.specs.Words.{flag_word, read_option_u64, option_u64_words}
-use Rattle.words.specs.declared.{OptionU64.OptionU64}
 use Rattle.words.proofs.Options.{low, flag_back}
 use Rattle.models.specs.Values.{option_error_words}
-use Rattle.models.specs.declared.{Direction.Direction, OptionDirection.OptionDirection, OptionError.OptionError, OptionStage.OptionStage, PortReading.PortReading, RequestId.RequestId}
+use Rattle.models.specs.declared.{DataStage.DataStage, Direction.Direction, OperationError.OperationError, RequestId.RequestId}
 use Rattle.models.proofs.Enums.{transfer_back, direction_back, profile_back, device_state_back}
 use Rattle.scope.specs.Returned.{completion_words}
-use Rattle.session.specs.declared.{RecoveryKind.RecoveryKind, lifecycle.AcquireReply.AcquireReply}
-use Rattle.reports.specs.declared.{OptionId.OptionId}
-use Rattle.polls.specs.declared.{PollReply.PollReply}
-use Rattle.submissions.specs.declared.{SubmitReply.SubmitReply}
-use Rattle.recovery.specs.declared.{RecoveryReply.RecoveryReply}
+use Rattle.session.specs.declared.{RecoveryKind.RecoveryKind}
 use Rattle.calls.specs.Calls.{Call, Open, Placing, Place, Device, Port, Endpoints, Reconcile, Moving, Move, Acquire, Initialize, Close, Beginning, Begin, Submit, SubmitPlan, Poll, Recover, Replying, Reply, ToSubmit, ToPoll, ToRecovery, Changing, Change, Cancel, Timeout, Reclaim, Withdraw, Reading, Read, Status, Reports, CountReports, CompletedBytes, HeldCount, HeldBytes}
 use Rattle.calls.proofs.Fits.{u32_back, error_back, option_error_back, setup_back}
 use Rattle.call_words.specs.Parts.{read_reading, reading_words, read_stage, stage_words, read_status, status_word}
 use Rattle.call_words.specs.Arguments.{read_opening, read_snapshot, read_port_row, read_acquire_reply, read_spec, read_readings, read_plan, read_submit_reply, read_poll_reply, read_option_id, read_recovery_reply, read_completed, read_completions, read_aborted}
 use Rattle.call_words.specs.Decode.{read_placing, read_moving, read_submission, read_replying, read_changing, read_reporting, read_recovering, read_call}
 use Rattle.call_words.specs.Encode.{recovery_reply_words, call_words, call_bytes}
-use Rattle.call_words.specs.Fits.{ReadingFits, ReplyFits, PlacingFits, MovingFits, BeginningFits, ReplyingFits, CallFits}
+use Rattle.call_words.specs.Fits.{U8Fits, ReadingFits, ReplyFits, PlacingFits, MovingFits, BeginningFits, ReplyingFits, CallFits}
+use Rattle.recovery.specs.declared.{BackendAbort.BackendAbort}
 
 -- ---- parts; a `..-shape` says how many words there are
-number_back : (o : OptionU64) → read_option_u64 (option_u64_words o).present (option_u64_words o).value ≡ o
-number_back OptionU64.None = refl
-number_back (OptionU64.Some v) = refl
+number_back : (o : Option ℕ) → read_option_u64 (option_u64_words o).present (option_u64_words o).value ≡ o
+number_back None = refl
+number_back (Some v) = refl
 
-reading_back : (r : PortReading) → ReadingFits r → read_reading (reading_words r) 0 ≡ r
-reading_back (PortReading.Word v) h = rw (low 32 h)
-reading_back (PortReading.Error e) h = ap PortReading.Error (error_back e h)
+port_count_back : (o : Option ℕ) → U8Fits o → read_option_u64 (option_u64_words o).present ((option_u64_words o).value % 2 ^ 8) ≡ o
+port_count_back None h = refl
+port_count_back (Some n) h = rw (low 8 h)
 
-reading_shape : (r : PortReading) → reading_words r ≡ tab (λ (k : ℕ). get_or (reading_words r) k 0) 6
-reading_shape (PortReading.Word v) = refl
-reading_shape (PortReading.Error e) = refl
+reading_back : (r : Result ℕ OperationError) → ReadingFits r → read_reading (reading_words r) 0 ≡ r
+reading_back (Ok v) h = rw (low 32 h)
+reading_back (Err e) h = ap Err (error_back e h)
 
-status_back : (x : OptionDirection) → read_status (status_word x) ≡ x
-status_back OptionDirection.None = refl
-status_back (OptionDirection.Some Direction.In) = refl
-status_back (OptionDirection.Some Direction.Out) = refl
+reading_shape : (r : Result ℕ OperationError) → reading_words r ≡ tab (λ (k : ℕ). get_or (reading_words r) k 0) 6
+reading_shape (Ok v) = refl
+reading_shape (Err e) = refl
 
-stage_back : (o : OptionStage) → read_stage (stage_words o) 0 ≡ o
-stage_back OptionStage.None = refl
-stage_back (OptionStage.Some x) = rw (direction_back x.direction)
+status_back : (x : Option Direction) → read_status (status_word x) ≡ x
+status_back None = refl
+status_back (Some Direction.In) = refl
+status_back (Some Direction.Out) = refl
 
-stage_shape : (o : OptionStage) → stage_words o ≡ tab (λ (k : ℕ). get_or (stage_words o) k 0) 3
-stage_shape OptionStage.None = refl
-stage_shape (OptionStage.Some x) = refl
+stage_back : (o : Option DataStage) → read_stage (stage_words o) 0 ≡ o
+stage_back None = refl
+stage_back (Some x) = rw (direction_back x.direction)
 
-option_error_shape : (o : OptionError) → option_error_words o ≡ tab (λ (k : ℕ). get_or (option_error_words o) k 0) 5
-option_error_shape OptionError.None = refl
-option_error_shape (OptionError.Some e) = refl
+stage_shape : (o : Option DataStage) → stage_words o ≡ tab (λ (k : ℕ). get_or (stage_words o) k 0) 3
+stage_shape None = refl
+stage_shape (Some x) = refl
 
-recovery_back : (r : RecoveryReply) → ReplyFits r → read_recovery_reply (24 ∷ recovery_reply_words r) ≡ r
+option_error_shape : (o : Option OperationError) → option_error_words o ≡ tab (λ (k : ℕ). get_or (option_error_words o) k 0) 5
+option_error_shape None = refl
+option_error_shape (Some e) = refl
+
+recovery_back : (r : Result BackendAbort OperationError) → ReplyFits r → read_recovery_reply (24 ∷ recovery_reply_words r) ≡ r
 unfolding read_recovery_reply
-recovery_back (RecoveryReply.Done x) h = rw (flag_back x.restart_ready, option_error_back x.error h)
-recovery_back (RecoveryReply.Error e) h = ap RecoveryReply.Error (error_back e h)
+recovery_back (Ok x) h = rw (flag_back x.restart_ready, option_error_back x.error h)
+recovery_back (Err e) h = ap Err (error_back e h)
 
-recovery_shape : (r : RecoveryReply) → recovery_reply_words r ≡ tab (λ (k : ℕ). get_or (recovery_reply_words r) k 0) 7
-recovery_shape (RecoveryReply.Done x) = ap (λ (l : List ℕ). 0 ∷ flag_word x.restart_ready ∷ l) (option_error_shape x.error)
-recovery_shape (RecoveryReply.Error e) = refl
+recovery_shape : (r : Result BackendAbort OperationError) → recovery_reply_words r ≡ tab (λ (k : ℕ). get_or (recovery_reply_words r) k 0) 7
+recovery_shape (Ok x) = ap (λ (l : List ℕ). 0 ∷ flag_word x.restart_ready ∷ l) (option_error_shape x.error)
+recovery_shape (Err e) = refl
 
 -- the lists of a recovery's reply
 module _ (w a b c : List ℕ) (d : drop 10 w ≡ (a ++ b) ++ c) (m : ℕ) (em : m * completion_words ≡ length b) where
@@ -95,8 +96,8 @@ place_back (Reconcile slot mark) h = rw (low 8 h, flag_back mark)
 
 move_back : (m : Moving) → MovingFits m → Back (Move m)
 unfolding read_call read_moving read_acquire_reply call_words ◌if◌else◌
-move_back (Acquire AcquireReply.Acquired) h = refl
-move_back (Acquire (AcquireReply.Failed e retained)) h = rw (error_back e h, flag_back retained)
+move_back (Acquire (Ok tt)) h = refl
+move_back (Acquire (Err f)) h = rw (error_back f.error h, flag_back f.retained)
 move_back (Initialize e) h = rw (option_error_back e h)
 move_back (Close fresh e) h = rw (number_back fresh, option_error_back e h)
 
@@ -139,11 +140,11 @@ begin_back (Recover id (RecoveryKind.Reset preserve)) h = rw (flag_back preserve
 
 reply_back : (r : Replying) → ReplyingFits r → Back (Reply r)
 unfolding read_call read_replying read_recovering read_submit_reply read_poll_reply read_recovery_reply read_completed read_completions read_aborted call_words ◌if◌else◌
-reply_back (ToSubmit (SubmitReply.Token x)) h = refl
-reply_back (ToSubmit (SubmitReply.Error e)) h = rw (error_back e h)
-reply_back (ToPoll PollReply.Nothing bytes) h = refl
-reply_back (ToPoll (PollReply.Error e) bytes) h = rw (error_back e h)
-reply_back (ToPoll (PollReply.Completion x) bytes) (h, k) =
+reply_back (ToSubmit (Ok x)) h = refl
+reply_back (ToSubmit (Err e)) h = rw (error_back e h)
+reply_back (ToPoll (Ok None) bytes) h = refl
+reply_back (ToPoll (Err e) bytes) h = rw (error_back e h)
+reply_back (ToPoll (Ok (Some x)) bytes) (h, k) =
     rw (option_error_shape x.error)
     (rw (
       number_back x.actual_length,
@@ -161,7 +162,7 @@ reply_back (ToRecovery r l) (h, whole) =
     let w : List ℕ = 24 ∷ tab (λ (k : ℕ). get_or (recovery_reply_words r) k 0) 7 ++ length a ∷ m ∷ a ++ b ++ c in
     rw (recovery_shape r)
     (rw (completed_is w a b c refl m em, completions_are w a b c refl m em, aborted_is w a b c refl m em)
-    (ap (λ (x : RecoveryReply). Reply (ToRecovery x l)) (recovery_back r h)))
+    (ap (λ (x : Result BackendAbort OperationError). Reply (ToRecovery x l)) (recovery_back r h)))
 
 change_back : (id : RequestId) (c : Changing) → Back (Change id c)
 unfolding read_call read_changing call_words ◌if◌else◌
@@ -173,8 +174,8 @@ change_back id Withdraw = refl
 read_back : (r : Reading) → Back (Read r)
 unfolding read_call read_reporting read_option_id call_words ◌if◌else◌
 read_back (Status id) = refl
-read_back (Reports OptionId.None) = refl
-read_back (Reports (OptionId.Some id)) = refl
+read_back (Reports None) = refl
+read_back (Reports (Some id)) = refl
 read_back CountReports = refl
 read_back (CompletedBytes id) = refl
 read_back HeldCount = refl
@@ -182,7 +183,7 @@ read_back HeldBytes = refl
 
 pub words_call : (c : Call) → CallFits c → read_call (call_words c) (call_bytes c) ≡ c
 unfolding read_call read_placing read_opening call_words ◌if◌else◌
-words_call (Open o) h = rw (number_back o.recovery_revision, flag_back o.has_ports, low 8 h)
+words_call (Open o) h = rw (number_back o.recovery_revision, port_count_back o.port_count h)
 words_call (Place p) h = place_back p h
 words_call (Move m) h = move_back m h
 words_call (Begin b) h = begin_back b h

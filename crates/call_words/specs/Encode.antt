@@ -1,28 +1,25 @@
 -- The words of a call. Assumes nothing.
-use Rattle.std.specs.Prelude.{ℕ, ◌/◌, List, [], ◌∷◌, ◌++◌, length}
+use Rattle.std.specs.Prelude.{ℕ, ◌/◌, List, [], ◌∷◌, ◌++◌, length, Option, Some, None, Result, Ok, Err, ⊤}
 use Rattle.words.specs.Words.{flag_word, option_u32_word}
 use Rattle.models.specs.Codes.{transfer_word, direction_word, profile_word}
 use Rattle.models.specs.Values.{error_words, option_error_words, request_id_words, device_id_words, snapshot_words}
-use Rattle.models.specs.declared.{ControlPlan.ControlPlan, RequestSpec.RequestSpec}
-use Rattle.session.specs.declared.{RecoveryKind.RecoveryKind, lifecycle.AcquireReply.AcquireReply, lifecycle.Opening.Opening}
-use Rattle.reports.specs.declared.{OptionId.OptionId}
-use Rattle.polls.specs.declared.{PollReply.PollReply}
-use Rattle.submissions.specs.declared.{SubmitReply.SubmitReply}
+use Rattle.models.specs.declared.{BackendCompletion.BackendCompletion, ControlPlan.ControlPlan, OperationError.OperationError, RequestId.RequestId, RequestSpec.RequestSpec}
+use Rattle.session.specs.declared.{RecoveryKind.RecoveryKind, lifecycle.AcquireFailure.AcquireFailure, lifecycle.Opening.Opening}
 use Rattle.scope.specs.Returned.{completion_words}
-use Rattle.recovery.specs.declared.{RecoveryReply.RecoveryReply}
 use Rattle.calls.specs.Calls.{Call, Open, Placing, Place, Device, Port, Endpoints, Reconcile, Moving, Move, Acquire, Initialize, Close, Beginning, Begin, Submit, SubmitPlan, Poll, Recover, Replying, Reply, ToSubmit, ToPoll, ToRecovery, Changing, Change, Cancel, Timeout, Reclaim, Withdraw, Reading, Read, Status, Reports, CountReports, CompletedBytes, HeldCount, HeldBytes}
 use Rattle.call_words.specs.Parts.{zeros, option_number_words, packet_words, option_setup_words, reading_words, backend_completion_words, stage_words, status_word}
+use Rattle.recovery.specs.declared.{BackendAbort.BackendAbort}
 
 -- ---- the arguments of several words
 
 abbrev pub opening_words : Opening → List ℕ
 opening_words o =
     o.session ∷ o.first_sequence ∷ option_number_words o.recovery_revision
-    ++ flag_word o.has_ports ∷ o.port_count ∷ o.size.row_count ∷ o.size.row_bytes ∷ []
+    ++ option_number_words o.port_count ++ o.size.row_count ∷ o.size.row_bytes ∷ []
 
-abbrev pub acquire_words : AcquireReply → List ℕ
-acquire_words AcquireReply.Acquired = zeros 6
-acquire_words (AcquireReply.Failed e retained) = 1 ∷ flag_word retained ∷ error_words e
+abbrev pub acquire_words : Result ⊤ AcquireFailure → List ℕ
+acquire_words (Ok tt) = zeros 6
+acquire_words (Err f) = 1 ∷ flag_word f.retained ∷ error_words f.error
 
 abbrev pub spec_words : RequestSpec → List ℕ
 spec_words q =
@@ -33,22 +30,22 @@ control_plan_words p =
     device_id_words p.device ++ profile_word p.profile ∷ packet_words p.setup
     ++ stage_words p.data_stage ++ status_word p.status_direction ∷ []
 
-abbrev pub submit_reply_words : SubmitReply → List ℕ
-submit_reply_words (SubmitReply.Token t) = 0 ∷ t ∷ zeros 4
-submit_reply_words (SubmitReply.Error e) = 1 ∷ 0 ∷ error_words e
+abbrev pub submit_reply_words : Result ℕ OperationError → List ℕ
+submit_reply_words (Ok t) = 0 ∷ t ∷ zeros 4
+submit_reply_words (Err e) = 1 ∷ 0 ∷ error_words e
 
-abbrev pub poll_reply_words : PollReply → List ℕ
-poll_reply_words PollReply.Nothing = 0 ∷ zeros 10
-poll_reply_words (PollReply.Error e) = 1 ∷ 0 ∷ error_words e ++ zeros 5
-poll_reply_words (PollReply.Completion x) = 2 ∷ backend_completion_words x
+abbrev pub poll_reply_words : Result (Option BackendCompletion) OperationError → List ℕ
+poll_reply_words (Ok None) = 0 ∷ zeros 10
+poll_reply_words (Err e) = 1 ∷ 0 ∷ error_words e ++ zeros 5
+poll_reply_words (Ok (Some x)) = 2 ∷ backend_completion_words x
 
-abbrev pub option_id_words : OptionId → List ℕ
-option_id_words OptionId.None = zeros 4
-option_id_words (OptionId.Some id) = 1 ∷ request_id_words id
+abbrev pub option_id_words : Option RequestId → List ℕ
+option_id_words None = zeros 4
+option_id_words (Some id) = 1 ∷ request_id_words id
 
-abbrev pub recovery_reply_words : RecoveryReply → List ℕ
-recovery_reply_words (RecoveryReply.Done x) = 0 ∷ flag_word x.restart_ready ∷ option_error_words x.error
-recovery_reply_words (RecoveryReply.Error e) = 1 ∷ 0 ∷ 0 ∷ error_words e
+abbrev pub recovery_reply_words : Result BackendAbort OperationError → List ℕ
+recovery_reply_words (Ok x) = 0 ∷ flag_word x.restart_ready ∷ option_error_words x.error
+recovery_reply_words (Err e) = 1 ∷ 0 ∷ 0 ∷ error_words e
 
 -- ---- by group
 

@@ -1,11 +1,10 @@
 -- The parts of calls' words: which words each takes (`is..`), what they say (`read..`), and the words that say it (`..Words`), from
 -- word `at` on. A word that is missing says 0, and one that a part does not read is 0. Assumes nothing.
-use Rattle.std.specs.Prelude.{ℕ, zero, suc, ◌+◌, ◌-◌, ◌%◌, ◌^◌, Bool, true, ◌&&◌, cond, List, [], ◌∷◌, ◌++◌, get_or, replicate, eqb, leb}
+use Rattle.std.specs.Prelude.{ℕ, zero, suc, ◌+◌, ◌-◌, ◌%◌, ◌^◌, Bool, true, ◌&&◌, cond, List, [], ◌∷◌, ◌++◌, get_or, replicate, eqb, leb, Option, Some, None, Result, Ok, Err}
 use Rattle.words.specs.Words.{flag_word, option_u32_word, option_u64_words}
-use Rattle.words.specs.declared.{OptionU64.OptionU64}
 use Rattle.models.specs.Codes.{read_direction, direction_word}
 use Rattle.models.specs.Values.{setup_words, setup_tail, error_words, option_error_words, read_error}
-use Rattle.models.specs.declared.{BackendCompletion.BackendCompletion, OptionDirection.OptionDirection, OptionSetup.OptionSetup, OptionStage.OptionStage, PortId.PortId, PortReading.PortReading, SetupPacket.SetupPacket}
+use Rattle.models.specs.declared.{BackendCompletion.BackendCompletion, DataStage.DataStage, Direction.Direction, OperationError.OperationError, PortId.PortId, SetupPacket.SetupPacket}
 use Rattle.rows.specs.Codec.{read_setup_words}
 
 -- ---- one word
@@ -56,7 +55,7 @@ read_port_id w at = record { session = get_or w at 0; generation = get_or w (at 
 abbrev pub is_option_number : List ℕ → ℕ → Bool
 is_option_number w at = by_flag (get_or w at 0) (is_zero w (at + 1)) true
 
-abbrev pub option_number_words : OptionU64 → List ℕ
+abbrev pub option_number_words : Option ℕ → List ℕ
 option_number_words o = (option_u64_words o).present ∷ (option_u64_words o).value ∷ []
 
 -- ---- an error, four: category, message, system number, completion code
@@ -89,10 +88,10 @@ packet_words p = p.request_type ∷ p.request ∷ p.value ∷ p.index ∷ p.leng
 abbrev pub is_option_setup : List ℕ → ℕ → Bool
 is_option_setup w at = by_flag (get_or w at 0) (are_zero w (at + 1) 5) (is_setup w (at + 1))
 
-abbrev pub read_option_setup : List ℕ → ℕ → OptionSetup
+abbrev pub read_option_setup : List ℕ → ℕ → Option SetupPacket
 read_option_setup w at = read_setup_words (get_or w at 0) (get_or w (at + 1) 0) (get_or w (at + 2) 0) (get_or w (at + 3) 0) (get_or w (at + 4) 0) (get_or w (at + 5) 0)
 
-abbrev pub option_setup_words : OptionSetup → List ℕ
+abbrev pub option_setup_words : Option SetupPacket → List ℕ
 option_setup_words o = setup_tail (setup_words o) []
 
 -- ---- a port reading, six: 0 and the port's word, or 1, and from the third on the error
@@ -101,12 +100,12 @@ abbrev pub is_reading : List ℕ → ℕ → Bool
 is_reading w at =
     by_flag (get_or w at 0) (at_most w (at + 1) (2 ^ 32 - 1) && are_zero w (at + 2) 4) (is_zero w (at + 1) && is_error w (at + 2))
 
-abbrev pub read_reading : List ℕ → ℕ → PortReading
-read_reading w at = cond (eqb (get_or w at 0) 0) (PortReading.Word (get_or w (at + 1) 0 % 2 ^ 32)) (PortReading.Error (read_error w (at + 2)))
+abbrev pub read_reading : List ℕ → ℕ → Result ℕ OperationError
+read_reading w at = cond (eqb (get_or w at 0) 0) (Ok (get_or w (at + 1) 0 % 2 ^ 32)) (Err (read_error w (at + 2)))
 
-abbrev pub reading_words : PortReading → List ℕ
-reading_words (PortReading.Word v) = 0 ∷ v ∷ zeros 4
-reading_words (PortReading.Error e) = 1 ∷ 0 ∷ error_words e
+abbrev pub reading_words : Result ℕ OperationError → List ℕ
+reading_words (Ok v) = 0 ∷ v ∷ zeros 4
+reading_words (Err e) = 1 ∷ 0 ∷ error_words e
 
 -- ---- a completion, ten: error (optional), length (optional), code, whether it brings data, quiescent
 
@@ -124,18 +123,18 @@ backend_completion_words x =
 abbrev pub is_stage : List ℕ → ℕ → Bool
 is_stage w at = by_flag (get_or w at 0) (are_zero w (at + 1) 2) (is_flag w (at + 1))
 
-abbrev pub read_stage : List ℕ → ℕ → OptionStage
+abbrev pub read_stage : List ℕ → ℕ → Option DataStage
 read_stage w at =
-    cond (eqb (get_or w at 0) 0) OptionStage.None (OptionStage.Some (record { direction = read_direction (get_or w (at + 1) 0); length = get_or w (at + 2) 0 }))
+    cond (eqb (get_or w at 0) 0) None (Some (record { direction = read_direction (get_or w (at + 1) 0); length = get_or w (at + 2) 0 }))
 
-abbrev pub stage_words : OptionStage → List ℕ
-stage_words OptionStage.None = zeros 3
-stage_words (OptionStage.Some x) = 1 ∷ direction_word x.direction ∷ x.length ∷ []
+abbrev pub stage_words : Option DataStage → List ℕ
+stage_words None = zeros 3
+stage_words (Some x) = 1 ∷ direction_word x.direction ∷ x.length ∷ []
 
 -- 0 none, 1 IN, 2 OUT
-abbrev pub read_status : ℕ → OptionDirection
-read_status w = cond (eqb w 0) OptionDirection.None (OptionDirection.Some (read_direction (w - 1)))
+abbrev pub read_status : ℕ → Option Direction
+read_status w = cond (eqb w 0) None (Some (read_direction (w - 1)))
 
-abbrev pub status_word : OptionDirection → ℕ
-status_word OptionDirection.None = 0
-status_word (OptionDirection.Some d) = 1 + direction_word d
+abbrev pub status_word : Option Direction → ℕ
+status_word None = 0
+status_word (Some d) = 1 + direction_word d

@@ -7,17 +7,14 @@ ghost use Rattle.call_words.specs.Arguments.{read_opening, read_snapshot, read_p
 use bus::PortRow;
 use models::values::{device_at, error_at, id_at, option_error_at};
 use models::{
-    ControlPlan, DataStage, DeviceSnapshot, OptionDirection, OptionStage, PortId, PortReading,
-    RequestSpec, SetupPacket, codes,
+    BackendCompletion, ControlPlan, ControlProfile, DataStage, DeviceSnapshot, DeviceState,
+    Direction, OperationError, PortId, RequestId, RequestSpec, SetupPacket, TransferType,
 };
-use polls::PollReply;
-use recovery::{Outcome, RecoveryReply};
-use reports::OptionId;
+use recovery::BackendAbort;
 use rows::codec;
 use scope::returned;
 use session::Size;
-use session::lifecycle::{AcquireReply, Opening};
-use submissions::SubmitReply;
+use session::lifecycle::{AcquireFailure, Opening};
 use targets::Readings;
 use words::slices;
 use words::slices::word_at;
@@ -50,14 +47,14 @@ fn setup_at(w: &[u64], at: u8) -> SetupPacket
 }
 
 // The port's word, or the error.
-pub fn reading_at(w: &[u64], at: u8) -> PortReading
+pub fn reading_at(w: &[u64], at: u8) -> Result<u32, OperationError>
     ensures { result ≡ read_reading w.now at }
 {
     let i = at as usize;
     if word_at(w, i) == 0 {
-        return PortReading::Word((word_at(w, i + 1) % 4294967296) as u32);
+        return Ok((word_at(w, i + 1) % 4294967296) as u32);
     }
-    PortReading::Error(error_at(w, at as u16 + 2))
+    Err(error_at(w, at as u16 + 2))
 }
 
 pub fn opening(w: &[u64]) -> Opening
@@ -67,8 +64,7 @@ pub fn opening(w: &[u64]) -> Opening
         session: word_at(w, 1),
         first_sequence: word_at(w, 2),
         recovery_revision: words::to_option_u64(word_at(w, 3), word_at(w, 4)),
-        has_ports: words::to_flag(word_at(w, 5)),
-        port_count: (word_at(w, 6) % 256) as u8,
+        port_count: words::to_flag(word_at(w, 5)).then_some((word_at(w, 6) % 256) as u8),
         size: Size {
             row_count: word_at(w, 7),
             row_bytes: word_at(w, 8),
@@ -82,7 +78,7 @@ pub fn snapshot(w: &[u64]) -> DeviceSnapshot
     DeviceSnapshot {
         id: device_at(w, 1),
         port: port_id_at(w, 4),
-        state: codes::to_device_state(word_at(w, 7)),
+        state: DeviceState::from(word_at(w, 7)),
     }
 }
 
@@ -95,13 +91,16 @@ pub fn port_row(w: &[u64]) -> PortRow
     }
 }
 
-pub fn acquire_reply(w: &[u64]) -> AcquireReply
+pub fn acquire_reply(w: &[u64]) -> Result<(), AcquireFailure>
     ensures { result ≡ read_acquire_reply w.now }
 {
     if word_at(w, 1) == 0 {
-        return AcquireReply::Acquired;
+        return Ok(());
     }
-    AcquireReply::Failed(error_at(w, 3), words::to_flag(word_at(w, 2)))
+    Err(AcquireFailure {
+        error: error_at(w, 3),
+        retained: words::to_flag(word_at(w, 2)),
+    })
 }
 
 pub fn spec(w: &[u64]) -> RequestSpec
@@ -118,8 +117,8 @@ pub fn spec(w: &[u64]) -> RequestSpec
     RequestSpec {
         device: device_at(w, 1),
         endpoint: (word_at(w, 4) % 256) as u8,
-        transfer_type: codes::to_transfer(word_at(w, 5)),
-        direction: codes::to_direction(word_at(w, 6)),
+        transfer_type: TransferType::from(word_at(w, 5)),
+        direction: Direction::from(word_at(w, 6)),
         length: word_at(w, 7),
         setup,
     }
@@ -134,26 +133,26 @@ pub fn readings(w: &[u64]) -> Readings
     }
 }
 
-fn stage_at(w: &[u64], at: u8) -> OptionStage
+fn stage_at(w: &[u64], at: u8) -> Option<DataStage>
     ensures { result ≡ read_stage w.now at }
 {
     let i = at as usize;
     if word_at(w, i) == 0 {
-        return OptionStage::None;
+        return None;
     }
-    OptionStage::Some(DataStage {
-        direction: codes::to_direction(word_at(w, i + 1)),
+    Some(DataStage {
+        direction: Direction::from(word_at(w, i + 1)),
         length: word_at(w, i + 2),
     })
 }
 
-fn to_status(w: u64) -> OptionDirection
+fn to_status(w: u64) -> Option<Direction>
     ensures { result ≡ read_status w }
 {
     if w == 0 {
-        return OptionDirection::None;
+        return None;
     }
-    OptionDirection::Some(codes::to_direction(w - 1))
+    Some(Direction::from(w - 1))
 }
 
 pub fn plan(w: &[u64]) -> ControlPlan
@@ -161,55 +160,55 @@ pub fn plan(w: &[u64]) -> ControlPlan
 {
     ControlPlan {
         device: device_at(w, 1),
-        profile: codes::to_profile(word_at(w, 4)),
+        profile: ControlProfile::from(word_at(w, 4)),
         setup: setup_at(w, 5),
         data_stage: stage_at(w, 10),
         status_direction: to_status(word_at(w, 13)),
     }
 }
 
-pub fn submit_reply(w: &[u64]) -> SubmitReply
+pub fn submit_reply(w: &[u64]) -> Result<u64, OperationError>
     ensures { result ≡ read_submit_reply w.now }
 {
     if word_at(w, 1) == 0 {
-        return SubmitReply::Token(word_at(w, 2));
+        return Ok(word_at(w, 2));
     }
-    SubmitReply::Error(error_at(w, 3))
+    Err(error_at(w, 3))
 }
 
 // Nothing came, an error, or a completion.
-pub fn poll_reply(w: &[u64]) -> PollReply
+pub fn poll_reply(w: &[u64]) -> Result<Option<BackendCompletion>, OperationError>
     ensures { result ≡ read_poll_reply w.now }
 {
     let kind = word_at(w, 1);
     if kind == 0 {
-        return PollReply::Nothing;
+        return Ok(None);
     }
     if kind == 1 {
-        return PollReply::Error(error_at(w, 3));
+        return Err(error_at(w, 3));
     }
-    PollReply::Completion(returned::completion(slices::rest(w, 2)))
+    Ok(Some(returned::completion(slices::rest(w, 2))))
 }
 
-pub fn option_id(w: &[u64]) -> OptionId
+pub fn option_id(w: &[u64]) -> Option<RequestId>
     ensures { result ≡ read_option_id w.now }
 {
     if word_at(w, 1) == 0 {
-        return OptionId::None;
+        return None;
     }
-    OptionId::Some(id_at(w, 2))
+    Some(id_at(w, 2))
 }
 
-pub fn backend_abort(w: &[u64]) -> RecoveryReply
+pub fn backend_abort(w: &[u64]) -> Result<BackendAbort, OperationError>
     ensures { result ≡ read_recovery_reply w.now }
 {
     if word_at(w, 1) == 0 {
-        return RecoveryReply::Done(Outcome {
+        return Ok(BackendAbort {
             restart_ready: words::to_flag(word_at(w, 2)),
             error: option_error_at(w, 3),
         });
     }
-    RecoveryReply::Error(error_at(w, 4))
+    Err(error_at(w, 4))
 }
 
 // The tokens of completed requests.

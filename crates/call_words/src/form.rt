@@ -49,13 +49,7 @@ fn is_option(w: &[u64], i: usize) -> bool
 fn are_zero(w: &[u64], at: u16, n: u8) -> bool
     ensures { result ≡ are_zero w.now at n }
 {
-    let mut good = true;
-    let mut k: u8 = 0;
-    while k < n {
-        good = good & is_zero(w, at as usize + k as usize);
-        k += 1;
-    }
-    good
+    (0..n).all(|k| is_zero(w, usize::from(at) + usize::from(k)))
 }
 
 // By a flag: the one test where it is 0, the other where it is 1.
@@ -172,14 +166,7 @@ fn is_set_port(w: &[u64]) -> bool
 fn any_above(w: &[u64], limit: u64) -> bool
     ensures { result ≡ any_in (ltb limit) w.now }
 {
-    let mut i = 0;
-    while i < w.len() {
-        if w[i] > limit {
-            return true;
-        }
-        i += 1;
-    }
-    false
+    w.iter().any(|x| *x > limit)
 }
 
 fn is_set_endpoints(w: &[u64]) -> bool
@@ -244,14 +231,12 @@ fn is_submit_reply(w: &[u64]) -> bool
 fn is_poll_reply(w: &[u64]) -> bool
     ensures { result ≡ is_poll_reply w.now }
 {
-    let kind = word_at(w, 1);
-    if kind == 0 {
-        return has(w, 12) & are_zero(w, 2, 10);
+    match word_at(w, 1) {
+        0 => has(w, 12) & are_zero(w, 2, 10),
+        1 => has(w, 12) & is_zero(w, 2) & is_error(w, 3) & are_zero(w, 7, 5),
+        2 => has(w, 12) & is_completion(slices::rest(w, 2)),
+        _ => false,
     }
-    if kind == 1 {
-        return has(w, 12) & is_zero(w, 2) & is_error(w, 3) & are_zero(w, 7, 5);
-    }
-    has(w, 12) & (kind == 2) & is_completion(slices::rest(w, 2))
 }
 
 fn is_reports(w: &[u64]) -> bool
@@ -272,12 +257,9 @@ fn are_completions(w: &[u64], at: usize, n: usize) -> bool
     ensures { result ≡ are_completions w.now at n }
 {
     let mut good = true;
-    let mut k = 0;
-    while k < n {
+    for k in 0..n {
         let start = at + k * COMPLETION;
-        let end = start + COMPLETION;
-        good = good & is_completion(&w[start..end]);
-        k += 1;
+        good &= is_completion(&w[start..start + COMPLETION]);
     }
     good
 }
@@ -311,113 +293,80 @@ fn is_recovery_reply(w: &[u64]) -> bool
 fn is_placing(number: u64, w: &[u64]) -> bool
     ensures { result ≡ is_placing number w.now }
 {
-    if number == 0 {
-        return is_open_call(w);
+    match number {
+        0 => is_open_call(w),
+        1 => is_set_device(w),
+        2 => is_set_port(w),
+        3 => is_set_endpoints(w),
+        _ => is_set_reconcile(w),
     }
-    if number == 1 {
-        return is_set_device(w);
-    }
-    if number == 2 {
-        return is_set_port(w);
-    }
-    if number == 3 {
-        return is_set_endpoints(w);
-    }
-    is_set_reconcile(w)
 }
 
 fn is_moving(number: u64, w: &[u64]) -> bool
     ensures { result ≡ is_moving number w.now }
 {
-    if number == 5 {
-        return is_acquire(w);
+    match number {
+        5 => is_acquire(w),
+        6 => is_initialize(w),
+        _ => is_close(w),
     }
-    if number == 6 {
-        return is_initialize(w);
-    }
-    is_close(w)
 }
 
 fn is_submission(number: u64, w: &[u64]) -> bool
     ensures { result ≡ is_submission number w.now }
 {
-    if number == 8 {
-        return is_submit(w);
+    match number {
+        8 => is_submit(w),
+        _ => is_plan(w),
     }
-    is_plan(w)
 }
 
 // A poll takes an id.
 fn is_replying(number: u64, w: &[u64]) -> bool
     ensures { result ≡ is_replying number w.now }
 {
-    if number == 10 {
-        return is_submit_reply(w);
+    match number {
+        10 => is_submit_reply(w),
+        11 => has(w, 4),
+        _ => is_poll_reply(w),
     }
-    if number == 11 {
-        return has(w, 4);
-    }
-    is_poll_reply(w)
 }
 
 // Status and completed bytes take an id; counts take nothing.
 pub fn is_reporting(number: u64, w: &[u64]) -> bool
     ensures { result ≡ is_reporting number w.now }
 {
-    if number == 16 {
-        return has(w, 4);
+    match number {
+        16 => has(w, 4),
+        17 => is_reports(w),
+        18 => has(w, 1),
+        19 => has(w, 4),
+        _ => has(w, 1),
     }
-    if number == 17 {
-        return is_reports(w);
-    }
-    if number == 18 {
-        return has(w, 1);
-    }
-    if number == 19 {
-        return has(w, 4);
-    }
-    has(w, 1)
 }
 
 fn is_recovery_call(number: u64, w: &[u64]) -> bool
     ensures { result ≡ is_recovery_call number w.now }
 {
-    if number == 22 {
-        return has(w, 4);
+    match number {
+        22 => has(w, 4),
+        23 => is_reset(w),
+        _ => is_recovery_reply(w),
     }
-    if number == 23 {
-        return is_reset(w);
-    }
-    is_recovery_reply(w)
 }
 
 pub fn is_call(w: &[u64]) -> bool
     ensures { result ≡ is_call w.now }
 {
     let number = word_at(w, 0);
-    if number <= 4 {
-        return is_placing(number, w);
+    match number {
+        0..=4 => is_placing(number, w),
+        5..=7 => is_moving(number, w),
+        8 | 9 => is_submission(number, w),
+        10..=12 => is_replying(number, w),
+        13..=15 | 29 => has(w, 4),
+        16..=21 => is_reporting(number, w),
+        22..=24 => is_recovery_call(number, w),
+        _ => false,
     }
-    if number <= 7 {
-        return is_moving(number, w);
-    }
-    if number <= 9 {
-        return is_submission(number, w);
-    }
-    if number <= 12 {
-        return is_replying(number, w);
-    }
-    if number <= 15 {
-        return has(w, 4);
-    }
-    if number <= 21 {
-        return is_reporting(number, w);
-    }
-    if number <= 24 {
-        return is_recovery_call(number, w);
-    }
-    if number == 29 {
-        return has(w, 4);
-    }
-    false
 }

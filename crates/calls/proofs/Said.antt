@@ -1,86 +1,87 @@
 -- Every call is refused by the table: by a number of its own list, with the error that the table gives the number. Assumes nothing.
+use Rattle.std.specs.Prelude.{Result, Ok, Err, ⊤, Option, Some, None}
 use Prim.Native.Nat.{ℕ}
 use mathlib.Core.List.{List}
 use mathlib.Core.Path.{◌≡◌, refl, sym, subst}
 use lib.ListN.{length}
 use Rattle.models.specs.Said.{Said, Tabled, verdict_said}
-use Rattle.models.specs.declared.{RequestId.RequestId, Verdict.Verdict}
+use Rattle.models.specs.declared.{Refusal.Refusal, RequestId.RequestId, RequestReport.RequestReport}
 use Rattle.session.specs.Lifecycle.{open_of}
 use Rattle.session.specs.Said.{opened_said}
-use Rattle.session.specs.declared.{Session.Session, lifecycle.Opened.Opened}
+use Rattle.session.specs.declared.{Recovery.Recovery, Session.Session}
 use Rattle.session.proofs.Said.{open_tabled, acquire_tabled, initialize_tabled, close_tabled, set_device_tabled, set_port_call_tabled, set_endpoints_call_tabled, set_reconcile_tabled}
 use Rattle.reports.specs.Change.{change_of}
 use Rattle.reports.specs.Said.{report_said, next_said, tally_said, part_said, cancel_numbers, reclaim_numbers, withdraw_numbers}
 use Rattle.reports.specs.Status.{status_of, next_of, shown_count, completed_part, held_count_of, tally_of, held_bytes_of}
-use Rattle.reports.specs.declared.{NextReport.NextReport, PartAnswer.PartAnswer, ReportAnswer.ReportAnswer, Tally.Tally}
 use Rattle.reports.proofs.Said.{status_tabled, next_tabled, shown_tabled, held_count_tabled, held_bytes_tabled, part_tabled, change_tabled}
 use Rattle.polls.specs.Poll.{poll_of}
 use Rattle.polls.specs.PollReply.{poll_reply_of}
 use Rattle.polls.specs.Said.{poll_said}
-use Rattle.polls.specs.declared.{PollAnswer.PollAnswer}
 use Rattle.polls.proofs.Said.{poll_tabled, poll_reply_tabled}
 use Rattle.submissions.specs.Plan.{submit_plan_of}
 use Rattle.submissions.specs.Said.{submit_said, plan_said}
 use Rattle.submissions.specs.Submit.{submit_of}
 use Rattle.submissions.specs.SubmitReply.{submit_reply_of}
-use Rattle.submissions.specs.declared.{PlanAnswer.PlanAnswer, SubmitAnswer.SubmitAnswer}
 use Rattle.submissions.proofs.Said.{submit_tabled, submit_plan_tabled, submit_reply_tabled}
 use Rattle.recovery.specs.Recover.{recover_of}
 use Rattle.recovery.specs.RecoveryReply.{recovery_reply_of}
 use Rattle.recovery.specs.Said.{begin_said, recovery_said}
-use Rattle.recovery.specs.declared.{BeginAnswer.BeginAnswer, RecoveryAnswer.RecoveryAnswer}
 use Rattle.recovery.proofs.Said.{recover_tabled, recovery_reply_tabled}
 use Rattle.calls.specs.Answers.{of_opened, of_verdict, of_submit, of_plan, of_report, of_poll, of_next, of_tally, of_part, of_begin, of_recovery}
 use Rattle.calls.specs.Calls.{Placing, Device, Port, Endpoints, Reconcile, Moving, Acquire, Initialize, Close, Beginning, Submit, SubmitPlan, Poll, Recover, Replying, ToSubmit, ToPoll, ToRecovery, Changing, Cancel, Timeout, Reclaim, Withdraw, Reading, Status, Reports, CountReports, CompletedBytes, HeldCount, HeldBytes, Call, Open, Place, Move, Begin, Reply, Change, Read}
 use Rattle.calls.specs.Said.{answer_said, placing_numbers, moving_numbers, beginning_numbers, replying_numbers, changing_numbers, reading_numbers, call_numbers}
 use Rattle.calls.specs.Step.{World, world_store, change_by, placed_of, moved_of, begun_of, replied_of, read_of, step_of}
+use Rattle.reports.specs.declared.{Part.Part}
+use Rattle.recovery.specs.declared.{AbortReport.AbortReport}
+use Rattle.submissions.specs.declared.{PlanSubmission.PlanSubmission, Submission.Submission}
+use Rattle.polls.specs.declared.{PollAnswer.PollAnswer}
 
 -- ---- as the one type of answer an answer says what it says as its own
-opened_same : (x : Opened) (s : Session) → answer_said (of_opened x s).answer ≡ opened_said x
-opened_same (Opened.Refused r) s = refl
-opened_same (Opened.Open n) s = refl
+opened_same : (x : Result Session Refusal) (s : Session) → answer_said (of_opened x s).answer ≡ opened_said x
+opened_same (Err r) s = refl
+opened_same (Ok n) s = refl
 
-verdict_same : (x : Verdict) → answer_said (of_verdict x) ≡ verdict_said x
-verdict_same (Verdict.Refused r) = refl
-verdict_same Verdict.Pass = refl
+verdict_same : (x : Result ⊤ Refusal) → answer_said (of_verdict x) ≡ verdict_said x
+verdict_same (Err r) = refl
+verdict_same (Ok tt) = refl
 
-submit_same : (x : SubmitAnswer) → answer_said (of_submit x) ≡ submit_said x
-submit_same (SubmitAnswer.Refused r) = refl
-submit_same (SubmitAnswer.Begun y) = refl
+submit_same : (x : Result Submission Refusal) → answer_said (of_submit x) ≡ submit_said x
+submit_same (Err r) = refl
+submit_same (Ok y) = refl
 
-plan_same : (x : PlanAnswer) → answer_said (of_plan x) ≡ plan_said x
-plan_same (PlanAnswer.Refused r) = refl
-plan_same (PlanAnswer.Begun y) = refl
+plan_same : (x : Result PlanSubmission Refusal) → answer_said (of_plan x) ≡ plan_said x
+plan_same (Err r) = refl
+plan_same (Ok y) = refl
 
-pub report_same : (x : ReportAnswer) → answer_said (of_report x) ≡ report_said x
-report_same (ReportAnswer.Refused r) = refl
-report_same (ReportAnswer.Report y) = refl
+pub report_same : (x : Result RequestReport Refusal) → answer_said (of_report x) ≡ report_said x
+report_same (Err r) = refl
+report_same (Ok y) = refl
 
-poll_same : (x : PollAnswer) → answer_said (of_poll x) ≡ poll_said x
-poll_same (PollAnswer.Refused r) = refl
-poll_same (PollAnswer.Report y) = refl
-poll_same (PollAnswer.Asked token) = refl
+poll_same : (x : Result PollAnswer Refusal) → answer_said (of_poll x) ≡ poll_said x
+poll_same (Err r) = refl
+poll_same (Ok (PollAnswer.Report y)) = refl
+poll_same (Ok (PollAnswer.Asked token)) = refl
 
-next_same : (x : NextReport) → answer_said (of_next x) ≡ next_said x
-next_same (NextReport.Refused r) = refl
-next_same NextReport.None = refl
-next_same (NextReport.Report y) = refl
+next_same : (x : Result (Option RequestReport) Refusal) → answer_said (of_next x) ≡ next_said x
+next_same (Err r) = refl
+next_same (Ok None) = refl
+next_same (Ok (Some y)) = refl
 
-tally_same : (x : Tally) → answer_said (of_tally x) ≡ tally_said x
-tally_same (Tally.Refused r) = refl
-tally_same (Tally.Number n) = refl
+tally_same : (x : Result ℕ Refusal) → answer_said (of_tally x) ≡ tally_said x
+tally_same (Err r) = refl
+tally_same (Ok n) = refl
 
-part_same : (x : PartAnswer) → answer_said (of_part x) ≡ part_said x
-part_same (PartAnswer.Refused r) = refl
-part_same (PartAnswer.Part p) = refl
+part_same : (x : Result Part Refusal) → answer_said (of_part x) ≡ part_said x
+part_same (Err r) = refl
+part_same (Ok p) = refl
 
-begin_same : (x : BeginAnswer) → answer_said (of_begin x) ≡ begin_said x
-begin_same (BeginAnswer.Refused r) = refl
-begin_same (BeginAnswer.Recover y) = refl
+begin_same : (x : Result Recovery Refusal) → answer_said (of_begin x) ≡ begin_said x
+begin_same (Err r) = refl
+begin_same (Ok y) = refl
 
-pub recovery_same : (x : RecoveryAnswer) → answer_said (of_recovery x) ≡ recovery_said x
-recovery_same (RecoveryAnswer.Refused r) = refl
-recovery_same (RecoveryAnswer.Report y) = refl
+pub recovery_same : (x : Result AbortReport Refusal) → answer_said (of_recovery x) ≡ recovery_said x
+recovery_same (Err r) = refl
+recovery_same (Ok y) = refl
 
 same : (ns : List ℕ) {x y : Said} → x ≡ y → Tabled ns y → Tabled ns x
 same ns e h = subst (Tabled ns) (sym e) h

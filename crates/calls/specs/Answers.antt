@@ -1,62 +1,63 @@
 -- The answer of each call as one type. Assumes nothing.
-use Rattle.std.specs.Prelude.{ℕ, Bool, eqb}
-use Rattle.models.specs.declared.{Verdict.Verdict}
-use Rattle.session.specs.declared.{Session.Session, lifecycle.Opened.Opened}
-use Rattle.submissions.specs.declared.{PlanAnswer.PlanAnswer, SubmitAnswer.SubmitAnswer}
-use Rattle.reports.specs.declared.{NextReport.NextReport, OptionId.OptionId, PartAnswer.PartAnswer, ReportAnswer.ReportAnswer, Tally.Tally}
-use Rattle.polls.specs.declared.{PollAnswer.PollAnswer}
-use Rattle.recovery.specs.declared.{BeginAnswer.BeginAnswer, RecoveryAnswer.RecoveryAnswer}
+use Rattle.std.specs.Prelude.{ℕ, Bool, eqb, Option, Some, None, Result, Ok, Err, ⊤}
+use Rattle.session.specs.declared.{Recovery.Recovery, Session.Session}
 use Rattle.calls.specs.declared.{Answer.Answer, Outcome.Outcome}
+use Rattle.models.specs.declared.{Refusal.Refusal, RequestId.RequestId, RequestReport.RequestReport}
+use Rattle.reports.specs.declared.{Part.Part}
+use Rattle.recovery.specs.declared.{AbortReport.AbortReport}
+use Rattle.submissions.specs.declared.{PlanSubmission.PlanSubmission, Submission.Submission}
+use Rattle.polls.specs.declared.{PollAnswer.PollAnswer}
 
 abbrev pub outcome : Answer → Session → Outcome
 outcome a s = record { answer = a; session = s }
 
 -- a refused opening leaves the session as it is
-abbrev pub of_opened : Opened → Session → Outcome
-of_opened (Opened.Refused r) s = outcome (Answer.Refused r) s
-of_opened (Opened.Open next) s = outcome Answer.Pass next
+abbrev pub of_opened : Result Session Refusal → Session → Outcome
+of_opened (Err r) s = outcome (Answer.Refused r) s
+of_opened (Ok next) s = outcome Answer.Pass next
 
-abbrev pub of_verdict : Verdict → Answer
-of_verdict (Verdict.Refused r) = Answer.Refused r
-of_verdict Verdict.Pass = Answer.Pass
+-- what passes is told by f
+abbrev pub answer_by : {A : Type 0} → (A → Answer) → Result A Refusal → Answer
+answer_by f (Err r) = Answer.Refused r
+answer_by f (Ok x) = f x
 
-abbrev pub of_submit : SubmitAnswer → Answer
-of_submit (SubmitAnswer.Refused r) = Answer.Refused r
-of_submit (SubmitAnswer.Begun x) = Answer.Begun x
+abbrev pub of_verdict : Result ⊤ Refusal → Answer
+of_verdict = answer_by (λ x. Answer.Pass)
 
-abbrev pub of_plan : PlanAnswer → Answer
-of_plan (PlanAnswer.Refused r) = Answer.Refused r
-of_plan (PlanAnswer.Begun x) = Answer.PlanBegun x
+abbrev pub of_submit : Result Submission Refusal → Answer
+of_submit = answer_by (λ x. Answer.Begun x)
 
-abbrev pub of_report : ReportAnswer → Answer
-of_report (ReportAnswer.Refused r) = Answer.Refused r
-of_report (ReportAnswer.Report x) = Answer.Report x
+abbrev pub of_plan : Result PlanSubmission Refusal → Answer
+of_plan = answer_by (λ x. Answer.PlanBegun x)
 
-abbrev pub of_poll : PollAnswer → Answer
-of_poll (PollAnswer.Refused r) = Answer.Refused r
-of_poll (PollAnswer.Report x) = Answer.Report x
-of_poll (PollAnswer.Asked token) = Answer.Asked token
+abbrev pub of_report : Result RequestReport Refusal → Answer
+of_report = answer_by (λ x. Answer.Report x)
 
-abbrev pub of_next : NextReport → Answer
-of_next (NextReport.Refused r) = Answer.Refused r
-of_next NextReport.None = Answer.NoReport
-of_next (NextReport.Report x) = Answer.Report x
+abbrev pub of_polled : PollAnswer → Answer
+of_polled (PollAnswer.Report x) = Answer.Report x
+of_polled (PollAnswer.Asked token) = Answer.Asked token
 
-abbrev pub of_tally : Tally → Answer
-of_tally (Tally.Refused r) = Answer.Refused r
-of_tally (Tally.Number n) = Answer.Number n
+abbrev pub of_poll : Result PollAnswer Refusal → Answer
+of_poll = answer_by of_polled
 
-abbrev pub of_part : PartAnswer → Answer
-of_part (PartAnswer.Refused r) = Answer.Refused r
-of_part (PartAnswer.Part p) = Answer.Bytes p
+abbrev pub of_next_report : Option RequestReport → Answer
+of_next_report None = Answer.NoReport
+of_next_report (Some x) = Answer.Report x
 
-abbrev pub of_begin : BeginAnswer → Answer
-of_begin (BeginAnswer.Refused r) = Answer.Refused r
-of_begin (BeginAnswer.Recover x) = Answer.Recovering x
+abbrev pub of_next : Result (Option RequestReport) Refusal → Answer
+of_next = answer_by of_next_report
 
-abbrev pub of_recovery : RecoveryAnswer → Answer
-of_recovery (RecoveryAnswer.Refused r) = Answer.Refused r
-of_recovery (RecoveryAnswer.Report x) = Answer.Recovered x
+abbrev pub of_tally : Result ℕ Refusal → Answer
+of_tally = answer_by (λ x. Answer.Number x)
+
+abbrev pub of_part : Result Part Refusal → Answer
+of_part = answer_by (λ x. Answer.Bytes x)
+
+abbrev pub of_begin : Result Recovery Refusal → Answer
+of_begin = answer_by (λ x. Answer.Recovering x)
+
+abbrev pub of_recovery : Result AbortReport Refusal → Answer
+of_recovery = answer_by (λ x. Answer.Recovered x)
 
 -- ---- what an answer is
 
@@ -86,15 +87,15 @@ abbrev pub is_recovering : Answer → Bool
 is_recovering a = eqb (answer_tag a) 9
 
 -- the id of a submission that opened its operation
-abbrev pub begun_id : Answer → OptionId
-begun_id (Answer.Refused r) = OptionId.None
-begun_id Answer.Pass = OptionId.None
-begun_id (Answer.Begun x) = OptionId.Some x.id
-begun_id (Answer.PlanBegun x) = OptionId.Some x.id
-begun_id (Answer.Report x) = OptionId.None
-begun_id Answer.NoReport = OptionId.None
-begun_id (Answer.Asked token) = OptionId.None
-begun_id (Answer.Number n) = OptionId.None
-begun_id (Answer.Bytes x) = OptionId.None
-begun_id (Answer.Recovering x) = OptionId.None
-begun_id (Answer.Recovered x) = OptionId.None
+abbrev pub begun_id : Answer → Option RequestId
+begun_id (Answer.Refused r) = None
+begun_id Answer.Pass = None
+begun_id (Answer.Begun x) = Some x.id
+begun_id (Answer.PlanBegun x) = Some x.id
+begun_id (Answer.Report x) = None
+begun_id Answer.NoReport = None
+begun_id (Answer.Asked token) = None
+begun_id (Answer.Number n) = None
+begun_id (Answer.Bytes x) = None
+begun_id (Answer.Recovering x) = None
+begun_id (Answer.Recovered x) = None

@@ -1,15 +1,12 @@
 -- The calls of the library, each with its arguments, the backend's reply and the lent bytes. Assumes nothing.
-use Rattle.std.specs.Prelude.{ℕ, Bool, List}
-use Rattle.words.specs.declared.{OptionU64.OptionU64}
-use Rattle.models.specs.declared.{ControlPlan.ControlPlan, DeviceSnapshot.DeviceSnapshot, OptionError.OptionError, PortReading.PortReading, RequestId.RequestId}
+use Rattle.std.specs.Prelude.{ℕ, Bool, List, Option, Result, ⊤}
+use Rattle.models.specs.declared.{BackendCompletion.BackendCompletion, ControlPlan.ControlPlan, DeviceSnapshot.DeviceSnapshot, OperationError.OperationError, RequestId.RequestId}
 use Rattle.bus.specs.declared.{PortRow.PortRow}
-use Rattle.session.specs.declared.{RecoveryKind.RecoveryKind, lifecycle.AcquireReply.AcquireReply, lifecycle.Opening.Opening}
-use Rattle.reports.specs.declared.{OptionId.OptionId}
-use Rattle.polls.specs.declared.{PollReply.PollReply}
+use Rattle.session.specs.declared.{RecoveryKind.RecoveryKind, lifecycle.AcquireFailure.AcquireFailure, lifecycle.Opening.Opening}
 use Rattle.submissions.specs.Submit.{Request}
-use Rattle.submissions.specs.declared.{SubmitReply.SubmitReply}
 use Rattle.recovery.specs.RecoveryReply.{ReplyLists}
-use Rattle.recovery.specs.declared.{RecoveryReply.RecoveryReply}
+use Rattle.recovery.specs.declared.{BackendAbort.BackendAbort}
+use Rattle.polls.specs.declared.{PollAnswer.PollAnswer}
 
 -- document 01's placing calls
 pub data Placing : Type 0 where
@@ -20,17 +17,17 @@ pub data Placing : Type 0 where
 
 -- what moves the controller's state
 pub data Moving : Type 0 where
-  Acquire : AcquireReply → Moving
-  Initialize : OptionError → Moving
-  Close : OptionU64 → OptionError → Moving
+  Acquire : Result ⊤ AcquireFailure → Moving
+  Initialize : Option OperationError → Moving
+  Close : Option ℕ → Option OperationError → Moving
 
 -- the submission of a control plan
 pub record PlanRequest : Type 0 where
   pub plan : ControlPlan
   pub bytes : List ℕ
-  pub reading : PortReading
+  pub reading : Result ℕ OperationError
 
-abbrev pub plan_request : ControlPlan → List ℕ → PortReading → PlanRequest
+abbrev pub plan_request : ControlPlan → List ℕ → Result ℕ OperationError → PlanRequest
 plan_request q bytes x = record { plan = q; bytes = bytes; reading = x }
 
 -- what asks the backend, and waits for its reply
@@ -43,9 +40,9 @@ pub data Beginning : Type 0 where
 
 -- the backend's reply
 pub data Replying : Type 0 where
-  ToSubmit : SubmitReply → Replying
-  ToPoll : PollReply → List ℕ → Replying
-  ToRecovery : RecoveryReply → ReplyLists → Replying
+  ToSubmit : Result ℕ OperationError → Replying
+  ToPoll : Result (Option BackendCompletion) OperationError → List ℕ → Replying
+  ToRecovery : Result BackendAbort OperationError → ReplyLists → Replying
 
 -- a change of one request
 pub data Changing : Type 0 where
@@ -57,7 +54,7 @@ pub data Changing : Type 0 where
 -- read-only calls
 pub data Reading : Type 0 where
   Status : RequestId → Reading
-  Reports : OptionId → Reading
+  Reports : Option RequestId → Reading
   CountReports : Reading
   CompletedBytes : RequestId → Reading
   HeldCount : Reading

@@ -1,33 +1,31 @@
 -- A call's step: its answer, and the session, the bus, the store and the area after it. One clause a call, in groups, by the definitions that
 -- the calls' own contracts cite. Assumes nothing.
-use Rattle.std.specs.Prelude.{List, [], ◌∷◌, length}
+use Rattle.std.specs.Prelude.{List, [], ◌∷◌, length, None, Result, ⊤}
 use Rattle.chain.specs.After.{After, after}
 use Rattle.rows.specs.Store.{Store}
 use Rattle.rules.specs.declared.Change as rules
 use Rattle.rules.specs.declared.Change.TheVariants as change
 use Rattle.bus.specs.Tables.{Bus}
-use Rattle.words.specs.declared.{OptionU64.OptionU64}
-use Rattle.models.specs.declared.{ControllerState.ControllerState, OptionPorts.OptionPorts, Verdict.Verdict}
+use Rattle.models.specs.declared.{ControllerState.ControllerState, Refusal.Refusal, RequestReport.RequestReport}
 use Rattle.session.specs.Lent.{Memory, Lent, memory, lent}
 use Rattle.session.specs.Lifecycle.{open_of, acquire_of, initialize_of, close_of}
 use Rattle.session.specs.Place.{set_device_of, set_port_of, set_endpoints_of, set_reconcile_of}
-use Rattle.session.specs.declared.{Called.Called, InFlight.InFlight, OptionStall.OptionStall, Session.Session, lifecycle.Opened.Opened}
+use Rattle.session.specs.declared.{Called.Called, InFlight.InFlight, Session.Session}
 use Rattle.submissions.specs.Submit.{submit_of}
 use Rattle.submissions.specs.Plan.{submit_plan_of}
 use Rattle.submissions.specs.SubmitReply.{submit_reply_of}
-use Rattle.submissions.specs.declared.{PlanSubmitted.PlanSubmitted, Submitted.Submitted}
 use Rattle.polls.specs.Poll.{poll_of}
 use Rattle.polls.specs.PollReply.{poll_reply_of}
-use Rattle.polls.specs.declared.{Polled.Polled}
 use Rattle.reports.specs.Change.{change_of}
 use Rattle.reports.specs.Status.{status_of, next_of, shown_count, completed_part, held_count_of, tally_of, held_bytes_of}
-use Rattle.reports.specs.declared.{Reported.Reported}
 use Rattle.recovery.specs.Recover.{recover_of}
 use Rattle.recovery.specs.RecoveryReply.{recovery_reply_of}
 use Rattle.recovery.specs.declared.{Begun.Begun, Replied.Replied}
 use Rattle.calls.specs.Calls.{Placing, Device, Port, Endpoints, Reconcile, Moving, Acquire, Initialize, Close, Beginning, Submit, SubmitPlan, Poll, Recover, Replying, ToSubmit, ToPoll, ToRecovery, Changing, Cancel, Timeout, Reclaim, Withdraw, Reading, Status, Reports, CountReports, CompletedBytes, HeldCount, HeldBytes, Call, Open, Place, Move, Begin, Reply, Change, Read}
 use Rattle.calls.specs.Answers.{outcome, of_opened, of_verdict, of_submit, of_plan, of_report, of_poll, of_next, of_tally, of_part, of_begin, of_recovery}
 use Rattle.calls.specs.declared.{Answer.Answer, Outcome.Outcome}
+use Rattle.submissions.specs.declared.{PlanSubmission.PlanSubmission, Submission.Submission}
+use Rattle.polls.specs.declared.{PollAnswer.PollAnswer}
 
 -- what a call is handed: the session, and what the lent slices say
 pub record World : Type 0 where
@@ -43,10 +41,10 @@ no_session = record {
   number = 0;
   generation = 0;
   next_sequence = 0;
-  ports = OptionPorts.None;
+  ports = None;
   state = ControllerState.Closed;
-  recovery_revision = OptionU64.None;
-  recoverable_stall = OptionStall.None;
+  recovery_revision = None;
+  recoverable_stall = None;
   in_flight = InFlight.Nothing;
   size = record { row_count = 0; row_bytes = 0 };
 }
@@ -65,31 +63,31 @@ abbrev pub on_store : After Outcome Store → World → After Outcome Lent
 on_store o w = on_memory (after o.result (memory o.lent w.lent.memory.area)) w
 
 -- the answer of each kind of call
-abbrev pub opens : After Opened Lent → World → After Outcome Lent
+abbrev pub opens : After (Result Session Refusal) Lent → World → After Outcome Lent
 opens o w = after (of_opened o.result w.session) o.lent
 
-abbrev pub places : After Verdict Bus → World → After Outcome Lent
+abbrev pub places : After (Result ⊤ Refusal) Bus → World → After Outcome Lent
 places o w = on_bus (after (outcome (of_verdict o.result) w.session) o.lent) w
 
-abbrev pub moves : After Called Store → World → After Outcome Lent
+abbrev pub moves : After (Called ⊤) Store → World → After Outcome Lent
 moves o w = on_store (after (outcome (of_verdict o.result.answer) o.result.session) o.lent) w
 
-abbrev pub submits : After Submitted Lent → After Outcome Lent
+abbrev pub submits : After (Called Submission) Lent → After Outcome Lent
 submits o = after (outcome (of_submit o.result.answer) o.result.session) o.lent
 
-abbrev pub plans : After PlanSubmitted Lent → After Outcome Lent
+abbrev pub plans : After (Called PlanSubmission) Lent → After Outcome Lent
 plans o = after (outcome (of_plan o.result.answer) o.result.session) o.lent
 
-abbrev pub polls : Polled → World → After Outcome Lent
+abbrev pub polls : Called PollAnswer → World → After Outcome Lent
 polls o w = after (outcome (of_poll o.answer) o.session) w.lent
 
 abbrev pub begins : Begun → World → After Outcome Lent
 begins o w = after (outcome (of_begin o.answer) o.session) w.lent
 
-abbrev pub reports : After Reported Store → World → After Outcome Lent
+abbrev pub reports : After (Called RequestReport) Store → World → After Outcome Lent
 reports o w = on_store (after (outcome (of_report o.result.answer) o.result.session) o.lent) w
 
-abbrev pub finishes : After Reported Memory → World → After Outcome Lent
+abbrev pub finishes : After (Called RequestReport) Memory → World → After Outcome Lent
 finishes o w = on_memory (after (outcome (of_report o.result.answer) o.result.session) o.lent) w
 
 abbrev pub recovers : After Replied Memory → World → After Outcome Lent
@@ -99,13 +97,13 @@ abbrev pub reads : Answer → World → After Outcome Lent
 reads a w = after (outcome a w.session) w.lent
 
 -- the calls of each group
-unfoldable pub placed_of : Placing → World → After Verdict Bus
+unfoldable pub placed_of : Placing → World → After (Result ⊤ Refusal) Bus
 placed_of (Device d) w = set_device_of d w.session w.lent.bus
 placed_of (Port number row) w = set_port_of number row w.session w.lent.bus
 placed_of (Endpoints slot list) w = set_endpoints_of slot list w.session w.lent.bus
 placed_of (Reconcile slot mark) w = set_reconcile_of slot mark w.session w.lent.bus
 
-unfoldable pub moved_of : Moving → World → After Called Store
+unfoldable pub moved_of : Moving → World → After (Called ⊤) Store
 moved_of (Acquire reply) w = after (acquire_of reply w.session) (world_store w)
 moved_of (Initialize reply) w = after (initialize_of reply w.session) (world_store w)
 moved_of (Close fresh reply) w = close_of fresh reply w.session (world_store w)

@@ -9,7 +9,8 @@ use submissions::{PlanSubmission, Submission};
 
 pub mod answers; // answers.rt: the answer of each call as one type
 
-// What a call answers.
+// What a call answers. A refusal is one of the tags that C reads (docs/CALLS.md) and that the theorem over histories names: so this is one enum,
+// and no `Result`.
 #[derive(Clone, Copy)]
 pub enum Answer {
     Refused(Refusal),

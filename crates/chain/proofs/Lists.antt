@@ -1,4 +1,5 @@
 -- Laws of sums, counts, searches and changes over a list. Assumes nothing.
+use Rattle.std.specs.Prelude.{Option, Some, None}
 use mathlib.Core.Path.{◌≡◌, refl, sym, ap, ◌∙◌}
 use mathlib.Core.Bool.{Bool, true, false, cond, true≢false, ◌||◌, or_assoc}
 use mathlib.Core.List.{List, [], ◌∷◌, ◌++◌, map}
@@ -10,8 +11,6 @@ use lib.Seq.{get_or-set_same}
 use lib.Dec.{eqb}
 use borrow.Author.Tests.{eq-eqb, eqb-true, lt-ltb, le-ltb, ltb-true, ltb-false}
 use Rattle.chain.specs.Lists.{sum_by, only, count, map_at, find, any_in, found_in, is_among, all_in}
-use Rattle.chain.specs.declared.{Found.Found}
-use Rattle.chain.specs.declared.Found.TheVariants.{At, Nothing}
 use Rattle.chain.proofs.Chain.{caseB, both}
 
 module _ {A : Type 0} where
@@ -174,11 +173,11 @@ module _ {A : Type 0} where
         caseB (p x) (λ y. rw y λ k e. absurd (omega arith)) (λ y. rw y λ k e. ap suc (find_here xs i (le_of_suc-le-suc h) (omega arith) e))
 
   -- what the search answers where it stops
-  pub found_at : (p : A → Bool) (l : List A) (i : ℕ) (d : A) → i < length l → i ≤ find p l → p (get_or l i d) ≡ true → At i ≡ found_in p l
+  pub found_at : (p : A → Bool) (l : List A) (i : ℕ) (d : A) → i < length l → i ≤ find p l → p (get_or l i d) ≡ true → Some i ≡ found_in p l
   unfolding found_in
   found_at p l i d h k e = let z = find_here p d l i h k e in rw (lt-ltb (find p l) (length l) (omega arith), z)
 
-  pub found_none : (p : A → Bool) (l : List A) (i : ℕ) → length l ≤ i → i ≤ find p l → Nothing ≡ found_in p l
+  pub found_none : (p : A → Bool) (l : List A) (i : ℕ) → length l ≤ i → i ≤ find p l → None ≡ found_in p l
   unfolding found_in
   found_none p l i h k = rw (le-ltb (find p l) (length l) (omega arith))
 
@@ -188,15 +187,15 @@ module _ {A : Type 0} where
     pub passes : p (get_or l i d) ≡ true
     pub index : i ≡ find p l
 
-  pub place : (p : A → Bool) (l : List A) (d : A) (f : Found) (i : ℕ) → f ≡ found_in p l → f ≡ At i → Place p l d i
+  pub place : (p : A → Bool) (l : List A) (d : A) (f : Option ℕ) (i : ℕ) → f ≡ found_in p l → f ≡ Some i → Place p l d i
   unfolding found_in
   place p l d f i ef e =
       caseB (any_in p l)
-      (λ y. let z : At (find p l) ≡ At i = sym (rw y at ef) ∙ e in
+      (λ y. let z : Some (find p l) ≡ Some i = sym (rw y at ef) ∙ e in
       let q : i ≡ find p l = cc in
       let h : find p l < length l = ltb-true (find p l) (length l) y in
       record { below = omega arith; passes = rw q (find_hit p l d h); index = q })
-      (λ y. let z : Nothing ≡ At i = sym (rw y at ef) ∙ e in let n : ◌≡◌ {A = ℕ} 0 1 = cc in absurd (omega arith))
+      (λ y. let z : None ≡ Some i = sym (rw y at ef) ∙ e in let n : ◌≡◌ {A = ℕ} 0 1 = cc in absurd (omega arith))
 
   -- the place stays where what passes is put there
   find-set : (p : A → Bool) (l : List A) (i : ℕ) (r : A) → i < length l → i ≤ find p l → p r ≡ true → find p (set l i r) ≡ i
@@ -205,9 +204,9 @@ module _ {A : Type 0} where
   find-set p (x ∷ xs) (suc i) r h =
       caseB (p x) (λ y. rw y λ k e. absurd (omega arith)) (λ y. rw y λ k e. ap suc (find-set p xs i r (le_of_suc-le-suc h) (omega arith) e))
 
-  pub found_set : (p : A → Bool) (l : List A) (i : ℕ) (r d : A) → found_in p l ≡ At i → p r ≡ true → found_in p (set l i r) ≡ At i
+  pub found_set : (p : A → Bool) (l : List A) (i : ℕ) (r d : A) → found_in p l ≡ Some i → p r ≡ true → found_in p (set l i r) ≡ Some i
   found_set p l i r d f e =
-      let z = place p l d (At i) i (sym f) refl in
+      let z = place p l d (Some i) i (sym f) refl in
       let k : find p (set l i r) ≡ i = find-set p l i r z.below (omega (arith, z.index)) e in
       sym (found_at p (set l i r) i d (omega (arith, z.below, length-set l i r)) (omega arith) (rw (get_or-set_same l i r d z.below) e))
 

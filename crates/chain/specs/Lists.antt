@@ -1,7 +1,5 @@
 -- Sums, counts, searches and changes over a list, for any type of element. Assumes nothing.
-use Rattle.std.specs.Prelude.{ℕ, suc, ◌+◌, Bool, true, cond, ◌&&◌, List, [], ◌∷◌, ◌++◌, length, take, drop, replicate, eqb, ltb}
-use Rattle.chain.specs.declared.{Found.Found}
-use Rattle.chain.specs.declared.Found.TheVariants.{At, Nothing}
+use Rattle.std.specs.Prelude.{ℕ, suc, ◌+◌, Bool, true, cond, ◌&&◌, List, [], ◌∷◌, ◌++◌, length, take, drop, replicate, eqb, ltb, Option, Some, None}
 
 module _ {A : Type 0} where
   abbrev pub sum_by : (A → ℕ) → List A → ℕ
@@ -31,8 +29,8 @@ module _ {A : Type 0} where
   any_in p l = ltb (find p l) (length l)
 
   -- the answer of a search
-  unfoldable pub found_in : (A → Bool) → List A → Found
-  found_in p l = cond (any_in p l) (At (find p l)) Nothing
+  unfoldable pub found_in : (A → Bool) → List A → Option ℕ
+  found_in p l = cond (any_in p l) (Some (find p l)) None
 
   -- a fixed list of n: the first n of l, and z in the places that are left
   unfoldable pub listed : ℕ → A → List A → List A

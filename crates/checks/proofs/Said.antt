@@ -1,24 +1,24 @@
 -- Every number that a check of packets, of a request, of a plan or of a completion refuses by is in its list. Assumes nothing.
+use Rattle.std.specs.Prelude.{Option, Result, Ok, Err, ⊤}
 use Prim.Native.Nat.{ℕ}
 use mathlib.Core.Bool.{Bool, true}
 use mathlib.Core.List.{List}
 use mathlib.Core.Path.{◌≡◌, refl}
 use Rattle.chain.specs.Lists.{is_among}
 use Rattle.chain.proofs.Chain.{if_all}
-use Rattle.words.specs.declared.{OptionU32.OptionU32}
 use Rattle.models.specs.Refusals.{rejected}
 use Rattle.models.specs.Said.{Tabled, verdict_said}
-use Rattle.models.specs.declared.{BackendCompletion.BackendCompletion, ControlPlan.ControlPlan, RequestSpec.RequestSpec, TransferType.TransferType, Verdict.Verdict}
+use Rattle.models.specs.declared.{BackendCompletion.BackendCompletion, ControlPlan.ControlPlan, Refusal.Refusal, RequestMetadata.RequestMetadata, RequestSpec.RequestSpec, TransferType.TransferType}
 use Rattle.models.proofs.Said.{tabled_says, tabled_own, tabled_code, tabled_stop, said_of}
 use Rattle.checks.specs.Completion.{test_completion}
 use Rattle.checks.specs.Packets.{packets_checked}
 use Rattle.checks.specs.Plan.{plan_facts, payload_checked, stages_checked, size_checked, plan_checked, planned_if, planned}
 use Rattle.checks.specs.Prepare.{spec_facts, data_checked, control_checked, other_checked, spec_checked, prepared_if, prepared}
 use Rattle.checks.specs.Said.{prepared_said, planned_said, test_said, packets_numbers, prepare_numbers, plan_numbers, completion_numbers}
-use Rattle.checks.specs.declared.{completion.CompletionTest.CompletionTest, plan.PlanFacts.PlanFacts, plan.Planned.Planned, prepare.Prepared.Prepared, prepare.SpecFacts.SpecFacts}
+use Rattle.checks.specs.declared.{completion.CompletionFault.CompletionFault, completion.ValidCompletion.ValidCompletion, plan.PlanFacts.PlanFacts, plan.ValidatedControlPlan.ValidatedControlPlan, prepare.SpecFacts.SpecFacts}
 
 -- a check by n, then the others
-abbrev Of : List ℕ → Verdict → Type 0
+abbrev Of : List ℕ → Result ⊤ Refusal → Type 0
 Of ns v = Tabled ns (verdict_said v)
 
 module _ (given : Bool) (packets : List ℕ) (type : TransferType) (size : ℕ) where
@@ -29,7 +29,7 @@ module _ (given : Bool) (packets : List ℕ) (type : TransferType) (size : ℕ) 
       (tabled_stop _ 4 refl _ _ (tabled_stop _ 4 refl _ _ (tabled_stop _ 4 refl _ _ (tabled_says _ _))))
 
 -- a verdict by its number
-pub rejected_tabled : (ns : List ℕ) (n : ℕ) (v : Verdict) → is_among n ns ≡ true → v ≡ rejected n → Tabled ns (verdict_said v)
+pub rejected_tabled : (ns : List ℕ) (n : ℕ) (v : Result ⊤ Refusal) → is_among n ns ≡ true → v ≡ rejected n → Tabled ns (verdict_said v)
 rejected_tabled ns n v h e = rw e (tabled_own ns n h)
 
 module _ (v : SpecFacts) where
@@ -54,17 +54,17 @@ module _ (v : SpecFacts) where
       (if_all (Of prepare_numbers) _ _ _ control_tabled other_tabled)))
 
 module _ (q : RequestSpec) (m row : ℕ) where
-  prepared_by : (v : Verdict) → Of prepare_numbers v → Tabled prepare_numbers (prepared_said (prepared_if v q))
+  prepared_by : (v : Result ⊤ Refusal) → Of prepare_numbers v → Tabled prepare_numbers (prepared_said (prepared_if v q))
   unfolding prepared_if
-  prepared_by (Verdict.Refused r) h = h
-  prepared_by Verdict.Pass h = tabled_says _ _
+  prepared_by (Err r) h = h
+  prepared_by (Ok tt) h = tabled_says _ _
 
   pub prepared_tabled : Tabled prepare_numbers (prepared_said (prepared q m row))
   unfolding prepared
   prepared_tabled = prepared_by (spec_checked (spec_facts q m row)) (spec_tabled _)
 
-  pub prepared_said_lem : (x : Prepared) → x ≡ prepared q m row → (x ≡ prepared q m row) × Tabled prepare_numbers (prepared_said x)
-  prepared_said_lem x e = said_of (λ (y : Prepared). Tabled prepare_numbers (prepared_said y)) _ _ e prepared_tabled
+  pub prepared_said_lem : (x : Result RequestMetadata Refusal) → x ≡ prepared q m row → (x ≡ prepared q m row) × Tabled prepare_numbers (prepared_said x)
+  prepared_said_lem x e = said_of (λ (y : Result RequestMetadata Refusal). Tabled prepare_numbers (prepared_said y)) _ _ e prepared_tabled
 
 module _ (v : PlanFacts) where
   payload_tabled : Of plan_numbers (payload_checked v)
@@ -84,23 +84,23 @@ module _ (v : PlanFacts) where
   plan_tabled = tabled_stop _ 18 refl _ _ (tabled_stop _ 19 refl _ _ (tabled_stop _ 20 refl _ _ size_tabled))
 
 module _ (q : ControlPlan) (m row : ℕ) where
-  planned_by : (v : Verdict) → Of plan_numbers v → Tabled plan_numbers (planned_said (planned_if v q))
+  planned_by : (v : Result ⊤ Refusal) → Of plan_numbers v → Tabled plan_numbers (planned_said (planned_if v q))
   unfolding planned_if
-  planned_by (Verdict.Refused r) h = h
-  planned_by Verdict.Pass h = tabled_says _ _
+  planned_by (Err r) h = h
+  planned_by (Ok tt) h = tabled_says _ _
 
   pub planned_tabled : Tabled plan_numbers (planned_said (planned q m row))
   unfolding planned
   planned_tabled = planned_by (plan_checked (plan_facts q m row)) (plan_tabled _)
 
-  pub planned_said_lem : (x : Planned) → x ≡ planned q m row → (x ≡ planned q m row) × Tabled plan_numbers (planned_said x)
-  planned_said_lem x e = said_of (λ (y : Planned). Tabled plan_numbers (planned_said y)) _ _ e planned_tabled
+  pub planned_said_lem : (x : Result ValidatedControlPlan Refusal) → x ≡ planned q m row → (x ≡ planned q m row) × Tabled plan_numbers (planned_said x)
+  planned_said_lem x e = said_of (λ (y : Result ValidatedControlPlan Refusal). Tabled plan_numbers (planned_said y)) _ _ e planned_tabled
 
-pub test_tabled : (code : OptionU32) (t : CompletionTest) → Tabled completion_numbers (test_said code t)
-test_tabled code (CompletionTest.Valid actual n) = tabled_says _ _
-test_tabled code CompletionTest.MissingLength = tabled_own _ 47 refl
-test_tabled code CompletionTest.Invalid = tabled_code _ code refl
+pub test_tabled : (code : Option ℕ) (t : Result ValidCompletion CompletionFault) → Tabled completion_numbers (test_said code t)
+test_tabled code (Ok v) = tabled_says _ _
+test_tabled code (Err CompletionFault.MissingLength) = tabled_own _ 47 refl
+test_tabled code (Err CompletionFault.Invalid) = tabled_code _ code refl
 
-pub test_said_lem : (c : BackendCompletion) (given requested : ℕ) (x : CompletionTest) → x ≡ test_completion c given requested
+pub test_said_lem : (c : BackendCompletion) (given requested : ℕ) (x : Result ValidCompletion CompletionFault) → x ≡ test_completion c given requested
     → (x ≡ test_completion c given requested) × Tabled completion_numbers (test_said c.completion_code x)
 test_said_lem c given requested x e = (e, test_tabled c.completion_code x)

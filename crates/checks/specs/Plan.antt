@@ -1,38 +1,38 @@
 -- The place plan of document 01's table, in its order. Assumes nothing.
-use Rattle.std.specs.Prelude.{ℕ, Bool, true, false, cond, not, ◌&&◌, ◌||◌, eqb, ltb}
+use Rattle.std.specs.Prelude.{ℕ, Bool, true, false, cond, not, ◌&&◌, ◌||◌, eqb, ltb, Option, Some, None, Result, Ok, Err, ⊤}
 use Rattle.std.specs.Bool.{beq}
 use Rattle.chain.specs.Chain.{◌if◌else◌}
 use Rattle.models.specs.Kinds.{is_in}
 use Rattle.models.specs.Refusals.{rejected}
-use Rattle.models.specs.declared.{ControlPlan.ControlPlan, ControlProfile.ControlProfile, DataStage.DataStage, Direction.Direction, OptionDirection.OptionDirection, OptionSetup.OptionSetup, OptionStage.OptionStage, Verdict.Verdict}
+use Rattle.models.specs.declared.{ControlPlan.ControlPlan, ControlProfile.ControlProfile, DataStage.DataStage, Direction.Direction, Refusal.Refusal}
 use Rattle.models.specs.declared.ControlProfile.TheVariants.{Compliant, DeviceCompatibility}
 use Rattle.models.specs.declared.Direction.TheVariants.{In, Out}
 use Rattle.models.specs.declared.TransferType.TheVariants.{Control}
 use Rattle.standards.specs.Setup.{request_direction, request_kind, recipient_of}
 use Rattle.checks.specs.Prepare.{within_row, is_reserved, is_wrong_data}
-use Rattle.checks.specs.declared.{plan.PlanFacts.PlanFacts, plan.Planned.Planned, plan.ValidatedControlPlan.ValidatedControlPlan}
+use Rattle.checks.specs.declared.{plan.PlanFacts.PlanFacts, plan.ValidatedControlPlan.ValidatedControlPlan}
 
-abbrev pub has_status : OptionDirection → Bool
-has_status OptionDirection.None = false
-has_status (OptionDirection.Some d) = true
+abbrev pub has_status : Option Direction → Bool
+has_status None = false
+has_status (Some d) = true
 
 -- the status direction; In, which no check looks at, where there is none
-abbrev pub status_or_in : OptionDirection → Direction
-status_or_in OptionDirection.None = In
-status_or_in (OptionDirection.Some d) = d
+abbrev pub status_or_in : Option Direction → Direction
+status_or_in None = In
+status_or_in (Some d) = d
 
 abbrev pub is_compliant : ControlProfile → Bool
 is_compliant Compliant = true
 is_compliant DeviceCompatibility = false
 
-abbrev pub has_stage : OptionStage → Bool
-has_stage OptionStage.None = false
-has_stage (OptionStage.Some s) = true
+abbrev pub has_stage : Option DataStage → Bool
+has_stage None = false
+has_stage (Some s) = true
 
 -- no data stage means length 0 in the SETUP's direction
-abbrev pub stage_of : OptionStage → ℕ → DataStage
-stage_of OptionStage.None type = record { direction = request_direction type; length = 0 }
-stage_of (OptionStage.Some s) type = s
+abbrev pub stage_of : Option DataStage → ℕ → DataStage
+stage_of None type = record { direction = request_direction type; length = 0 }
+stage_of (Some s) type = s
 
 -- Compliant status is OUT after a non-empty IN stage, else IN
 abbrev pub compliant_status : DataStage → Direction
@@ -59,14 +59,14 @@ plan_facts q m row = record {
 }
 
 -- all: 24 data; 25 payload without stage
-unfoldable pub payload_checked : PlanFacts → Verdict
+unfoldable pub payload_checked : PlanFacts → Result ⊤ Refusal
 payload_checked v =
     rejected 24 if is_wrong_data v.inward v.data_length v.length else
     rejected 25 if not v.has_stage && not (eqb v.data_length 0) else
-    Verdict.Pass
+    (Ok tt)
 
 -- Compliant: 21U as 13; 22 stages; 23 status
-unfoldable pub stages_checked : PlanFacts → Verdict
+unfoldable pub stages_checked : PlanFacts → Result ⊤ Refusal
 stages_checked v =
     rejected 21 if is_reserved v.recipient v.kind else
     rejected 22
@@ -76,11 +76,11 @@ stages_checked v =
     payload_checked v
 
 -- 6; 7
-unfoldable pub size_checked : PlanFacts → Verdict
+unfoldable pub size_checked : PlanFacts → Result ⊤ Refusal
 size_checked v = within_row v.length v.row_bytes (stages_checked v if v.compliant else payload_checked v)
 
 -- 18U no status; 19U type 0 request 5; 20U type 0 request 9 or type 1 request 11
-unfoldable pub plan_checked : PlanFacts → Verdict
+unfoldable pub plan_checked : PlanFacts → Result ⊤ Refusal
 plan_checked v =
     rejected 18 if not v.has_status else
     rejected 19 if eqb v.request_type 0 && eqb v.request 5 else
@@ -96,7 +96,7 @@ plan_of q = record {
     transfer_type = Control;
     direction = (stage_of q.data_stage q.setup.request_type).direction;
     requested_length = (stage_of q.data_stage q.setup.request_type).length;
-    setup = OptionSetup.Some q.setup;
+    setup = Some q.setup;
   };
   has_data = has_stage q.data_stage;
   data_direction = (stage_of q.data_stage q.setup.request_type).direction;
@@ -104,9 +104,9 @@ plan_of q = record {
   profile = q.profile;
 }
 
-unfoldable pub planned_if : Verdict → ControlPlan → Planned
-planned_if (Verdict.Refused r) q = Planned.Refused r
-planned_if Verdict.Pass q = Planned.Ready (plan_of q)
+unfoldable pub planned_if : Result ⊤ Refusal → ControlPlan → Result ValidatedControlPlan Refusal
+planned_if (Err r) q = Err r
+planned_if (Ok tt) q = Ok (plan_of q)
 
-unfoldable pub planned : ControlPlan → ℕ → ℕ → Planned
+unfoldable pub planned : ControlPlan → ℕ → ℕ → Result ValidatedControlPlan Refusal
 planned q m row = planned_if (plan_checked (plan_facts q m row)) q

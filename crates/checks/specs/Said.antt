@@ -1,17 +1,16 @@
 -- What the checks of a request, a plan and a completion answer, and the numbers of their places in the table. Assumes nothing.
-use Rattle.std.specs.Prelude.{ℕ, List, [], ◌∷◌}
+use Rattle.std.specs.Prelude.{ℕ, List, [], ◌∷◌, Option, Result, Ok, Err}
 use Rattle.words.specs.Words.{flag_word}
-use Rattle.words.specs.declared.{OptionU32.OptionU32}
 use Rattle.models.specs.Codes.{direction_word, profile_word}
 use Rattle.models.specs.Refusals.{refusal_of, invalid_completion}
-use Rattle.models.specs.Said.{Said, says, refused}
+use Rattle.models.specs.Said.{Said, says, refused, said_by}
 use Rattle.models.specs.Values.{metadata_tail}
 use Rattle.standards.specs.Setup.{packet_of, setup_bytes}
-use Rattle.checks.specs.declared.{completion.CompletionTest.CompletionTest, plan.Planned.Planned, plan.ValidatedControlPlan.ValidatedControlPlan, prepare.Prepared.Prepared}
+use Rattle.checks.specs.declared.{completion.CompletionFault.CompletionFault, completion.ValidCompletion.ValidCompletion, plan.ValidatedControlPlan.ValidatedControlPlan}
+use Rattle.models.specs.declared.{Refusal.Refusal, RequestMetadata.RequestMetadata}
 
-abbrev pub prepared_said : Prepared → Said
-prepared_said (Prepared.Refused r) = refused r
-prepared_said (Prepared.Ready m) = says (metadata_tail m [])
+abbrev pub prepared_said : Result RequestMetadata Refusal → Said
+prepared_said = said_by (λ m. metadata_tail m [])
 
 -- has data, its direction, the status stage's, profile
 abbrev pub stage_tail : ValidatedControlPlan → List ℕ → List ℕ
@@ -22,15 +21,14 @@ stage_tail p rest =
 abbrev pub validated_words : ValidatedControlPlan → List ℕ
 validated_words p = metadata_tail p.metadata (stage_tail p (setup_bytes (packet_of p.metadata.setup)))
 
-abbrev pub planned_said : Planned → Said
-planned_said (Planned.Refused r) = refused r
-planned_said (Planned.Ready p) = says (validated_words p)
+abbrev pub planned_said : Result ValidatedControlPlan Refusal → Said
+planned_said = said_by validated_words
 
 -- of a completion with this code: the length and the code, 47, or 48 with the code
-abbrev pub test_said : OptionU32 → CompletionTest → Said
-test_said code (CompletionTest.Valid actual n) = says (actual ∷ n ∷ [])
-test_said code CompletionTest.MissingLength = refused (refusal_of 47)
-test_said code CompletionTest.Invalid = refused (invalid_completion code)
+abbrev pub test_said : Option ℕ → Result ValidCompletion CompletionFault → Said
+test_said code (Ok v) = says (v.actual_length ∷ v.completion_code ∷ [])
+test_said code (Err CompletionFault.MissingLength) = refused (refusal_of 47)
+test_said code (Err CompletionFault.Invalid) = refused (invalid_completion code)
 
 abbrev pub packets_numbers : List ℕ
 packets_numbers = 4 ∷ []

@@ -15,7 +15,7 @@ pub fn put_number(out: &mut [u8], at: usize, n: u64) -> usize
 {
     let mut digits = [0u8; 20];
     let k = io::decimal(n, &mut digits);
-    slices::copy_bytes(out, at, &digits[..k], k);
+    slices::copy(out, at, &digits[..k], k);
     at + k
 }
 

@@ -1,4 +1,5 @@
 -- One law for each way out of a call in place: its premises are the facts in hand there. Assumes nothing.
+use Rattle.std.specs.Prelude.{Option, Some, None, Result, Ok, Err, ⊤}
 use Prim.Native.Nat.{ℕ}
 use mathlib.Core.Bool.{Bool, true, false, not}
 use mathlib.Core.List.{List, ◌∷◌}
@@ -8,11 +9,10 @@ use borrow.Author.Tests.{not-true}
 use Rattle.chain.specs.After.{After, after}
 use Rattle.chain.specs.Chain.{◌if◌else◌}
 use Rattle.chain.specs.Lists.{found_in}
-use Rattle.chain.specs.declared.{Found.Found}
-use Rattle.chain.proofs.Chain.{both, not_through, fits_told}
-use Rattle.models.specs.Refusals.{refusal_of}
+use Rattle.chain.proofs.Chain.{takes, passes, both, not_through, fits_told}
+use Rattle.models.specs.Refusals.{refusal_of, pass}
 use Rattle.models.specs.Requests.{same_request, is_pending}
-use Rattle.models.specs.declared.{Refusal.Refusal, RequestId.RequestId, Verdict.Verdict}
+use Rattle.models.specs.declared.{Refusal.Refusal, RequestId.RequestId, RequestReport.RequestReport}
 use Rattle.rows.specs.Table.{empty_row, row_in, report_of, is_pending_row}
 use Rattle.rows.specs.Values.{report_values}
 use Rattle.rows.specs.Store.{Store, put_in}
@@ -20,7 +20,6 @@ use Rattle.rows.specs.declared.{Row.Row}
 use Rattle.rules.specs.declared.{Change.Change}
 use Rattle.ledger.specs.Apply.{apply_of}
 use Rattle.ledger.specs.Search.{is_at}
-use Rattle.ledger.specs.declared.{Applied.Applied, in_place.Placed.Placed}
 use Rattle.ledger.specs.InPlace.{apply_placed, reported_at, freed_at}
 use Rattle.ledger.proofs.Found.{found_row}
 use Rattle.ledger.proofs.in_place.Laws as places
@@ -28,17 +27,13 @@ use Rattle.session.specs.Lent.{store_fits}
 use Rattle.session.specs.Session.{is_busy, is_initialized, with_flight}
 use Rattle.session.specs.Sizes.{rows_fit}
 use Rattle.session.specs.Start.{guarded, ready_of}
-use Rattle.session.specs.declared.{InFlight.InFlight, Session.Session, Size.Size}
+use Rattle.session.specs.declared.{Called.Called, InFlight.InFlight, Session.Session, Size.Size}
 use Rattle.session.proofs.start.Laws as start
-use Rattle.polls.specs.Poll.{poll_refused, poll_row, poll_of}
-use Rattle.polls.specs.declared.{PollAnswer.PollAnswer, Polled.Polled}
+use Rattle.polls.specs.Poll.{poll_row, poll_of}
 use Rattle.polls.proofs.poll.Laws as polls
-use Rattle.reports.specs.Answers.{report_refused}
 use Rattle.reports.specs.Change.{reported_by, change_of}
-use Rattle.reports.specs.Status.{is_submitting, shown_at, status_of}
-use Rattle.reports.specs.declared.{ReportAnswer.ReportAnswer, Reported.Reported}
+use Rattle.reports.specs.Status.{is_submitting, shown_at, status_by, status_of}
 use Rattle.reports.proofs.change.Laws as change
-use Rattle.reports.proofs.status.Laws as status
 use Rattle.session_words.specs.Fields.{is_submit_flight, flight_id}
 use Rattle.session_words.specs.State.{read_session, is_session, kept_of, kept_as}
 use Rattle.session_words.proofs.Own.{written_same}
@@ -46,6 +41,8 @@ use Rattle.calls.specs.Answers.{of_report, of_poll}
 use Rattle.calls.specs.declared.{Answer.Answer}
 use Rattle.answer_words.specs.Encode.{report_words, written}
 use Rattle.direct.specs.Direct.{told, of_applied, applied_told, reported_told, polled_told}
+use Rattle.polls.specs.declared.{PollAnswer.PollAnswer}
+use Rattle.session.specs.Called.{call_refused}
 
 -- ---- what the words of a session say
 pub fits_is : (l : List ℕ) (z : Size) (words : ℕ) (r : Bool) → z ≡ (read_session l).size → r ≡ rows_fit z words → r ≡ rows_fit (read_session l).size words
@@ -82,22 +79,22 @@ module _ (f : InFlight) (b : Bool) (eb : b ≡ is_submit_flight f) where
 
 -- the start of a call
 module _ (s : Session) (fits f b : Bool) (eb : b ≡ is_busy s.in_flight) where
-  pub start_unfit : (r : Refusal) → b ≡ false → f ≡ fits → not f ≡ true → r ≡ refusal_of 3 → Verdict.Refused r ≡ ready_of s fits
+  pub start_unfit : (r : Refusal) → b ≡ false → f ≡ fits → not f ≡ true → r ≡ refusal_of 3 → Err r ≡ ready_of s fits
   start_unfit r nb ef t er = start.ready_unfit s fits b eb nb r (not_through f fits true ef t) er
 
-  pub start_pass : b ≡ false → f ≡ fits → not f ≡ false → Verdict.Pass ≡ ready_of s fits
+  pub start_pass : b ≡ false → f ≡ fits → not f ≡ false → (Ok tt) ≡ ready_of s fits
   start_pass nb ef t = start.ready_pass s fits b eb nb (not_through f fits false ef t)
 
-idle_by : (b f : Bool) → (Verdict.Refused (refusal_of 1) if b else Verdict.Refused (refusal_of 3) if not f else Verdict.Pass) ≡ Verdict.Pass → b ≡ false
+idle_by : (b f : Bool) → (Err (refusal_of 1) if b else Err (refusal_of 3) if not f else pass) ≡ pass → b ≡ false
 unfolding ◌if◌else◌
 idle_by true f e = let z : ◌≡◌ {A = ℕ} 0 1 = cc in absurd (omega arith)
 idle_by false f e = refl
 
 -- ---- what is written
-applied_answer : (a : Applied) (s : Session) → of_applied a ≡ of_report (reported_by a s).answer
+applied_answer : (a : Result RequestReport Refusal) (s : Session) → of_applied a ≡ of_report (reported_by a s).answer
 unfolding reported_by
-applied_answer (Applied.Refused r) s = refl
-applied_answer (Applied.Done x) s = refl
+applied_answer (Err r) s = refl
+applied_answer (Ok x) s = refl
 
 module _ (out after-out : List ℕ) where
   pub refused_by_lem : (r : Refusal) (n : ℕ) → r ≡ refusal_of n → after-out ≡ told (Answer.Refused r) out → after-out ≡ told (Answer.Refused (refusal_of n)) out
@@ -109,55 +106,58 @@ module _ (out after-out : List ℕ) where
 
   -- a status
   module _ (id : RequestId) (s : Session) (store : Store) (f : Bool) (ef : f ≡ store_fits s.size store) where
-    by_status : (x : ReportAnswer) → x ≡ status_of id s store → after-out ≡ told (of_report x) out → after-out ≡ told (of_report (status_of id s store)) out
-    by_status x e eo = eo ∙ ap (λ (z : ReportAnswer). told (of_report z) out) e
+    by_status : (x : Result RequestReport Refusal) → x ≡ status_of id s store → after-out ≡ told (of_report x) out → after-out ≡ told (of_report (status_of id s store)) out
+    by_status x e eo = eo ∙ ap (λ (z : Result RequestReport Refusal). told (of_report z) out) e
 
     pub status_unfit : not f ≡ true → after-out ≡ told (Answer.Refused (refusal_of 3)) out → after-out ≡ told (of_report (status_of id s store)) out
-    status_unfit t = by_status _ (status.status_unfit id s store f ef _ t refl)
+    unfolding status_of
+    status_unfit t = by_status _ (takes (Result RequestReport Refusal) _ _ _ _ (not_through f _ true ef t) refl)
 
-    module _ (nf : not f ≡ false) (g : Found) (eg : g ≡ shown_at s.in_flight id store.rows) where
-      pub status_none : g ≡ Found.Nothing → after-out ≡ told (Answer.Refused (refusal_of 40)) out → after-out ≡ told (of_report (status_of id s store)) out
-      status_none t = by_status _ (status.status_none id s store f ef nf g eg _ t refl)
+    module _ (nf : not f ≡ false) (g : Option ℕ) (eg : g ≡ shown_at s.in_flight id store.rows) where
+      pub status_none : g ≡ None → after-out ≡ told (Answer.Refused (refusal_of 40)) out → after-out ≡ told (of_report (status_of id s store)) out
+      unfolding status_of status_by
+      status_none t = by_status (Err (refusal_of 40)) (passes (Result RequestReport Refusal) _ _ _ _ (not_through f _ false ef nf) (rw (sym eg ∙ t)))
 
-      pub status_at : (i : ℕ) → g ≡ Found.At i → after-out ≡ told (Answer.Report (report_of (row_in store.rows i))) out
+      pub status_at : (i : ℕ) → g ≡ Some i → after-out ≡ told (Answer.Report (report_of (row_in store.rows i))) out
           → after-out ≡ told (of_report (status_of id s store)) out
-      status_at i t = by_status _ (status.status_at id s store f ef nf g eg i _ _ t refl refl)
+      unfolding status_of status_by
+      status_at i t = by_status (Ok (report_of (row_in store.rows i))) (passes (Result RequestReport Refusal) _ _ _ _ (not_through f _ false ef nf) (rw (sym eg ∙ t)))
 
   -- where a row stands
-  module _ (p : Placed) where
-    pub placed_none : (rows : List Row) (r : Refusal) → p ≡ Placed.Refused r → after-out ≡ told (Answer.Refused r) out
+  module _ (p : Result ℕ Refusal) where
+    pub placed_none : (rows : List Row) (r : Refusal) → p ≡ Err r → after-out ≡ told (Answer.Refused r) out
         → after-out ≡ told (of_applied (reported_at p rows)) out
     placed_none rows r e eo = eo ∙ rw e
 
-    pub placed_at : (rows : List Row) (i : ℕ) → p ≡ Placed.At i → after-out ≡ told (Answer.Report (report_of (row_in rows i))) out
+    pub placed_at : (rows : List Row) (i : ℕ) → p ≡ Ok i → after-out ≡ told (Answer.Report (report_of (row_in rows i))) out
         → after-out ≡ told (of_applied (reported_at p rows)) out
     placed_at rows i e eo = eo ∙ rw e
 
-    pub freed_none : (s : Store) (r : Refusal) → p ≡ Placed.Refused r → after-out ≡ told (Answer.Refused r) out
+    pub freed_none : (s : Store) (r : Refusal) → p ≡ Err r → after-out ≡ told (Answer.Refused r) out
         → after after-out s ≡ applied_told (freed_at p s) out
     freed_none s r e eo = rw (e, eo)
 
-    pub freed_at_lem : (s left : Store) (i : ℕ) → p ≡ Placed.At i → after-out ≡ told (Answer.Report (report_of (row_in s.rows i))) out
+    pub freed_at_lem : (s left : Store) (i : ℕ) → p ≡ Ok i → after-out ≡ told (Answer.Report (report_of (row_in s.rows i))) out
         → left ≡ put_in s i empty_row → after after-out left ≡ applied_told (freed_at p s) out
     freed_at_lem s left i e eo el = rw (e, eo, el)
 
   -- a change
-  module _ (id : RequestId) (c : Change) (s : Session) (store : Store) (v : Verdict) (ev : v ≡ ready_of s (store_fits s.size store)) where
-    pub change_stop : (r : Refusal) → v ≡ Verdict.Refused r → after-out ≡ told (Answer.Refused r) out
+  module _ (id : RequestId) (c : Change) (s : Session) (store : Store) (v : Result ⊤ Refusal) (ev : v ≡ ready_of s (store_fits s.size store)) where
+    pub change_stop : (r : Refusal) → v ≡ Err r → after-out ≡ told (Answer.Refused r) out
         → after after-out store ≡ reported_told (change_of id c s store) out
     change_stop r e eo =
         ap (λ (z : List ℕ). after z store) eo
-        ∙ ap (λ (z : After Reported Store). reported_told z out) (change.change_stop id c s store (report_refused s r) v ev r e refl)
+        ∙ ap (λ (z : After (Called RequestReport) Store). reported_told z out) (change.change_stop id c s store (call_refused s r) v ev r e refl)
 
-    change_on : (a : Applied) (left : Store) → v ≡ Verdict.Pass → after a left ≡ apply_of id c store → after-out ≡ told (of_applied a) out
+    change_on : (a : Result RequestReport Refusal) (left : Store) → v ≡ (Ok tt) → after a left ≡ apply_of id c store → after-out ≡ told (of_applied a) out
         → after after-out left ≡ reported_told (change_of id c s store) out
     change_on a left e ea eo =
         ap (λ (z : List ℕ). after z left) (eo ∙ ap (λ (z : Answer). told z out) (applied_answer a s))
-        ∙ ap (λ (z : After Reported Store). reported_told z out) (change.change_on id c s store (reported_by a s) v ev a left e ea refl)
+        ∙ ap (λ (z : After (Called RequestReport) Store). reported_told z out) (change.change_on id c s store (reported_by a s) v ev a left e ea refl)
 
   -- by the row's place
-  module _ (id : RequestId) (s : Session) (store : Store) (v : Verdict) (ev : v ≡ ready_of s (store_fits s.size store)) (p : Placed) (left : Store)
-      (e : v ≡ Verdict.Pass) where
+  module _ (id : RequestId) (s : Session) (store : Store) (v : Result ⊤ Refusal) (ev : v ≡ ready_of s (store_fits s.size store)) (p : Result ℕ Refusal) (left : Store)
+      (e : v ≡ (Ok tt)) where
     pub cancel_on : after p left ≡ apply_placed id Change.LogicalCancel store → after-out ≡ told (of_applied (reported_at p left.rows)) out
         → after after-out left ≡ reported_told (change_of id Change.LogicalCancel s store) out
     cancel_on ep eo = change_on id Change.LogicalCancel s store v ev (reported_at p left.rows) left e (places.cancel_reports id store p left ep) eo
@@ -172,19 +172,19 @@ module _ (out after-out : List ℕ) where
         let o = freed_at p store in
         h
         ∙ ap (λ (z : Answer). after (told z out) o.lent) (applied_answer o.result s)
-        ∙ ap (λ (z : After Reported Store). reported_told z out)
+        ∙ ap (λ (z : After (Called RequestReport) Store). reported_told z out)
         (change.change_on id Change.Reclaim s store (reported_by o.result s) v ev o.result o.lent e (places.reclaim_frees id store p ep) refl)
 
   -- a poll, in the session's words l
   module _ (id : RequestId) (l : List ℕ) where
-    abbrev Told : List ℕ → Polled → Type 0
+    abbrev Told : List ℕ → Called PollAnswer → Type 0
     Told next x = after after-out (kept_of next) ≡ polled_told x l out
 
-    by_poll : (next : List ℕ) (x y : Polled) → x ≡ y → Told next x → Told next y
-    by_poll next x y e h = h ∙ ap (λ (z : Polled). polled_told z l out) e
+    by_poll : (next : List ℕ) (x y : Called PollAnswer) → x ≡ y → Told next x → Told next y
+    by_poll next x y e h = h ∙ ap (λ (z : Called PollAnswer). polled_told z l out) e
 
     -- the session stays
-    stays : (a : PollAnswer) → is_session l ≡ true → after-out ≡ told (of_poll a) out → Told l (polls.polled_as a (read_session l))
+    stays : (a : Result PollAnswer Refusal) → is_session l ≡ true → after-out ≡ told (of_poll a) out → Told l (polls.polled_as a (read_session l))
     stays a h eo = ap (λ (z : List ℕ). after z (kept_of l)) eo ∙ ap (after (told (of_poll a) out)) (sym (written_same l h))
 
     -- the row of a poll
@@ -194,12 +194,12 @@ module _ (out after-out : List ℕ) where
       pending = ep ∙ rw used
 
       pub row_told : not p ≡ true → after-out ≡ told (Answer.Report (report_of row)) out → Told l (poll_row row id (read_session l))
-      row_told t eo = by_poll l _ _ (polls.row_told (read_session l) row id p pending (report_of row) t refl) (stays (PollAnswer.Report (report_of row)) h eo)
+      row_told t eo = by_poll l _ _ (polls.row_told (read_session l) row id p pending (report_of row) t refl) (stays (Ok (PollAnswer.Report (report_of row))) h eo)
 
       module _ (np : not p ≡ false) (b : Bool) (eb : b ≡ is_initialized (read_session l).state) where
         pub row_early : not b ≡ true → after-out ≡ told (Answer.Refused (refusal_of 28)) out → Told l (poll_row row id (read_session l))
         row_early t eo =
-            by_poll l _ _ (polls.row_early (read_session l) row id p pending np b eb _ t refl) (stays (PollAnswer.Refused (refusal_of 28)) h eo)
+            by_poll l _ _ (polls.row_early (read_session l) row id p pending np b eb _ t refl) (stays (Err (refusal_of 28)) h eo)
 
         pub row_asked : (next : List ℕ) (token : ℕ) → not b ≡ false → kept_of next ≡ kept_as l (with_flight (read_session l) (InFlight.Poll id))
             → token ≡ row.token → after-out ≡ told (Answer.Asked token) out → Told next (poll_row row id (read_session l))
@@ -208,24 +208,24 @@ module _ (out after-out : List ℕ) where
             (ap (λ (z : List ℕ). after z (kept_of next)) (eo ∙ rw ek') ∙ ap (after (told (Answer.Asked row.token) out)) ek)
 
     -- the call
-    module _ (store : Store) (h : is_session l ≡ true) (v : Verdict) (ev : v ≡ ready_of (read_session l) (store_fits (read_session l).size store)) where
-      pub poll_stop : (r : Refusal) → v ≡ Verdict.Refused r → after-out ≡ told (Answer.Refused r) out → Told l (poll_of id (read_session l) store)
-      poll_stop r e eo = by_poll l _ _ (polls.poll_stop id (read_session l) store (poll_refused (read_session l) r) v ev r e refl) (stays (PollAnswer.Refused r) h eo)
+    module _ (store : Store) (h : is_session l ≡ true) (v : Result ⊤ Refusal) (ev : v ≡ ready_of (read_session l) (store_fits (read_session l).size store)) where
+      pub poll_stop : (r : Refusal) → v ≡ Err r → after-out ≡ told (Answer.Refused r) out → Told l (poll_of id (read_session l) store)
+      poll_stop r e eo = by_poll l _ _ (polls.poll_stop id (read_session l) store (call_refused (read_session l) r) v ev r e refl) (stays (Err r) h eo)
 
-      module _ (np : v ≡ Verdict.Pass) (g : Found) (eg : g ≡ found_in (is_at id) store.rows) where
-        pub poll_none : g ≡ Found.Nothing → after-out ≡ told (Answer.Refused (refusal_of 40)) out → Told l (poll_of id (read_session l) store)
+      module _ (np : v ≡ (Ok tt)) (g : Option ℕ) (eg : g ≡ found_in (is_at id) store.rows) where
+        pub poll_none : g ≡ None → after-out ≡ told (Answer.Refused (refusal_of 40)) out → Told l (poll_of id (read_session l) store)
         poll_none t eo =
-            by_poll l _ _ (polls.poll_none id (read_session l) store _ v ev np g eg t refl) (stays (PollAnswer.Refused (refusal_of 40)) h eo)
+            by_poll l _ _ (polls.poll_none id (read_session l) store _ v ev np g eg t refl) (stays (Err (refusal_of 40)) h eo)
 
-        pub poll_at : (next : List ℕ) (i : ℕ) → g ≡ Found.At i → Told next (poll_row (row_in store.rows i) id (read_session l))
+        pub poll_at : (next : List ℕ) (i : ℕ) → g ≡ Some i → Told next (poll_row (row_in store.rows i) id (read_session l))
             → Told next (poll_of id (read_session l) store)
         poll_at next i t = by_poll next _ _ (polls.poll_at id (read_session l) store _ v ev np g eg i (row_in store.rows i) t refl refl)
 
 -- what a poll's row asks for
-pub idle : (s : Session) (fits : Bool) (v : Verdict) → v ≡ ready_of s fits → v ≡ Verdict.Pass → is_busy s.in_flight ≡ false
+pub idle : (s : Session) (fits : Bool) (v : Result ⊤ Refusal) → v ≡ ready_of s fits → v ≡ (Ok tt) → is_busy s.in_flight ≡ false
 unfolding ready_of guarded
 idle s fits v ev e = idle_by (is_busy s.in_flight) fits (sym ev ∙ e)
 
-pub found_used : (id : RequestId) (rows : List Row) (f : Found) (i : ℕ) → f ≡ found_in (is_at id) rows → f ≡ Found.At i → (row_in rows i).used ≡ true
+pub found_used : (id : RequestId) (rows : List Row) (f : Option ℕ) (i : ℕ) → f ≡ found_in (is_at id) rows → f ≡ Some i → (row_in rows i).used ≡ true
 unfolding is_at
 found_used id rows f i ef e = (both _ _ (found_row id rows f i ef e).1).0

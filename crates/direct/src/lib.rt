@@ -4,6 +4,7 @@
 
 ghost use Rattle.std.specs.Prelude.{true, false, ◌≡◌, ◌<◌, length};
 ghost use Rattle.chain.specs.After.{after};
+ghost use Rattle.models.specs.Causes.{number_of};
 ghost use Rattle.models.specs.Refusals.{refusal_of};
 ghost use Rattle.rows.specs.Table.{read_rows, row_at, report_of};
 ghost use Rattle.rules.specs.declared.Change.TheVariants as Change;
@@ -22,10 +23,8 @@ ghost use Rattle.rows.specs.Store.{store_of};
 
 use answer_words::encode;
 use calls::Answer;
-use chain::Found;
-use ledger::in_place::Placed;
 use ledger::{in_place, search};
-use models::{Refusal, RequestId, Verdict};
+use models::{Cause, Refusal, RequestId};
 use rows::columns;
 use session::sizes;
 use session_words::fields;
@@ -38,10 +37,10 @@ fn refuse(out: &mut [u64], refusal: Refusal)
     encode::write_answer(out, Answer::Refused(refusal));
 }
 
-fn refuse_by(out: &mut [u64], number: u16)
-    ensures { out.new ≡ told (Answer.Refused (refusal_of number)) out.old }
+fn refuse_by(out: &mut [u64], cause: Cause)
+    ensures { out.new ≡ told (Answer.Refused (refusal_of (number_of cause))) out.old }
 {
-    refuse(out, models::refuse(number))
+    refuse(out, models::refuse(cause))
 }
 
 // The report of row i.
@@ -61,16 +60,16 @@ fn rows_fit(session: &[u64], words: usize) -> bool
 }
 
 // Refuses by 1 while an operation waits for its reply, by 3 if the rows have not the session's size.
-fn rows_ready(session: &[u64], words: usize) -> Verdict
+fn rows_ready(session: &[u64], words: usize) -> Result<(), Refusal>
     ensures { result ≡ ready_of (read_session session.now) (rows_fit (read_session session.now).size words) }
 {
     if fields::is_busy(session) {
-        return Verdict::Refused(models::refuse(1));
+        return Err(models::refuse(Cause::OperationInFlight));
     }
     if !rows_fit(session, words) {
-        return Verdict::Refused(models::refuse(3));
+        return Err(models::refuse(Cause::WrongSize));
     }
-    Verdict::Pass
+    Ok(())
 }
 
 // The id's submission is in flight.
@@ -81,15 +80,15 @@ fn is_submitting(session: &[u64], id: RequestId) -> bool
         return false;
     }
     let own = fields::flight_id(session);
-    models::same_request(own, id)
+    own == id
 }
 
 // The row of an id that has a report.
-fn find_shown(session: &[u64], rows: &[u64], id: RequestId) -> Found
+fn find_shown(session: &[u64], rows: &[u64], id: RequestId) -> Option<usize>
     ensures { result ≡ shown_at (read_session session.now).in_flight id (read_rows rows.now) }
 {
     if is_submitting(session, id) {
-        return Found::Nothing;
+        return None;
     }
     search::find(rows, id)
 }
@@ -99,23 +98,23 @@ pub fn request_status(session: &[u64], rows: &[u64], id: RequestId, out: &mut [u
         ≡ told (of_report (status_of id (read_session session.now) (store_of rows.now))) out.old }
 {
     if !rows_fit(session, rows.len()) {
-        return refuse_by(out, 3);
+        return refuse_by(out, Cause::WrongSize);
     }
     let found = find_shown(session, rows, id);
-    let Found::At(i) = found else {
-        return refuse_by(out, 40);
+    let Some(i) = found else {
+        return refuse_by(out, Cause::UnknownRequest);
     };
     report(rows, i, out)
 }
 
 // What a change answers, with the report of the row as it stands.
-fn answer_placed(rows: &[u64], placed: Placed, out: &mut [u64])
+fn answer_placed(rows: &[u64], placed: Result<usize, Refusal>, out: &mut [u64])
     requires { PlacedIn placed (read_rows rows.now) }
     ensures { out.new ≡ told (of_applied (reported_at placed (read_rows rows.now))) out.old }
 {
     match placed {
-        Placed::Refused(refusal) => refuse(out, refusal),
-        Placed::At(i) => report(rows, i, out),
+        Err(refusal) => refuse(out, refusal),
+        Ok(i) => report(rows, i, out),
     }
 }
 
@@ -125,8 +124,8 @@ pub fn logical_cancel_request(session: &[u64], rows: &mut [u64], id: RequestId, 
 {
     let verdict = rows_ready(session, rows.len());
     match verdict {
-        Verdict::Refused(refusal) => refuse(out, refusal),
-        Verdict::Pass => {
+        Err(refusal) => refuse(out, refusal),
+        Ok(()) => {
             let placed = in_place::logical_cancel(rows, id);
             answer_placed(rows, placed, out)
         }
@@ -139,8 +138,8 @@ pub fn timeout_request(session: &[u64], rows: &mut [u64], id: RequestId, out: &m
 {
     let verdict = rows_ready(session, rows.len());
     match verdict {
-        Verdict::Refused(refusal) => refuse(out, refusal),
-        Verdict::Pass => {
+        Err(refusal) => refuse(out, refusal),
+        Ok(()) => {
             let placed = in_place::timeout(rows, id);
             answer_placed(rows, placed, out)
         }
@@ -148,14 +147,14 @@ pub fn timeout_request(session: &[u64], rows: &mut [u64], id: RequestId, out: &m
 }
 
 // The row is reported before it is freed.
-fn free_placed(rows: &mut [u64], placed: Placed, out: &mut [u64])
+fn free_placed(rows: &mut [u64], placed: Result<usize, Refusal>, out: &mut [u64])
     requires { PlacedIn placed (read_rows rows.old) }
     ensures { after out.new (store_of rows.new)
         ≡ applied_told (freed_at placed (store_of rows.old)) out.old }
 {
     match placed {
-        Placed::Refused(refusal) => refuse(out, refusal),
-        Placed::At(i) => {
+        Err(refusal) => refuse(out, refusal),
+        Ok(i) => {
             report(rows, i, out);
             rows::in_place::free_row(rows, i)
         }
@@ -168,8 +167,8 @@ pub fn reclaim_request(session: &[u64], rows: &mut [u64], id: RequestId, out: &m
 {
     let verdict = rows_ready(session, rows.len());
     match verdict {
-        Verdict::Refused(refusal) => refuse(out, refusal),
-        Verdict::Pass => {
+        Err(refusal) => refuse(out, refusal),
+        Ok(()) => {
             let placed = in_place::reclaimable(rows, id);
             free_placed(rows, placed, out)
         }
@@ -187,7 +186,7 @@ fn poll_row(session: &mut [u64], rows: &[u64], i: usize, id: RequestId, out: &mu
         return report(rows, i, out);
     }
     if !fields::is_initialized(session) {
-        return refuse_by(out, 28);
+        return refuse_by(out, Cause::NotInitialized);
     }
     fields::begin_poll(session, id);
     let token = columns::token_at(rows, i);
@@ -202,11 +201,11 @@ pub fn poll_request(session: &mut [u64], rows: &[u64], id: RequestId, out: &mut 
 {
     let verdict = rows_ready(session, rows.len());
     match verdict {
-        Verdict::Refused(refusal) => refuse(out, refusal),
-        Verdict::Pass => {
+        Err(refusal) => refuse(out, refusal),
+        Ok(()) => {
             let found = search::find(rows, id);
-            let Found::At(i) = found else {
-                return refuse_by(out, 40);
+            let Some(i) = found else {
+                return refuse_by(out, Cause::UnknownRequest);
             };
             poll_row(session, rows, i, id, out)
         }

@@ -1,20 +1,17 @@
 // The replies to a poll and to a submission, in place where the session changes only in that the operation ends; else by value.
-ghost use Rattle.std.specs.Prelude.{true, ◌≡◌, ◌+◌, ◌*◌, ◌<◌, ◌≤◌, length};
+ghost use Rattle.std.specs.Prelude.{true, ◌≡◌, ◌+◌, ◌*◌, ◌<◌, ◌≤◌, length, Ok};
 ghost use Rattle.chain.specs.After.{after};
 ghost use Rattle.models.specs.Refusals.{from_backend};
 ghost use Rattle.rows.specs.InPlace.{completed_row};
 ghost use Rattle.rows.specs.Store.{store_of, put_in};
 ghost use Rattle.rows.specs.Table.{read_rows, row_at, is_pending_row};
-ghost use Rattle.ledger.specs.declared.in_place.Placed.TheVariants as Placed;
 ghost use Rattle.session.specs.Lent.{memory, memory_of};
 ghost use Rattle.session.specs.Session.{with_flight};
 ghost use Rattle.session.specs.Sizes.{data_at, memory_sizes};
 ghost use Rattle.session.specs.declared.InFlight.TheVariants as InFlight;
-ghost use Rattle.reports.specs.Answers.{report_refused};
+ghost use Rattle.session.specs.Called.{call_refused};
 ghost use Rattle.polls.specs.PollReply.{poll_reply_of};
-ghost use Rattle.polls.specs.declared.PollReply.TheVariants as PollReply;
 ghost use Rattle.submissions.specs.SubmitReply.{submit_reply_of};
-ghost use Rattle.submissions.specs.declared.SubmitReply.TheVariants as SubmitReply;
 ghost use Rattle.session_words.specs.State.{read_session, is_session};
 ghost use Rattle.call_words.specs.Arguments.{read_poll_reply, read_submit_reply};
 ghost use Rattle.direct.specs.Replies.{replied_told, reported_out, reported_row, failed_row, polled_at, ending_test, ending_of, told_of};
@@ -23,30 +20,28 @@ use crate::{refuse, refuse_by, report, rows_fit};
 use answer_words::encode;
 use call_words::arguments;
 use calls::answers;
-use chain::Found;
 use checks::completion;
-use checks::completion::CompletionTest;
-use ledger::in_place::Placed;
+use checks::completion::{CompletionFault, ValidCompletion};
 use ledger::{in_place, search};
 use models::values::error_at;
-use models::{BackendCompletion, OperationError, OptionError, RequestState};
-use polls::{PollReply, poll_reply};
-use reports::Reported;
+use models::{BackendCompletion, Cause, OperationError, Refusal, RequestReport, RequestState};
+use polls::poll_reply;
 use reports::answers::is_mild;
 use rows::columns;
 use scope::returned;
-use session::sizes;
+use session::{Called, sizes};
 use session_words::{fields, state};
 use submissions::submit_reply;
+use words::slices;
 use words::slices::word_at;
-use words::{OptionU32, slices};
 
-// What a completion does to a Pending row, where it leaves the session but for the poll; else by value.
+// What a completion does to a Pending row, where it leaves the session but for the poll; else by value. Three ways, each taken by its own arm:
+// an Option round two would be no plainer.
 #[derive(Clone, Copy)]
 pub enum Ending {
     ByValue,
     Completed(u64, u32),
-    Failed(OperationError, OptionU32),
+    Failed(OperationError, Option<u32>),
 }
 
 fn memory_fits(session: &[u64], words: usize, bytes: usize) -> bool
@@ -57,10 +52,10 @@ fn memory_fits(session: &[u64], words: usize, bytes: usize) -> bool
 }
 
 // Writes the session and the answer of a reply that was taken by value.
-fn write_reported(session: &mut [u64], reported: Reported, out: &mut [u64])
+fn write_reported(session: &mut [u64], reported: Called<RequestReport>, out: &mut [u64])
     ensures { told_of session.new out.new ≡ reported_out reported session.old out.old }
 {
-    let outcome = answers::of_reported(reported);
+    let outcome = answers::of_called(reported);
     let next = outcome.session;
     let answer = outcome.answer;
     state::write_session(session, next);
@@ -81,7 +76,7 @@ fn poll_by_value(
     session: &mut [u64],
     rows: &mut [u64],
     area: &mut [u8],
-    reply: PollReply,
+    reply: Result<Option<BackendCompletion>, OperationError>,
     bytes: &[u8],
     out: &mut [u64],
 )
@@ -95,30 +90,29 @@ fn poll_by_value(
 }
 
 // The row of the polled id. Refuses by 2 if no poll is in flight or no row has its id, by 3 if a slice has not the session's size.
-fn polled_row(session: &[u64], rows: &[u64], area: &[u8]) -> Placed
+fn polled_row(session: &[u64], rows: &[u64], area: &[u8]) -> Result<usize, Refusal>
     ensures { result ≡ polled_at (read_session session.now) (memory_of rows.now area.now) }
 {
     if !fields::is_polling(session) {
-        return Placed::Refused(models::refuse(2));
+        return Err(models::refuse(Cause::NothingWaits));
     }
     if !memory_fits(session, rows.len(), area.len()) {
-        return Placed::Refused(models::refuse(3));
+        return Err(models::refuse(Cause::WrongSize));
     }
     let id = fields::flight_id(session);
     let found = search::find(rows, id);
-    let Found::At(i) = found else {
-        return Placed::Refused(models::refuse(2));
+    let Some(i) = found else {
+        return Err(models::refuse(Cause::NothingWaits));
     };
-    Placed::At(i)
+    Ok(i)
 }
 
-fn ending_test(test: CompletionTest) -> Ending
+fn ending_test(test: Result<ValidCompletion, CompletionFault>) -> Ending
     ensures { result ≡ ending_test test }
 {
     match test {
-        CompletionTest::Valid(actual, code) => Ending::Completed(actual, code),
-        CompletionTest::MissingLength => Ending::ByValue,
-        CompletionTest::Invalid => Ending::ByValue,
+        Ok(valid) => Ending::Completed(valid.actual_length, valid.completion_code),
+        Err(_) => Ending::ByValue,
     }
 }
 
@@ -127,14 +121,14 @@ fn ending_of(completion: BackendCompletion, given: u64, requested: u64) -> Endin
 {
     let error = completion.error;
     match error {
-        OptionError::Some(e) => {
+        Some(e) => {
             if !completion.quiescent {
                 return Ending::ByValue;
             }
             let code = completion.completion_code;
             Ending::Failed(e, code)
         }
-        OptionError::None => {
+        None => {
             let test = completion::test_completion(completion, given, requested);
             ending_test(test)
         }
@@ -182,7 +176,7 @@ fn fail(
     rows: &mut [u64],
     i: usize,
     error: OperationError,
-    completion_code: OptionU32,
+    completion_code: Option<u32>,
     out: &mut [u64],
 )
     requires { (is_session session.old ≡ true) × (i < length (read_rows rows.old))
@@ -205,11 +199,11 @@ fn fail(
 fn refuse_ended(session: &mut [u64], error: OperationError, out: &mut [u64])
     requires { is_session session.old ≡ true }
     ensures { told_of session.new out.new ≡ reported_out
-        (report_refused (with_flight (read_session session.old) InFlight.Nothing) (from_backend 45 error))
+        (call_refused (with_flight (read_session session.old) InFlight.Nothing) (from_backend 45 error))
         session.old out.old }
 {
     fields::end_flight(session);
-    refuse(out, models::refuse_backend(45, error))
+    refuse(out, models::refuse_backend(Cause::BackendError, error))
 }
 
 // The row of the poll, i, is Pending.
@@ -223,22 +217,15 @@ fn poll_completion(
     out: &mut [u64],
 )
     requires { (is_session session.old ≡ true) × (is_pending_row (row_at rows.old i) ≡ true)
-        × (polled_at (read_session session.old) (memory (store_of rows.old) area.old) ≡ Placed.At i) }
+        × (polled_at (read_session session.old) (memory (store_of rows.old) area.old) ≡ Ok i) }
     ensures { after (told_of session.new out.new) (memory_of rows.new area.new)
-        ≡ replied_told (poll_reply_of (PollReply.Completion completion) bytes.now (read_session session.old) (memory_of rows.old area.old))
+        ≡ replied_told (poll_reply_of (Ok (Some completion)) bytes.now (read_session session.old) (memory_of rows.old area.old))
         session.old out.old }
 {
     let requested = columns::requested_length_at(rows, i);
     let ending = ending_of(completion, bytes.len() as u64, requested);
     match ending {
-        Ending::ByValue => poll_by_value(
-            session,
-            rows,
-            area,
-            PollReply::Completion(completion),
-            bytes,
-            out,
-        ),
+        Ending::ByValue => poll_by_value(session, rows, area, Ok(Some(completion)), bytes, out),
         Ending::Completed(actual, code) => complete(
             session, rows, area, i, actual, code, bytes, out,
         ),
@@ -256,7 +243,7 @@ fn poll_at(
     bytes: &[u8],
     out: &mut [u64],
 )
-    requires { (is_session session.old ≡ true) × (polled_at (read_session session.old) (memory (store_of rows.old) area.old) ≡ Placed.At i) }
+    requires { (is_session session.old ≡ true) × (polled_at (read_session session.old) (memory (store_of rows.old) area.old) ≡ Ok i) }
     ensures { after (told_of session.new out.new) (memory_of rows.new area.new)
         ≡ replied_told (poll_reply_of (read_poll_reply call.now) bytes.now (read_session session.old) (memory_of rows.old area.old))
         session.old out.old }
@@ -269,20 +256,13 @@ fn poll_at(
         let error = error_at(call, 3);
         let category = error.category;
         if !is_mild(category) {
-            return poll_by_value(session, rows, area, PollReply::Error(error), bytes, out);
+            return poll_by_value(session, rows, area, Err(error), bytes, out);
         }
         return refuse_ended(session, error, out);
     }
     let completion = returned::completion(slices::rest(call, 2));
     if !columns::pending_at(rows, i) {
-        return poll_by_value(
-            session,
-            rows,
-            area,
-            PollReply::Completion(completion),
-            bytes,
-            out,
-        );
+        return poll_by_value(session, rows, area, Ok(Some(completion)), bytes, out);
     }
     poll_completion(session, rows, area, i, completion, bytes, out)
 }
@@ -303,8 +283,8 @@ pub fn poll_reply(
 {
     let placed = polled_row(session, rows, area);
     match placed {
-        Placed::Refused(refusal) => refuse(out, refusal),
-        Placed::At(i) => poll_at(session, rows, area, i, call, bytes, out),
+        Err(refusal) => refuse(out, refusal),
+        Ok(i) => poll_at(session, rows, area, i, call, bytes, out),
     }
 }
 
@@ -313,19 +293,19 @@ pub fn poll_reply(
 fn submit_accepted(session: &mut [u64], rows: &mut [u64], token: u64, out: &mut [u64])
     requires { is_session session.old ≡ true }
     ensures { after (told_of session.new out.new) (store_of rows.new)
-        ≡ replied_told (submit_reply_of (SubmitReply.Token token) (read_session session.old) (store_of rows.old))
+        ≡ replied_told (submit_reply_of (Ok token) (read_session session.old) (store_of rows.old))
         session.old out.old }
 {
     if !fields::is_submitting(session) {
-        return refuse_by(out, 2);
+        return refuse_by(out, Cause::NothingWaits);
     }
     if !rows_fit(session, rows.len()) {
-        return refuse_by(out, 3);
+        return refuse_by(out, Cause::WrongSize);
     }
     let id = fields::flight_id(session);
     let placed = in_place::accept(rows, id, token);
-    let Placed::At(i) = placed else {
-        return refuse_by(out, 2);
+    let Ok(i) = placed else {
+        return refuse_by(out, Cause::NothingWaits);
     };
     end_flight(session, rows, i, out)
 }

@@ -33,41 +33,49 @@ pub(crate) fn place_call(
     ensures { after result (lent (bus_of bus.new) (memory (store_of rows.new) area.now))
         ≡ step_of (read_placing number call.now) (world session (lent_of bus.old rows.old area.now)) }
 {
-    if number == 0 {
-        let o = arguments::opening(call);
-        let opened = lifecycle::open(o, rows, area, bus);
-        return answers::of_opened(opened, session);
-    }
     let at = byte_at(call, 1);
-    if number == 1 {
-        let device = arguments::snapshot(call);
-        return answers::of_placed(place::set_device(session, bus, device), session);
+    match number {
+        0 => {
+            let o = arguments::opening(call);
+            let opened = lifecycle::open(o, rows, area, bus);
+            answers::of_opened(opened, session)
+        }
+        1 => {
+            let device = arguments::snapshot(call);
+            answers::of_placed(place::set_device(session, bus, device), session)
+        }
+        2 => {
+            let row = arguments::port_row(call);
+            answers::of_placed(place::set_port(session, bus, at, row), session)
+        }
+        3 => {
+            let list = slices::rest(call, 2);
+            answers::of_placed(place::set_endpoints(session, bus, at, list), session)
+        }
+        _ => {
+            let mark = words::to_flag(word_at(call, 2));
+            answers::of_placed(place::set_reconcile(session, bus, at, mark), session)
+        }
     }
-    if number == 2 {
-        let row = arguments::port_row(call);
-        return answers::of_placed(place::set_port(session, bus, at, row), session);
-    }
-    if number == 3 {
-        let list = slices::rest(call, 2);
-        return answers::of_placed(place::set_endpoints(session, bus, at, list), session);
-    }
-    let mark = words::to_flag(word_at(call, 2));
-    answers::of_placed(place::set_reconcile(session, bus, at, mark), session)
 }
 
 // 5 to 7: the calls that move the controller's state, whatever the bus and the area.
 pub(crate) fn move_call(number: u64, session: Session, rows: &mut [u64], call: &[u64]) -> Outcome
     ensures { StepsRows result (read_moving number call.now) session rows.old rows.new }
 {
-    if number == 5 {
-        let reply = arguments::acquire_reply(call);
-        return answers::of_called(lifecycle::acquire(session, reply));
+    match number {
+        5 => {
+            let reply = arguments::acquire_reply(call);
+            answers::of_called(lifecycle::acquire(session, reply))
+        }
+        6 => {
+            let reply = values::option_error_at(call, 1);
+            answers::of_called(lifecycle::initialize(session, reply))
+        }
+        _ => {
+            let fresh = words::to_option_u64(word_at(call, 1), word_at(call, 2));
+            let reply = values::option_error_at(call, 3);
+            answers::of_called(lifecycle::close(session, rows, fresh, reply))
+        }
     }
-    if number == 6 {
-        let reply = values::option_error_at(call, 1);
-        return answers::of_called(lifecycle::initialize(session, reply));
-    }
-    let fresh = words::to_option_u64(word_at(call, 1), word_at(call, 2));
-    let reply = values::option_error_at(call, 3);
-    answers::of_called(lifecycle::close(session, rows, fresh, reply))
 }

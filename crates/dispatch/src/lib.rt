@@ -1,4 +1,4 @@
-// One call on lent words. What C links is the step that the theorem over lists of calls speaks of.
+// One call on lent words, by the number that is its first word in C (docs/CALLS.md). What C links is the step that the theorem over lists of calls speaks of.
 #![tactic(auto)]
 
 ghost use Rattle.std.specs.Prelude.{true, ◌≡◌, get_or};
@@ -39,19 +39,13 @@ fn step(
         lists.old }
 {
     let number = word_at(call, 0);
-    if number <= 4 {
-        return controller::place_call(number, session, bus, rows, area, call);
+    match number {
+        0..=4 => controller::place_call(number, session, bus, rows, area, call),
+        5..=7 => controller::move_call(number, session, rows, call),
+        8 | 9 => requests::submit_call(number, session, bus, rows, area, call, bytes),
+        10..=24 => requests::recover_call(number, session, rows, area, call, bytes, lists),
+        _ => requests::withdraw_call(session, rows, call),
     }
-    if number <= 7 {
-        return controller::move_call(number, session, rows, call);
-    }
-    if number <= 9 {
-        return requests::submit_call(number, session, bus, rows, area, call, bytes);
-    }
-    if number <= 24 {
-        return requests::recover_call(number, session, rows, area, call, bytes, lists);
-    }
-    requests::withdraw_call(session, rows, call)
 }
 
 // Runs such a call and writes the session, the answer and its lists.
@@ -93,13 +87,11 @@ fn answer_other(
         ≡ ran_on (read_call call.now bytes.now) (buffers_of session.old bus.old rows.old area.old out.old lists.old) }
 {
     let number = word_at(call, 0);
-    if number == 10 {
-        return replies::submit_reply(session, rows, call, out);
+    match number {
+        10 => replies::submit_reply(session, rows, call, out),
+        12 => replies::poll_reply(session, rows, area, call, bytes, out),
+        _ => answer_by_value(session, bus, rows, area, call, bytes, out, lists),
     }
-    if number == 12 {
-        return replies::poll_reply(session, rows, area, call, bytes, out);
-    }
-    answer_by_value(session, bus, rows, area, call, bytes, out, lists)
 }
 
 // Runs the call. Where it leaves the session, its words are not written: they are its own.
@@ -118,17 +110,15 @@ fn answer(
         ≡ ran_on (read_call call.now bytes.now) (buffers_of session.old bus.old rows.old area.old out.old lists.old) }
 {
     let number = word_at(call, 0);
-    if (number < 11) | (number == 12) | (number > 21) {
-        return answer_other(session, bus, rows, area, call, bytes, out, lists);
+    match number {
+        11 => {
+            let id = id_at(call, 1);
+            direct::poll_request(session, rows, id, out)
+        }
+        13..=15 => requests::change_call(number, session, rows, call, out),
+        16..=21 => requests::report_call(number, session, rows, area, call, out),
+        _ => answer_other(session, bus, rows, area, call, bytes, out, lists),
     }
-    if number == 11 {
-        let id = id_at(call, 1);
-        return direct::poll_request(session, rows, id, out);
-    }
-    if number <= 15 {
-        return requests::change_call(number, session, rows, call, out);
-    }
-    requests::report_call(number, session, rows, area, call, out)
 }
 
 // The call that the words say, on the words of a session. 0: it was answered; 1: no call; 2: not a session's own words; 3: too few

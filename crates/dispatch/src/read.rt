@@ -14,7 +14,6 @@ ghost use Rattle.calls.specs.Step.{world};
 
 use crate::requests;
 use answer_words::encode;
-use call_words::arguments;
 use question_words::form;
 use questions::QuestionAnswer;
 use reports::scan;
@@ -22,7 +21,6 @@ use session::Session;
 use session_words::state;
 use submissions::wants;
 use targets::wants::Wanted;
-use words::slices;
 use words::slices::word_at;
 
 fn submit_wanted(
@@ -32,15 +30,12 @@ fn submit_wanted(
     area: &[u8],
     call: &[u64],
     bytes: &[u8],
-) -> Wanted
+) -> Option<Wanted>
     ensures { result ≡ submit_wants (drop 27 call.now)
         (read_request call.now bytes.now) session (lent_of bus.now rows.now area.now) }
 {
-    let q = arguments::spec(call);
-    let given = words::to_flag(word_at(call, 26));
-    let packets = slices::rest(call, 27);
-    let readings = arguments::readings(call);
-    wants::submit_wants(session, bus, rows, area, q, bytes, given, packets, readings)
+    let q = requests::new_request(call, bytes);
+    wants::submit_wants(session, bus, rows, area, q)
 }
 
 // 25 to 28: the questions.
@@ -56,18 +51,15 @@ fn question_answer(
     ensures { result ≡ question_of (read_question number call.now bytes.now)
         (world session (lent_of bus.now rows.now area.now)) }
 {
-    if number == 25 {
-        return QuestionAnswer::Status(session);
+    match number {
+        25 => QuestionAnswer::Status(session),
+        26 => questions::of_placed(scan::report_from(session, rows, word_at(call, 1))),
+        27 => QuestionAnswer::Reading(submit_wanted(session, bus, rows, area, call, bytes)),
+        _ => {
+            let q = requests::new_plan(call, bytes);
+            QuestionAnswer::Reading(wants::plan_wants(session, bus, rows, area, q))
+        }
     }
-    if number == 26 {
-        return questions::of_placed(scan::report_from(session, rows, word_at(call, 1)));
-    }
-    if number == 27 {
-        return QuestionAnswer::Reading(submit_wanted(session, bus, rows, area, call, bytes));
-    }
-    let q = arguments::plan(call);
-    let first = arguments::reading_at(call, 14);
-    QuestionAnswer::Reading(wants::plan_wants(session, bus, rows, area, q, bytes, first))
 }
 
 fn answer(

@@ -2,7 +2,6 @@
 #![tactic(auto)]
 
 ghost use Rattle.std.specs.Prelude.{◌≡◌};
-ghost use Rattle.examples.specs.Status.{same_status};
 
 use models::SetupPacket;
 use standards::PortStatus;
@@ -11,7 +10,7 @@ use standards::setup::{same_setup, setup_bytes};
 use std::io;
 use std::io::Write;
 use texts::print::{hex, hex_bytes, number, text};
-use words::{OptionI32, option_i32_word, to_option_i32};
+use words::{option_i32_word, to_option_i32};
 
 fn print_verdict<W: Write>(out: &mut W, right: bool) -> io::Result<()> {
     if right {
@@ -98,16 +97,6 @@ fn state_cases<W: Write>(out: &mut W) -> io::Result<()> {
     )
 }
 
-fn same_status(a: PortStatus, b: PortStatus) -> bool
-    ensures { result ≡ same_status a b }
-{
-    (a.connected == b.connected)
-        & (a.enabled == b.enabled)
-        & (a.resetting == b.resetting)
-        & (a.speed_code == b.speed_code)
-        & (a.change_bits == b.change_bits)
-}
-
 fn status(
     connected: bool,
     enabled: bool,
@@ -135,7 +124,7 @@ fn port_case<W: Write>(out: &mut W, name: &[u8], raw: u32, expected: PortStatus)
     print_number(out, b" speed", found.speed_code as u64)?;
     text(out, b" changes ")?;
     hex(out, found.change_bits as u64, 6)?;
-    print_verdict(out, same_status(found, expected))
+    print_verdict(out, found == expected)
 }
 
 // xHCI 5.4.8. The last has bits 16 and 24 too, which are no changes.
@@ -178,15 +167,15 @@ fn port_cases<W: Write>(out: &mut W) -> io::Result<()> {
     )
 }
 
-fn says(o: OptionI32, value: i32) -> bool {
+fn says(o: Option<i32>, value: i32) -> bool {
     match o {
-        OptionI32::None => false,
-        OptionI32::Some(v) => v == value,
+        None => false,
+        Some(v) => v == value,
     }
 }
 
 fn number_case<W: Write>(out: &mut W, name: &[u8], value: i32, expected: u64) -> io::Result<()> {
-    let word = option_i32_word(OptionI32::Some(value));
+    let word = option_i32_word(Some(value));
     text(out, name)?;
     number(out, word)?;
     print_verdict(

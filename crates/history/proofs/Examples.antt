@@ -1,4 +1,5 @@
 -- Short scripts of calls, computed by the definitions to their answers, journals and rows, with the theorem applied to each. Assumes nothing.
+use Rattle.std.specs.Prelude.{Option, Some, None, Result, Ok, Err}
 use Prim.Native.Nat.{ℕ, zero, suc}
 use mathlib.Core.Bool.{Bool, true, false, cond, true≢false}
 use mathlib.Core.List.{List, [], ◌∷◌, ◌++◌, map}
@@ -8,13 +9,11 @@ use lib.ListN.{length, get_or, take, replicate}
 use Rattle.chain.specs.Chain.{◌if◌else◌}
 use Rattle.chain.specs.Lists.{found_in, listed}
 use Rattle.words.specs.Records.{splice, part}
-use Rattle.words.specs.declared.{OptionI32.OptionI32, OptionU32.OptionU32, OptionU64.OptionU64}
 use Rattle.models.specs.Requests.{request_before}
-use Rattle.models.specs.declared.{DeviceId.DeviceId, DeviceSnapshot.DeviceSnapshot, OperationError.OperationError, OptionError.OptionError, OptionSetup.OptionSetup, RequestId.RequestId, RequestState.RequestState}
+use Rattle.models.specs.declared.{DeviceId.DeviceId, DeviceSnapshot.DeviceSnapshot, OperationError.OperationError, RequestId.RequestId, RequestState.RequestState}
 use Rattle.models.specs.declared.DeviceState.TheVariants.{Configured}
 use Rattle.models.specs.declared.Direction.TheVariants.{In}
 use Rattle.models.specs.declared.ErrorCategory.TheVariants.{Validation, RecoveryRequired}
-use Rattle.models.specs.declared.PortReading.TheVariants.{Word}
 use Rattle.models.specs.declared.RequestState.TheVariants.{Pending, Completed, Failed, Aborted}
 use Rattle.models.specs.declared.TransferType.TheVariants.{Bulk}
 use Rattle.rows.specs.Codec.{read_row, record_of}
@@ -39,25 +38,23 @@ use Rattle.session.specs.Lifecycle.{open_of, acquired_by, acquire_of, initialize
 use Rattle.session.specs.Place.{placed, set_device_of, set_port_of, set_endpoints_of}
 use Rattle.session.specs.Start.{guarded}
 use Rattle.session.specs.Sizes.{rows_fit, area_fits}
-use Rattle.session.specs.declared.{RecoveryKind.RecoveryKind, lifecycle.AcquireReply.AcquireReply, lifecycle.Opening.Opening}
+use Rattle.session.specs.declared.{RecoveryKind.RecoveryKind, lifecycle.Opening.Opening}
 use Rattle.reports.specs.Answers.{effect}
 use Rattle.reports.specs.Change.{reported_by, change_of}
 use Rattle.reports.specs.Status.{held_count_of, held_bytes_of}
 use Rattle.polls.specs.Poll.{poll_row, poll_by, poll_of}
 use Rattle.polls.specs.PollReply.{poll_reply_in, poll_reply_by, poll_reply_found, stall_of, stored_in, failed_as, judged_test, judged_by, judged, settled, poll_reply_at, poll_reply_of}
-use Rattle.polls.specs.declared.{PollReply.PollReply}
 use Rattle.submissions.specs.Begin.{room_in, write_of, begin_of, target_by, target_of}
 use Rattle.submissions.specs.Admit.{place_in, admit_prepared, admit_room, admit_packets, admit_of}
 use Rattle.submissions.specs.Submit.{submitted_by, submit_of, submit_by, submit_target, request}
 use Rattle.submissions.specs.SubmitReply.{submit_reply_in, accepted_by, discarded_by, submit_reply_by, submit_reply_of}
-use Rattle.submissions.specs.declared.{SubmitReply.SubmitReply}
 use Rattle.scope.specs.Affected.{is_affected, joined, affected_of}
 use Rattle.scope.specs.Returned.{read_brought, brought_at, read_returned, lists_agree}
 use Rattle.scope.specs.Scope.{in_scope}
 use Rattle.recovery.specs.Entries.{row_completed_by, tested_by, complete_one, aborted_by, abort_one}
 use Rattle.recovery.specs.Recover.{recover_by, begin_row, recover_of, begun_as}
 use Rattle.recovery.specs.RecoveryReply.{apply_all, done_of, reply_by, reply_sized, reply_in, ReplyLists, reply_lists, restored_by, reset_by, session_after, refused_after, concluded_by, settled_of, recovery_reply_of}
-use Rattle.recovery.specs.declared.{AbortReport.AbortReport, RecoveryReply.RecoveryReply}
+use Rattle.recovery.specs.declared.{AbortReport.AbortReport, BackendAbort.BackendAbort}
 use Rattle.calls.specs.Calls.{Beginning, Call, Open, Place, Device, Port, Endpoints, Move, Acquire, Initialize, Close, Begin, Submit, Poll, Recover, Reply, ToSubmit, ToPoll, Change, Timeout, Reclaim, Read, HeldCount, HeldBytes}
 use Rattle.calls.specs.Step.{World, no_session, placed_of, moved_of, begun_of, replied_of, read_of, step_of, next}
 use Rattle.calls.specs.declared.{Answer.Answer}
@@ -67,15 +64,15 @@ use Rattle.history.specs.Claim.{rows_after, entries_after, returns, Different, R
 use Rattle.history.specs.Watcher.{Reads, stale_numbers, Refuses, Noticed, Watched}
 use Rattle.history.proofs.Theorem.{history_claim, world_of}
 use Rattle.history.proofs.Watcher.{watched}
+use Rattle.polls.specs.declared.{PollAnswer.PollAnswer}
 
 -- two rows of 8 bytes, one port
 abbrev pub opening : Opening
 opening = record {
   session = 5;
   first_sequence = 0;
-  recovery_revision = OptionU64.Some 0;
-  has_ports = true;
-  port_count = 1;
+  recovery_revision = Some 0;
+  port_count = Some 1;
   size = record { row_count = 2; row_bytes = 8 };
 }
 
@@ -101,8 +98,8 @@ id n = record { session = 5; generation = 0; sequence = n }
 -- n bytes from endpoint 81h of a device, with two readings of the port
 abbrev asking_by : DeviceId → ℕ → ℕ → ℕ → Beginning
 asking_by d n first second =
-    Submit [] (request (record { device = d; endpoint = 0x81; transfer_type = Bulk; direction = In; length = n; setup = OptionSetup.None }) [] false
-    (record { first = Word first; second = Word second }))
+    Submit [] (request (record { device = d; endpoint = 0x81; transfer_type = Bulk; direction = In; length = n; setup = None }) [] false
+    (record { first = Ok first; second = Ok second }))
 
 abbrev pub asking : DeviceId → ℕ → ℕ → Beginning
 asking d n raw = asking_by d n raw raw
@@ -113,53 +110,53 @@ asks n = Begin (asking camera n 0x403)
 -- the camera is placed, and the controller Initialized
 abbrev pub ready : List Event
 ready =
-    calls (Place (Port 1 (record { generation = 1; reading = OptionU32.Some 0x403 }))) ∷ calls (Place (Device (plugged camera)))
-    ∷ calls (Place (Endpoints 1 (0x181 ∷ []))) ∷ calls (Move (Acquire AcquireReply.Acquired)) ∷ calls (Move (Initialize OptionError.None))
+    calls (Place (Port 1 (record { generation = 1; reading = Some 0x403 }))) ∷ calls (Place (Device (plugged camera)))
+    ∷ calls (Place (Endpoints 1 (0x181 ∷ []))) ∷ calls (Move (Acquire (Ok tt))) ∷ calls (Move (Initialize None))
     ∷ []
 
 abbrev broken : OperationError
-broken = record { category = Validation; message = 1; os_code = OptionI32.None; completion_code = OptionU32.None }
+broken = record { category = Validation; message = 1; os_code = None; completion_code = None }
 
 -- n bytes, quiescent or not, with an error or without
-abbrev came : ℕ → Bool → OptionError → Call
+abbrev came : ℕ → Bool → Option OperationError → Call
 came n quiescent e =
-    Reply (ToPoll (PollReply.Completion (record { actual_length = OptionU64.Some n; completion_code = OptionU32.Some 1; has_data = true; error = e; quiescent = quiescent })) (replicate n 0))
+    Reply (ToPoll (Ok (Some (record { actual_length = Some n; completion_code = Some 1; has_data = true; error = e; quiescent = quiescent }))) (replicate n 0))
 
 -- code 6 with an error that says so: a stall
 abbrev stalls : Call
 stalls =
-    Reply (ToPoll (PollReply.Completion (record {
-      actual_length = OptionU64.None;
-      completion_code = OptionU32.Some 6;
+    Reply (ToPoll (Ok (Some (record {
+      actual_length = None;
+      completion_code = Some 6;
       has_data = false;
-      error = OptionError.Some (record { category = RecoveryRequired; message = 1; os_code = OptionI32.None; completion_code = OptionU32.Some 6 });
+      error = Some (record { category = RecoveryRequired; message = 1; os_code = None; completion_code = Some 6 });
       quiescent = false;
-    })) [])
+    }))) [])
 
 -- a close that is handed another session and its slices
 abbrev elsewhere : Event
-elsewhere = record { call = Move (Close (OptionU64.Some 6) OptionError.None); handed = other before }
+elsewhere = record { call = Move (Close (Some 6) None); handed = other before }
 
 -- ---- requests
 -- request 0 completes and is reclaimed, 1 is refused by the backend, 2 times out, fails and is not quiescent, 3 stays
 abbrev script : List Event
 script =
-    ready ++ (calls (asks 8) ∷ calls (Reply (ToSubmit (SubmitReply.Token 7)))
-    ∷ calls (asks 4) ∷ calls (Reply (ToSubmit (SubmitReply.Error broken)))
+    ready ++ (calls (asks 8) ∷ calls (Reply (ToSubmit (Ok 7)))
+    ∷ calls (asks 4) ∷ calls (Reply (ToSubmit (Err broken)))
     ∷ calls (asks 9)
-    ∷ calls (asks 3) ∷ calls (Reply (ToSubmit (SubmitReply.Token 9)))
+    ∷ calls (asks 3) ∷ calls (Reply (ToSubmit (Ok 9)))
     ∷ calls (asks 1)
     ∷ calls (Change (id 2) Timeout)
-    ∷ calls (Begin (Poll (id 0))) ∷ calls (came 8 true OptionError.None) ∷ calls (Change (id 0) Reclaim)
-    ∷ calls (asks 2) ∷ calls (Reply (ToSubmit (SubmitReply.Token 7)))
-    ∷ calls (Begin (Poll (id 2))) ∷ calls (came 0 false (OptionError.Some broken)) ∷ calls (Change (id 2) Reclaim)
+    ∷ calls (Begin (Poll (id 0))) ∷ calls (came 8 true None) ∷ calls (Change (id 0) Reclaim)
+    ∷ calls (asks 2) ∷ calls (Reply (ToSubmit (Ok 7)))
+    ∷ calls (Begin (Poll (id 2))) ∷ calls (came 0 false (Some broken)) ∷ calls (Change (id 2) Reclaim)
     ∷ elsewhere
     ∷ calls (Read HeldCount) ∷ calls (Read HeldBytes)
     ∷ [])
 
 -- ---- a recovery: requests 0 and 1 have the tokens 7 and 9; a reply is refused by 49; then 1 completes with 4 bytes, 0 is aborted and reclaimed
-abbrev pub whole : RecoveryReply
-whole = RecoveryReply.Done (record { restart_ready = true; error = OptionError.None })
+abbrev pub whole : Result BackendAbort OperationError
+whole = Ok (record { restart_ready = true; error = None })
 
 abbrev completion : List ℕ
 completion = 0 ∷ 0 ∷ 0 ∷ 0 ∷ 0 ∷ 1 ∷ 4 ∷ 2 ∷ 1 ∷ 1 ∷ 4 ∷ []
@@ -171,8 +168,8 @@ lists n = reply_lists (9 ∷ []) completion (7 ∷ []) (replicate n 1)
 -- the calls before the reply that succeeds, and those after it
 abbrev front : List Event
 front =
-    ready ++ (calls (asks 8) ∷ calls (Reply (ToSubmit (SubmitReply.Token 7)))
-    ∷ calls (asks 4) ∷ calls (Reply (ToSubmit (SubmitReply.Token 9)))
+    ready ++ (calls (asks 8) ∷ calls (Reply (ToSubmit (Ok 7)))
+    ∷ calls (asks 4) ∷ calls (Reply (ToSubmit (Ok 9)))
     ∷ calls (Begin (Recover (id 0) RecoveryKind.Abort)) ∷ calls (Read HeldCount) ∷ calls (Change (id 1) Timeout)
     ∷ returns whole (lists 5) own
     ∷ [])
@@ -187,12 +184,12 @@ abbrev recovery : List Event
 recovery = front ++ (succeeds ∷ back)
 
 abbrev report : AbortReport
-report = record { target = id 0; device = camera; endpoint = 0x81; completed = 1; aborted = 1; restart_ready = true; error = OptionError.None }
+report = record { target = id 0; device = camera; endpoint = 0x81; completed = 1; aborted = 1; restart_ready = true; error = None }
 
 -- ---- a stall: request 0 fails, and a reset that aborts it makes the controller Initialized again; requests 1 and 2 have one token
 abbrev to_reset : List Event
 to_reset =
-    ready ++ (calls (asks 8) ∷ calls (Reply (ToSubmit (SubmitReply.Token 7)))
+    ready ++ (calls (asks 8) ∷ calls (Reply (ToSubmit (Ok 7)))
     ∷ calls (Begin (Poll (id 0))) ∷ calls stalls ∷ calls (asks 4)
     ∷ calls (Begin (Recover (id 0) (RecoveryKind.Reset false)))
     ∷ [])
@@ -203,13 +200,13 @@ aborts = returns whole (reply_lists [] [] (7 ∷ []) []) own
 abbrev to_abort : List Event
 to_abort =
     to_reset ++ (aborts ∷ calls (Change (id 0) Reclaim)
-    ∷ calls (asks 4) ∷ calls (Reply (ToSubmit (SubmitReply.Token 7)))
-    ∷ calls (asks 2) ∷ calls (Reply (ToSubmit (SubmitReply.Token 7)))
+    ∷ calls (asks 4) ∷ calls (Reply (ToSubmit (Ok 7)))
+    ∷ calls (asks 2) ∷ calls (Reply (ToSubmit (Ok 7)))
     ∷ calls (Begin (Recover (id 2) RecoveryKind.Abort))
     ∷ [])
 
 abbrev closing : List Event
-closing = calls (Read HeldCount) ∷ calls (Read HeldBytes) ∷ calls (Move (Close (OptionU64.Some 6) OptionError.None)) ∷ calls (Read HeldCount) ∷ []
+closing = calls (Read HeldCount) ∷ calls (Read HeldBytes) ∷ calls (Move (Close (Some 6) None)) ∷ calls (Read HeldCount) ∷ []
 
 abbrev stalled : List Event
 stalled = to_abort ++ (aborts ∷ closing)
@@ -264,9 +261,9 @@ pub record Computed (es : List Event) (answers : List ℕ) (journal rows : List 
   pub claim : Claim start es
 
 -- both submissions are refused by 31, each also by the watcher's own words
-pub record Pulled (first : ℕ) (earlier : OptionU32) : Type 0 where
+pub record Pulled (first : ℕ) (earlier : Option ℕ) : Type 0 where
   pub answers_are : map (λ (h : Answered). number_in h.answer) (history_of start (cable first)) ≡ 0 ∷ 0 ∷ 0 ∷ 0 ∷ 0 ∷ 31 ∷ 0 ∷ 31 ∷ []
-  pub row_is : port_at (then first).lent.bus 1 ≡ record { generation = 2; reading = OptionU32.Some 0x402 }
+  pub row_is : port_at (then first).lent.bus 1 ≡ record { generation = 2; reading = Some 0x402 }
   pub noticed : Noticed (plugged camera).port earlier (end_of start ready).lent.bus (answer_to (end_of start ready) (calls (Begin (pulled first))))
       (then first).lent.bus
   pub stale : Refuses stale_numbers (answer_to (end_of (then first) between) (calls (asks 8)))
@@ -290,8 +287,8 @@ pub record Shown : Type 0 where
   pub restored : is_initialized (end_of start (to_reset ++ (aborts ∷ []))).session.state ≡ true
   -- a token means the lowest id that has it: 1 is aborted, 2 stays held
   pub one_token : map row_numbers (rows_after start (to_abort ++ (aborts ∷ []))) ≡ (1 ∷ 4 ∷ 3 ∷ []) ∷ (2 ∷ 2 ∷ 0 ∷ []) ∷ []
-  pub cable_is : Pulled 0x402 OptionU32.None
-  pub between_readings : Pulled 0x401 (OptionU32.Some 0x401)
+  pub cable_is : Pulled 0x402 None
+  pub between_readings : Pulled 0x401 (Some 0x401)
 
 -- two rows with the tokens 7 and 9
 two_apart : (l : List Row) → map (λ (r : Row). r.token) l ≡ 7 ∷ 9 ∷ [] → Different camera 0x81 l
@@ -343,11 +340,11 @@ shown =
       };
       restored = refl;
       one_token = refl;
-      cable_is = record { answers_are = refl; row_is = refl; noticed = by_watcher 0x402 OptionU32.None refl; stale = stays 0x402 refl };
+      cable_is = record { answers_are = refl; row_is = refl; noticed = by_watcher 0x402 None refl; stale = stays 0x402 refl };
       between_readings = record {
         answers_are = refl;
         row_is = refl;
-        noticed = by_watcher 0x401 (OptionU32.Some 0x401) (record { readings = refl; agrees = refl; not_control = refl; configured = refl });
+        noticed = by_watcher 0x401 (Some 0x401) (record { readings = refl; agrees = refl; not_control = refl; configured = refl });
         stale = stays 0x401 refl;
       };
     }
@@ -355,12 +352,12 @@ shown =
     watch : (first : ℕ) → Watched start (cable first)
     watch first = watched start (cable first) (refl, (refl, (refl, (refl, (refl, (refl, (refl, (refl, tt))))))))
 
-    by_watcher : (first : ℕ) (earlier : OptionU32) → Reads (plugged camera) 0x403 earlier 0x402 (pulled first)
+    by_watcher : (first : ℕ) (earlier : Option ℕ) → Reads (plugged camera) 0x403 earlier 0x402 (pulled first)
         → Noticed (plugged camera).port earlier (end_of start ready).lent.bus (answer_to (end_of start ready) (calls (Begin (pulled first)))) (then first).lent.bus
     by_watcher first earlier k =
         (watch first).noticed 1 (plugged camera) ready (between ++ (calls (asks 8) ∷ [])) (pulled first) earlier 0x403 0x402 refl refl refl k refl true≢false
 
-    stays : (first : ℕ) → (port_at (then first).lent.bus 1).reading ≡ OptionU32.Some 0x402 → Refuses stale_numbers (answer_to (end_of (then first) between) (calls (asks 8)))
+    stays : (first : ℕ) → (port_at (then first).lent.bus 1).reading ≡ Some 0x402 → Refuses stale_numbers (answer_to (end_of (then first) between) (calls (asks 8)))
     stays first e =
         (watch first).refused 1 (plugged camera) ready between [] (Begin (pulled first)) (asking camera 8 0x403) refl refl
         (record { old = 0x403; raw = 0x402; last = refl; taken = e; differs = true≢false; current = refl }) (refl, (refl, tt)) refl

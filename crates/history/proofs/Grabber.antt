@@ -1,4 +1,5 @@
 -- Those who take completed bytes: the row of bytes that come back is not held, and its id has one release. Assumes nothing.
+use Rattle.std.specs.Prelude.{Option, Result}
 use Prim.Native.Nat.{ℕ, ◌+◌, ◌*◌, ◌<◌, ◌≤◌, min}
 use mathlib.Core.Bool.{true, false, true≢false}
 use mathlib.Core.List.{List, [], ◌∷◌, ◌++◌}
@@ -6,7 +7,6 @@ use mathlib.Core.Logic.{◌⊎◌, inl, inr}
 use mathlib.Core.Path.{◌≡◌, refl, sym, ap, ◌∙◌, subst}
 use native.Mathlib.Omega.{arith}
 use lib.ListN.{length}
-use Rattle.chain.specs.declared.{Found.Found}
 use Rattle.chain.proofs.Chain.{if_by}
 use Rattle.words.proofs.Records.{record_apart}
 use Rattle.models.specs.Requests.{device_may_access}
@@ -18,7 +18,7 @@ use Rattle.rows.specs.declared.{Row.Row}
 use Rattle.ledger.specs.Search.{is_at}
 use Rattle.session.specs.declared.{Session.Session, Size.Size, lifecycle.Opening.Opening}
 use Rattle.reports.specs.Status.{shown_at, completed_length, bytes_part, part_by, completed_part}
-use Rattle.reports.specs.declared.{Part.Part, PartAnswer.PartAnswer}
+use Rattle.reports.specs.declared.{Part.Part}
 use Rattle.calls.specs.Answers.{of_part}
 use Rattle.calls.specs.Calls.{Open, Read, CompletedBytes}
 use Rattle.calls.specs.Step.{World, read_of, step_of, world_store, next}
@@ -55,10 +55,10 @@ unfolding completed_part shown_at part_by
 taken_told id size s store p =
     if_by Told _ _ _ (λ t e. refuses e)
     (λ t.
-    if_by (λ (f : Found). Told (part_by f s.size.row_bytes store.rows)) _ _ _ (λ y e. refuses e)
-    (λ y. found_all id store.rows (λ (f : Found). Told (part_by f s.size.row_bytes store.rows)) (λ e. refuses e) (λ i h hit. at i h hit)))
+    if_by (λ (f : Option ℕ). Told (part_by f s.size.row_bytes store.rows)) _ _ _ (λ y e. refuses e)
+    (λ y. found_all id store.rows (λ (f : Option ℕ). Told (part_by f s.size.row_bytes store.rows)) (λ e. refuses e) (λ i h hit. at i h hit)))
   where
-    Told : PartAnswer → Type 0
+    Told : Result Part Refusal → Type 0
     Told a = of_part a ≡ Answer.Bytes p → 1 ≤ p.length → TakenFrom id s.size store.rows p
 
     refuses : {f : Refusal} → Answer.Refused f ≡ Answer.Bytes p → 1 ≤ p.length → TakenFrom id s.size store.rows p

@@ -1,5 +1,6 @@
 -- The claim tells right from wrong: it is false of each of four steps that have one fault, on a script of which the theorem shows it of the
 -- calls' own step. Assumes nothing.
+use Rattle.std.specs.Prelude.{Ok}
 use Prim.Native.Nat.{ℕ}
 use mathlib.Core.Bool.{true, true≢false}
 use mathlib.Core.List.{List, [], ◌∷◌, ◌++◌}
@@ -35,7 +36,6 @@ use Rattle.submissions.specs.Begin.{room_in, write_of, begin_of, target_by, targ
 use Rattle.submissions.specs.Admit.{place_in, admit_prepared, admit_room, admit_packets, admit_of}
 use Rattle.submissions.specs.Submit.{submitted_by, submit_of, submit_by, submit_target}
 use Rattle.submissions.specs.SubmitReply.{submit_reply_in, accepted_by, submit_reply_by, submit_reply_of}
-use Rattle.submissions.specs.declared.{SubmitReply.SubmitReply}
 use Rattle.scope.specs.Affected.{is_affected, joined, affected_of}
 use Rattle.scope.specs.Returned.{read_returned, lists_agree}
 use Rattle.scope.specs.Scope.{in_scope}
@@ -56,7 +56,7 @@ use Rattle.history.proofs.Examples.{opening, bus_words, before, start, plugged, 
 
 -- request 0, of 8 bytes, has token 7
 abbrev one : List Event
-one = ready ++ (calls (asks 8) ∷ calls (Reply (ToSubmit (SubmitReply.Token 7))) ∷ [])
+one = ready ++ (calls (asks 8) ∷ calls (Reply (ToSubmit (Ok 7))) ∷ [])
 
 abbrev late : List Event
 late = one ++ (calls (Change (id 0) Timeout) ∷ [])
@@ -64,7 +64,7 @@ late = one ++ (calls (Change (id 0) Timeout) ∷ [])
 -- request 1 has token 9, and a recovery aborts both
 abbrev two : List Event
 two =
-    one ++ (calls (asks 4) ∷ calls (Reply (ToSubmit (SubmitReply.Token 9)))
+    one ++ (calls (asks 4) ∷ calls (Reply (ToSubmit (Ok 9)))
     ∷ calls (Begin (Recover (id 0) RecoveryKind.Abort)) ∷ returns whole (reply_lists [] [] (7 ∷ 9 ∷ []) []) own
     ∷ [])
 
@@ -74,7 +74,7 @@ newcomer = record { session = 5; generation = 1; slot = 1 }
 
 abbrev shared : List Event
 shared =
-    one ++ (calls (Place (Device (plugged newcomer))) ∷ calls (Begin (asking newcomer 4 0x403)) ∷ calls (Reply (ToSubmit (SubmitReply.Token 7)))
+    one ++ (calls (Place (Device (plugged newcomer))) ∷ calls (Begin (asking newcomer 4 0x403)) ∷ calls (Reply (ToSubmit (Ok 7)))
     ∷ calls (Begin (Recover (id 1) RecoveryKind.Abort)) ∷ returns whole (reply_lists [] [] (7 ∷ []) []) own
     ∷ [])
 

@@ -1,4 +1,5 @@
 -- The invariant of a session, its rows and the journal, and the moves that keep it. Assumes nothing.
+use Rattle.std.specs.Prelude.{Option, Some, None}
 use Prim.Native.Nat.{ℕ, ◌≤◌, ◌<◌}
 use mathlib.Core.Path.{◌≡◌, refl, sym, ◌∙◌, subst}
 use mathlib.Core.Bool.{true, false, true≢false}
@@ -9,7 +10,6 @@ use lib.ListN.{length, set, replicate}
 use Rattle.chain.specs.Lists.{count, is_among}
 use Rattle.chain.proofs.Chain.{caseB, if_all, or_false}
 use Rattle.chain.proofs.Lists.{sum_none, in_cons, in_head}
-use Rattle.words.specs.declared.{OptionU64.OptionU64}
 use Rattle.models.specs.declared.{OperationError.OperationError, RequestId.RequestId}
 use Rattle.rows.specs.Table.{empty_row, is_held, row_in}
 use Rattle.rows.specs.declared.{Row.Row}
@@ -83,9 +83,9 @@ module _ (s : Session) (rows : List Row) (j : Journal) (seen : List ℕ) (k : In
       record { led = led_set rows j.entries k.led i lt r' c; fresh = k.fresh; past = k.past; here = k.here; agree = k.agree }
 
   -- ---- session numbers
-  pub seen_more : (n : OptionU64) → Inv s rows j (noted n seen)
-  seen_more OptionU64.None = k
-  seen_more (OptionU64.Some n) = record {
+  pub seen_more : (n : Option ℕ) → Inv s rows j (noted n seen)
+  seen_more None = k
+  seen_more (Some n) = record {
     led = k.led;
     fresh = k.fresh;
     agree = k.agree;

@@ -1,5 +1,6 @@
 -- A call that places neither the device of a slot nor the row of a port: the device stays, and the port's generation rises, or it stays with the
 -- connected bit of the last reading. Assumes nothing.
+use Rattle.std.specs.Prelude.{Option, Some, None, Result, Ok, Err, ⊤}
 use Prim.Native.Nat.{ℕ, zero, suc, ◌≤◌}
 use mathlib.Core.Bool.{Bool, true, false, not, ◌||◌, beq, true≢false}
 use mathlib.Core.List.{[], ◌∷◌}
@@ -12,16 +13,14 @@ use lib.Seq.{get_or-set_same, get_or-set_other, set_out}
 use Rattle.chain.specs.After.{After}
 use Rattle.chain.specs.Lists.{is_among}
 use Rattle.chain.proofs.Chain.{caseB, if_all, if_by, or_false}
-use Rattle.words.specs.declared.{OptionU32.OptionU32}
-use Rattle.models.specs.declared.{OptionPorts.OptionPorts, PortId.PortId, PortReading.PortReading, RequestMetadata.RequestMetadata, Verdict.Verdict}
-use Rattle.models.specs.declared.PortReading.TheVariants.{Word, Error}
+use Rattle.models.specs.declared.{DeviceSnapshot.DeviceSnapshot, OperationError.OperationError, PortId.PortId, Ports.Ports, Refusal.Refusal, RequestMetadata.RequestMetadata}
 use Rattle.standards.specs.Ports.{port_connected}
 use Rattle.bus.specs.Endpoints.{set_endpoints}
 use Rattle.bus.specs.Ports.{number_checked, set_port_by, set_port, of_opening, validated, raised_row, observed_by, observed_row, observe_port_by, observe_port, fresh_word, fresh_reading, fresh_port_by, fresh_port}
 use Rattle.bus.specs.Tables.{Bus, new_port, port_index, port_at, device_at, put_port, put_device, put_endpoints, put_mark}
-use Rattle.bus.specs.declared.{PortRow.PortRow, ports.Observed.Observed, ports.PortChecked.PortChecked}
+use Rattle.bus.specs.declared.{PortRow.PortRow}
 use Rattle.targets.specs.Target.{known_device, prepared_device, fresh_device, check_device_by, check_device, check_endpoint, check_target_by, check_target}
-use Rattle.targets.specs.declared.{Readings.Readings, target.DeviceChecked.DeviceChecked}
+use Rattle.targets.specs.declared.{Readings.Readings}
 use Rattle.session.specs.Lent.{Lent, lent}
 use Rattle.session.specs.Place.{placed, set_device_of, set_port_of, set_endpoints_of, set_reconcile_of}
 use Rattle.session.specs.Session.{is_initialized}
@@ -37,20 +36,20 @@ use Rattle.history.specs.Watcher.{places_one, places_at}
 -- ---- a port's row and its later self
 
 -- a reading has taken the place of none, or has the same connected bit
-abbrev pub SameBit : OptionU32 → OptionU32 → Type 0
-SameBit OptionU32.None y = Unit {0}
-SameBit (OptionU32.Some old) OptionU32.None = ⊥
-SameBit (OptionU32.Some old) (OptionU32.Some raw) = port_connected old ≡ port_connected raw
+abbrev pub SameBit : Option ℕ → Option ℕ → Type 0
+SameBit None y = Unit {0}
+SameBit (Some old) None = ⊥
+SameBit (Some old) (Some raw) = port_connected old ≡ port_connected raw
 
-bit_same : (x : OptionU32) → SameBit x x
-bit_same OptionU32.None = tt
-bit_same (OptionU32.Some raw) = refl
+bit_same : (x : Option ℕ) → SameBit x x
+bit_same None = tt
+bit_same (Some raw) = refl
 
-bit_on : (x y z : OptionU32) → SameBit x y → SameBit y z → SameBit x z
-bit_on OptionU32.None y z a b = tt
-bit_on (OptionU32.Some x) OptionU32.None z a b = absurd a
-bit_on (OptionU32.Some x) (OptionU32.Some y) OptionU32.None a b = absurd b
-bit_on (OptionU32.Some x) (OptionU32.Some y) (OptionU32.Some z) a b = a ∙ b
+bit_on : (x y z : Option ℕ) → SameBit x y → SameBit y z → SameBit x z
+bit_on None y z a b = tt
+bit_on (Some x) None z a b = absurd a
+bit_on (Some x) (Some y) None a b = absurd b
+bit_on (Some x) (Some y) (Some z) a b = a ∙ b
 
 -- the generation rises, or it stays and so does the connected bit
 pub record Later (r r' : PortRow) : Type 0 where
@@ -73,39 +72,39 @@ beq_same false true e = e
 beq_same false false e = refl
 
 -- 34, or the row that a reading leaves
-abbrev Observes : PortRow → Observed → Type 0
-Observes r (Observed.Refused x) = Unit {0}
-Observes r (Observed.To row) = Later r row
+abbrev Observes : PortRow → Result PortRow Refusal → Type 0
+Observes r (Err x) = Unit {0}
+Observes r (Ok row) = Later r row
 
 observed_later : (r : PortRow) (raw : ℕ) → Observes r (observed_row r raw)
 unfolding observed_row observed_by raised_row
 observed_later r raw = go r.reading refl
   where
-    kept : (o : OptionU32) → r.reading ≡ o → SameBit o (OptionU32.Some raw) → Later r (record { generation = r.generation; reading = OptionU32.Some raw })
-    kept o e k = record { rises = omega arith; stays = λ q. subst (λ (x : OptionU32). SameBit x (OptionU32.Some raw)) (sym e) k }
+    kept : (o : Option ℕ) → r.reading ≡ o → SameBit o (Some raw) → Later r (record { generation = r.generation; reading = Some raw })
+    kept o e k = record { rises = omega arith; stays = λ q. subst (λ (x : Option ℕ). SameBit x (Some raw)) (sym e) k }
 
-    go : (o : OptionU32) → r.reading ≡ o → Observes r (observed_by o r raw)
-    go OptionU32.None e = kept OptionU32.None e tt
-    go (OptionU32.Some old) e =
+    go : (o : Option ℕ) → r.reading ≡ o → Observes r (observed_by o r raw)
+    go None e = kept None e tt
+    go (Some old) e =
         if_by (Observes r) _ _ _ (λ t. if_all (Observes r) _ _ _ tt (record { rises = omega arith; stays = λ q. absurd (omega arith) }))
-        (λ t. kept (OptionU32.Some old) e (beq_same (port_connected old) (port_connected raw) (not-false _ t)))
+        (λ t. kept (Some old) e (beq_same (port_connected old) (port_connected raw) (not-false _ t)))
 
 -- 29, 30, or a number of 1 or more
-abbrev pub Numbered : ℕ → Verdict → Type 0
-Numbered n (Verdict.Refused r) = is_among r.number (29 ∷ 30 ∷ []) ≡ true
-Numbered n Verdict.Pass = 1 ≤ n
+abbrev pub Numbered : ℕ → Result ⊤ Refusal → Type 0
+Numbered n (Err r) = is_among r.number (29 ∷ 30 ∷ []) ≡ true
+Numbered n (Ok tt) = 1 ≤ n
 
-pub number_said : (p : OptionPorts) (n : ℕ) → Numbered n (number_checked p n)
+pub number_said : (p : Option Ports) (n : ℕ) → Numbered n (number_checked p n)
 unfolding number_checked
-number_said OptionPorts.None n = refl
-number_said (OptionPorts.Some p) n = if_by (Numbered n) _ _ _ (λ t. refl) (λ t. above n t)
+number_said None n = refl
+number_said (Some p) n = if_by (Numbered n) _ _ _ (λ t. refl) (λ t. above n t)
   where
     above : (n : ℕ) → (eqb n 0 || ltb p.count n) ≡ false → 1 ≤ n
     above zero t = absurd (true≢false t)
     above (suc n) t = omega arith
 
 -- past 31 the id's generation is the row's
-pub same_generation : (p : OptionPorts) (id : PortId) (row : PortRow)
+pub same_generation : (p : Option Ports) (id : PortId) (row : PortRow)
     → (not (of_opening p id.session) || not (eqb id.generation row.generation)) ≡ false
     → id.generation ≡ row.generation
 same_generation p id row t =
@@ -143,32 +142,32 @@ module _ (slot number : ℕ) where
           (λ t. rw (set_out b.ports (port_index n) row (ltb-false _ _ t)) (later_same (get_or b.ports here new_port))))
           (λ e. rw (get_or-set_other b.ports (port_index n) here row new_port (eqb-false here (port_index n) e)) (later_same (get_or b.ports here new_port)))
 
-  fresh_later : (p : OptionPorts) (id : PortId) (x : PortReading) (b : Bus) → Onward b (fresh_port p id x b).lent
+  fresh_later : (p : Option Ports) (id : PortId) (x : Result ℕ OperationError) (b : Bus) → Onward b (fresh_port p id x b).lent
   unfolding fresh_port fresh_port_by fresh_reading fresh_word observe_port observe_port_by
   fresh_later p id x b = by_port (validated p id b) x
     where
-      by_observed : (o : Observed) → Observes (port_at b id.number) o → Onward b (observe_port_by o id.number b).lent
-      by_observed (Observed.Refused r) k = still b
-      by_observed (Observed.To row) k = put_later b id.number row (λ h e. k)
+      by_observed : (o : Result PortRow Refusal) → Observes (port_at b id.number) o → Onward b (observe_port_by o id.number b).lent
+      by_observed (Err r) k = still b
+      by_observed (Ok row) k = put_later b id.number row (λ h e. k)
 
-      by_port : (c : PortChecked) (x : PortReading) → Onward b (fresh_port_by c x p id b).lent
-      by_port (PortChecked.Refused r) x = still b
-      by_port (PortChecked.Read raw) (Error e) = still b
-      by_port (PortChecked.Read raw) (Word now) = by_observed (observed_row (port_at b id.number) now) (observed_later (port_at b id.number) now)
+      by_port : (c : Result ℕ Refusal) (x : Result ℕ OperationError) → Onward b (fresh_port_by c x p id b).lent
+      by_port (Err r) x = still b
+      by_port (Ok raw) (Err e) = still b
+      by_port (Ok raw) (Ok now) = by_observed (observed_row (port_at b id.number) now) (observed_later (port_at b id.number) now)
 
-  target_later : (ready : Bool) (p : OptionPorts) (m : RequestMetadata) (x : Readings) (b : Bus) → Onward b (check_target ready p m x b).lent
+  target_later : (ready : Bool) (p : Option Ports) (m : RequestMetadata) (x : Readings) (b : Bus) → Onward b (check_target ready p m x b).lent
   unfolding check_target check_target_by check_device check_device_by fresh_device check_endpoint
   target_later ready p m x b = by_known (known_device ready m.device b)
     where
-      second : (k : DeviceChecked) (c : Bus) → Onward c (check_target_by k p m x.second c).lent
-      second (DeviceChecked.Refused r) c = still c
-      second (DeviceChecked.Ready d) c =
-          if_all (λ (o : After Verdict Bus). Onward c o.lent) _ _ _ (still c)
-          (if_all (λ (o : After Verdict Bus). Onward c o.lent) _ _ _ (still c) (fresh_later p d.port x.second c))
+      second : (k : Result DeviceSnapshot Refusal) (c : Bus) → Onward c (check_target_by k p m x.second c).lent
+      second (Err r) c = still c
+      second (Ok d) c =
+          if_all (λ (o : After (Result ⊤ Refusal) Bus). Onward c o.lent) _ _ _ (still c)
+          (if_all (λ (o : After (Result ⊤ Refusal) Bus). Onward c o.lent) _ _ _ (still c) (fresh_later p d.port x.second c))
 
-      by_known : (k : DeviceChecked) → (let o = check_device_by k p x.first b in Onward b (check_target_by o.result p m x.second o.lent).lent)
-      by_known (DeviceChecked.Refused r) = still b
-      by_known (DeviceChecked.Ready d) =
+      by_known : (k : Result DeviceSnapshot Refusal) → (let o = check_device_by k p x.first b in Onward b (check_target_by o.result p m x.second o.lent).lent)
+      by_known (Err r) = still b
+      by_known (Ok d) =
           let c = (fresh_port p d.port x.first b).lent in
           onward b c _ (fresh_later p d.port x.first b) (second (prepared_device (fresh_port p d.port x.first b).result d) c)
 
@@ -176,15 +175,15 @@ module _ (slot number : ℕ) where
   unfolding target_of target_by
   targeted d x s l = by_verdict seen.result
     where
-      seen : After Verdict Bus
+      seen : After (Result ⊤ Refusal) Bus
       seen = check_target (is_initialized s.state) s.ports d.metadata x l.bus
 
       reads : Onward l.bus seen.lent
       reads = target_later (is_initialized s.state) s.ports d.metadata x l.bus
 
-      by_verdict : (v : Verdict) → Onward l.bus (target_by v d s (lent seen.lent l.memory)).lent.bus
-      by_verdict (Verdict.Refused r) = reads
-      by_verdict Verdict.Pass = reads
+      by_verdict : (v : Result ⊤ Refusal) → Onward l.bus (target_by v d s (lent seen.lent l.memory)).lent.bus
+      by_verdict (Err r) = reads
+      by_verdict (Ok tt) = reads
 
   place_later : (p : Placing) (w : World) → places_one slot number p ≡ false → Onward w.lent.bus (placed_of p w).lent
   unfolding placed_of set_device_of set_port_of set_endpoints_of set_reconcile_of placed guarded set_port set_port_by set_endpoints put_device put_endpoints put_mark
@@ -193,12 +192,12 @@ module _ (slot number : ℕ) where
       b : Bus
       b = w.lent.bus
 
-      To : After Verdict Bus → Type 0
+      To : After (Result ⊤ Refusal) Bus → Type 0
       To o = Onward b o.lent
 
-      by_number : (v : Verdict) (n : ℕ) (row : PortRow) → eqb n number ≡ false → Numbered n v → To (set_port_by v n row b)
-      by_number (Verdict.Refused r) n row e k = still b
-      by_number Verdict.Pass n row e k = put_later b n row (λ h q. absurd (eqb-false n number e (omega arith)))
+      by_number : (v : Result ⊤ Refusal) (n : ℕ) (row : PortRow) → eqb n number ≡ false → Numbered n v → To (set_port_by v n row b)
+      by_number (Err r) n row e k = still b
+      by_number (Ok tt) n row e k = put_later b n row (λ h q. absurd (eqb-false n number e (omega arith)))
 
       go : (q : Placing) → places_one slot number q ≡ false → To (placed_of q w)
       go (Device d) e =

@@ -1,5 +1,6 @@
 -- What no list of calls after an opening leads to: a recovery's 44, the ledger's 43 in a recovery's reply, and more affected rows than a
 -- recovery's list holds. Assumes nothing.
+use Rattle.std.specs.Prelude.{Result, Ok, Err, ⊤}
 use Prim.Native.Nat.{ℕ, ◌≤◌}
 use mathlib.Core.Bool.{true, false, not, true≢false}
 use mathlib.Core.List.{List, [], ◌∷◌, ◌++◌}
@@ -7,7 +8,7 @@ use mathlib.Core.Path.{◌≡◌, refl, sym, ap, ◌∙◌}
 use lib.Dec.{eqb}
 use Rattle.chain.specs.Lists.{count}
 use Rattle.chain.specs.After.{After}
-use Rattle.models.specs.declared.{DeviceId.DeviceId, RequestId.RequestId, Verdict.Verdict}
+use Rattle.models.specs.declared.{DeviceId.DeviceId, OperationError.OperationError, Refusal.Refusal, RequestId.RequestId}
 use Rattle.rows.specs.Table.{is_held, row_in}
 use Rattle.rows.specs.Store.{Store}
 use Rattle.rows.specs.declared.{Row.Row}
@@ -18,7 +19,7 @@ use Rattle.scope.specs.Affected.{affected_of}
 use Rattle.scope.specs.Scope.{in_scope}
 use Rattle.recovery.specs.Recover.{recover_of, begun_as}
 use Rattle.recovery.specs.RecoveryReply.{ReplyLists, ended, is_whole, concluded_by, settled_of, recovery_reply_of}
-use Rattle.recovery.specs.declared.{AbortReport.AbortReport, Begun.Begun, Outcome.Outcome, RecoveryReply.RecoveryReply, Replied.Replied}
+use Rattle.recovery.specs.declared.{AbortReport.AbortReport, Begun.Begun, BackendAbort.BackendAbort, Replied.Replied}
 use Rattle.calls.specs.Answers.{of_begin, of_recovery}
 use Rattle.calls.specs.Calls.{Open, Begin, Recover, Reply, ToRecovery}
 use Rattle.calls.specs.Step.{World, begun_of, replied_of, step_of, world_store, next}
@@ -60,19 +61,19 @@ module _ (s : Session) (m : Memory) (entries : List Entry) (few : count is_held 
   abbrev quiet : Session
   quiet = with_flight s InFlight.Nothing
 
-  concluded : (v : Verdict) → LateBy v → (y : Recovery) (o : Outcome) (report : AbortReport) (places : List ℕ) (rows : List Row) → Ends (concluded_by v (ended quiet y o) report places rows)
+  concluded : (v : Result ⊤ Refusal) → LateBy v → (y : Recovery) (o : BackendAbort) (report : AbortReport) (places : List ℕ) (rows : List Row) → Ends (concluded_by v (ended quiet y o) report places rows)
   unfolding concluded_by
-  concluded (Verdict.Refused r) late y o report places rows =
+  concluded (Err r) late y o report places rows =
       let (two, three, lists, error, scope) = late_numbers r.number late in
       (rw (two, three, lists), late_43 r.number late)
-  concluded Verdict.Pass late y o report places rows = (refl, refl)
+  concluded (Ok tt) late y o report places rows = (refl, refl)
 
-  pub settled_ends : (y : Recovery) (o : Outcome) → in_scope (is_whole o) (own_tokens y.device y.endpoint m.store.rows) (l.tokens ++ l.aborted) ≡ true
+  pub settled_ends : (y : Recovery) (o : BackendAbort) → in_scope (is_whole o) (own_tokens y.device y.endpoint m.store.rows) (l.tokens ++ l.aborted) ≡ true
       → Ends (settled_of (ended quiet y o) (place_meant y.device y.endpoint m.store.rows) l m).result
   unfolding settled_of
   settled_ends y o n = concluded _ (recovered_kept y.device y.endpoint m entries few k (is_whole o) s.size l n).1 y o _ _ _
 
-  never_43 : (r : RecoveryReply) → Not 43 (of_recovery (recovery_reply_of r l s m).result.answer)
+  never_43 : (r : Result BackendAbort OperationError) → Not 43 (of_recovery (recovery_reply_of r l s m).result.answer)
   never_43 r =
       recovery_all l s m (λ (o : After Replied Memory). Not 43 (of_recovery o.result.answer)) refl refl refl (λ e. refl) refl (λ y own o n. (settled_ends y o n).1) r
 
@@ -93,7 +94,7 @@ module _ (o : Opening) (w : World) (es : List Event) (pass : (step_of (Open o) w
   pub all_affected : (d : DeviceId) (endpoint : ℕ) → affected_of d endpoint (world_store at).rows ≡ all_of d endpoint (world_store at).rows
   all_affected d endpoint = affected_all d endpoint (world_store at).rows (sound_run o w es pass follows).held
 
-  pub reply_43 : Fresh (o.session ∷ []) es → (r : RecoveryReply) (l : ReplyLists) (h : Handed) → Handing h (Reply (ToRecovery r l)) → Not 43 (answer_to at (returns r l h))
+  pub reply_43 : Fresh (o.session ∷ []) es → (r : Result BackendAbort OperationError) (l : ReplyLists) (h : Handed) → Handing h (Reply (ToRecovery r l)) → Not 43 (answer_to at (returns r l h))
   unfolding step_of replied_of
   reply_43 fresh r l h f =
       by_handed h (Reply (ToRecovery r l)) at (λ a v. Not 43 a) f

@@ -1,4 +1,5 @@
 -- A cancel and its withdrawal, in either order, leave all as it was in every session that calls lead to. Assumes nothing.
+use Rattle.std.specs.Prelude.{Option, Some, None, Ok}
 use Prim.Native.Nat.{ℕ, ◌<◌}
 use mathlib.Core.Bool.{Bool, true, false, true≢false}
 use mathlib.Core.List.{List}
@@ -7,7 +8,6 @@ use native.Mathlib.Omega.{arith}
 use Rattle.chain.specs.After.{after}
 use Rattle.chain.specs.Chain.{◌if◌else◌}
 use Rattle.chain.specs.Lists.{found_in}
-use Rattle.chain.specs.declared.{Found.Found}
 use Rattle.models.specs.declared.{RequestId.RequestId, RequestReport.RequestReport, RequestState.RequestState}
 use Rattle.models.specs.declared.RequestState.TheVariants.{Pending}
 use Rattle.rows.specs.Store.{Store, put_in}
@@ -18,7 +18,6 @@ use Rattle.rules.specs.Rules.{report_of, moved, change_row}
 use Rattle.rules.proofs.Restored.{cancel_as, cancels, withdraws, withdraw_restores, cancel_restores}
 use Rattle.ledger.specs.Apply.{apply_of}
 use Rattle.ledger.specs.Search.{is_at}
-use Rattle.ledger.specs.declared.{Applied.Applied}
 use Rattle.ledger.proofs.Found.{found_row}
 use Rattle.ledger.proofs.Restored.{apply_moved, apply_back}
 use Rattle.session.specs.Lent.{memory, lent, store_fits}
@@ -47,12 +46,12 @@ shown_idle (InFlight.Recovery x) id rows e = absurd (true≢false e)
 
 -- a change and a status call that neither 1 nor 3 refuses
 module _ (id : RequestId) (w : World) (idle : is_busy w.session.in_flight ≡ false) (fits : store_fits w.session.size (world_store w) ≡ true) where
-  changes : (c : Changing) (report : RequestReport) (left : Store) → apply_of id (change_by c) (world_store w) ≡ after (Applied.Done report) left
+  changes : (c : Changing) (report : RequestReport) (left : Store) → apply_of id (change_by c) (world_store w) ≡ after (Ok report) left
       → step_of (Change id c) w ≡ after (outcome (Answer.Report report) w.session) (lent w.lent.bus (memory left w.lent.memory.area))
   unfolding step_of change_of guarded reported_by ◌if◌else◌
   changes c report left e = rw (idle, fits, e)
 
-  tells : (i : ℕ) → found_in (is_at id) (world_store w).rows ≡ Found.At i
+  tells : (i : ℕ) → found_in (is_at id) (world_store w).rows ≡ Some i
       → step_of (Read (Status id)) w ≡ after (outcome (Answer.Report (report_of (row_in (world_store w).rows i))) w.session) w.lent
   unfolding step_of read_of status_of status_by ◌if◌else◌
   tells i at = rw (fits, shown_idle w.session.in_flight id (world_store w).rows idle ∙ at)
@@ -66,11 +65,11 @@ module _ (w : World) (sound : SoundIn w) (fitted : FittedIn w) (id : RequestId) 
   rows = (world_store w).rows
 
   -- c makes q of the row, and d the row of q
-  takes_back : (c d : Changing) (i : ℕ) (q : Row) → is_busy w.session.in_flight ≡ false → found_in (is_at id) rows ≡ Found.At i → is_at id q ≡ true
+  takes_back : (c d : Changing) (i : ℕ) (q : Row) → is_busy w.session.in_flight ≡ false → found_in (is_at id) rows ≡ Some i → is_at id q ≡ true
       → change_row (row_in rows i) (change_by c) ≡ moved q → change_row q (change_by d) ≡ moved (row_in rows i) → TakesBack w id c d
   takes_back c d i q idle at same there back =
       let store = world_store w in
-      let below = (found_row id rows (Found.At i) i (sym at) refl).0 in
+      let below = (found_row id rows (Some i) i (sym at) refl).0 in
       let inside = below_words w.session.size store fitted.fits fitted.whole i below in
       let v : World = world w.session (lent w.lent.bus (memory (put_in store i q) w.lent.memory.area)) in
       let first : next (step_of (Change id c) w) ≡ v =
@@ -83,17 +82,17 @@ module _ (w : World) (sound : SoundIn w) (fitted : FittedIn w) (id : RequestId) 
   -- the row of the id; its own copy of the flag is the state's
   record RowFound (cancel late : Bool) : Type 0 where
     index : ℕ
-    at : found_in (is_at id) rows ≡ Found.At index
+    at : found_in (is_at id) rows ≡ Some index
     hit : is_at id (row_in rows index) ≡ true
     state : Pending cancel late ≡ (row_in rows index).state
     copy : cancel ≡ (row_in rows index).logical_cancel
 
-  by_found : (cancel late : Bool) (x : RequestReport) (f : Found) → found_in (is_at id) rows ≡ f → of_report (status_by f rows) ≡ Answer.Report x
+  by_found : (cancel late : Bool) (x : RequestReport) (f : Option ℕ) → found_in (is_at id) rows ≡ f → of_report (status_by f rows) ≡ Answer.Report x
       → x.state ≡ Pending cancel late → RowFound cancel late
   unfolding status_by
-  by_found cancel late x Found.Nothing e h p = let z : ◌≡◌ {A = ℕ} 0 1 = cc in absurd (omega arith)
-  by_found cancel late x (Found.At i) e h p =
-      let here = found_row id rows (Found.At i) i (sym e) refl in
+  by_found cancel late x None e h p = let z : ◌≡◌ {A = ℕ} 0 1 = cc in absurd (omega arith)
+  by_found cancel late x (Some i) e h p =
+      let here = found_row id rows (Some i) i (sym e) refl in
       let same : report_of (row_in rows i) ≡ x = cc in
       let is : (row_in rows i).state ≡ Pending cancel late = ap (λ (y : RequestReport). y.state) same ∙ p in
       record {

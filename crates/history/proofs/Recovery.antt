@@ -1,4 +1,5 @@
 -- A recovery's two calls keep the invariant of session, rows and journal. Assumes nothing.
+use Rattle.std.specs.Prelude.{Option, Some, None, Result, Ok, Err, ⊤}
 use Prim.Native.Nat.{ℕ, ◌≤◌, ◌<◌}
 use mathlib.Core.Path.{◌≡◌, refl, sym, ap, ◌∙◌}
 use mathlib.Core.Bool.{Bool, true, false, not, cond, ◌||◌, false≢true}
@@ -10,18 +11,18 @@ use lib.ListN.{length}
 use Rattle.chain.specs.Lists.{count}
 use Rattle.chain.specs.After.{After}
 use Rattle.chain.proofs.Chain.{if_all, both}
-use Rattle.models.specs.declared.{Refusal.Refusal, RequestId.RequestId, Verdict.Verdict}
+use Rattle.models.specs.declared.{OperationError.OperationError, Refusal.Refusal, RequestId.RequestId}
 use Rattle.rows.specs.Store.{Store}
 use Rattle.rows.specs.Table.{is_held, row_in}
 use Rattle.rows.specs.declared.{Row.Row}
 use Rattle.ledger.specs.Search.{is_at}
 use Rattle.session.specs.Session.{with_flight, marked}
 use Rattle.session.specs.Lent.{Memory}
-use Rattle.session.specs.declared.{InFlight.InFlight, OptionStall.OptionStall, Recovery.Recovery, RecoveryKind.RecoveryKind, Session.Session}
+use Rattle.session.specs.declared.{InFlight.InFlight, RecoverableStall.RecoverableStall, Recovery.Recovery, RecoveryKind.RecoveryKind, Session.Session}
 use Rattle.scope.specs.Scope.{in_scope}
 use Rattle.recovery.specs.Recover.{recover_of, begun_as, recovery_of}
 use Rattle.recovery.specs.RecoveryReply.{ReplyLists, apply_all, ended, is_whole, restored_by, reset_by, session_after, refused_after, concluded_by, settled_of, recovery_reply_of}
-use Rattle.recovery.specs.declared.{AbortReport.AbortReport, Begun.Begun, Outcome.Outcome, RecoveryReply.RecoveryReply, Replied.Replied}
+use Rattle.recovery.specs.declared.{AbortReport.AbortReport, Begun.Begun, BackendAbort.BackendAbort, Replied.Replied}
 use Rattle.calls.specs.Answers.{of_begin, of_recovery, is_recovering}
 use Rattle.calls.specs.declared.{Answer.Answer}
 use Rattle.runs.proofs.Ids.{access_held}
@@ -41,17 +42,17 @@ module _ (rows : List Row) (j : Journal) (seen : List ℕ) (s : Session) (k : In
   abbrev Holds : Session → Type 0
   Holds t = Inv t rows j seen
 
-  restored_kept : (q : OptionStall) (x : Recovery) (certain : Bool) → Holds (restored_by q x certain s)
+  restored_kept : (q : Option RecoverableStall) (x : Recovery) (certain : Bool) → Holds (restored_by q x certain s)
   unfolding restored_by
-  restored_kept OptionStall.None x certain = k
-  restored_kept (OptionStall.Some note) x certain = if_all Holds _ _ _ k k
+  restored_kept None x certain = k
+  restored_kept (Some note) x certain = if_all Holds _ _ _ k k
 
   reset_kept : (q : RecoveryKind) (x : Recovery) (l : List Row) → Holds (reset_by q x l s)
   unfolding reset_by
   reset_kept RecoveryKind.Abort x l = k
   reset_kept (RecoveryKind.Reset preserve) x l = restored_kept s.recoverable_stall x _
 
-  after_kept : (x : Recovery) (o : Outcome) (l : List Row) → Holds (session_after (ended s x o) l)
+  after_kept : (x : Recovery) (o : BackendAbort) (l : List Row) → Holds (session_after (ended s x o) l)
   unfolding session_after
   after_kept x o l = if_all Holds _ _ _ (marks s rows j seen k) (reset_kept x.kind x l)
 
@@ -141,20 +142,20 @@ module _ (s : Session) (j : Journal) (seen : List ℕ) (m : Memory) (k : Inv s m
       base : Inv quiet rows' released seen
       base = ended_kept s m.store.rows j seen k rows' entries' kept.led kept.ids
 
-      concluded : (v : Verdict) → LateBy v → (o : Outcome) (report : AbortReport) (places : List ℕ)
+      concluded : (v : Result ⊤ Refusal) → LateBy v → (o : BackendAbort) (report : AbortReport) (places : List ℕ)
           → Inv (concluded_by v (ended quiet x o) report places rows').session rows' (recovered_journal (of_recovery (concluded_by v (ended quiet x o) report places rows').answer) l j) seen
       unfolding concluded_by refused_after
-      concluded (Verdict.Refused r) late o report places =
+      concluded (Err r) late o report places =
           let (two, three, lists, error, scope) = late_numbers r.number late in
           rw (two, three, lists, error, scope, about) (if_all (λ (y : Session). Inv y rows' released seen) _ _ _ (marks quiet rows' released seen base) base)
-      concluded Verdict.Pass late o report places = rw about (after_kept rows' released seen quiet base x o rows')
+      concluded (Ok tt) late o report places = rw about (after_kept rows' released seen quiet base x o rows')
 
-    settled_kept : (o : Outcome) → in_scope (is_whole o) (own_tokens x.device x.endpoint m.store.rows) (l.tokens ++ l.aborted) ≡ true
+    settled_kept : (o : BackendAbort) → in_scope (is_whole o) (own_tokens x.device x.endpoint m.store.rows) (l.tokens ++ l.aborted) ≡ true
         → ReplyKept (settled_of (ended quiet x o) (place_meant x.device x.endpoint m.store.rows) l m)
     unfolding settled_of
     settled_kept o n =
         let w = recovered_kept x.device x.endpoint m j.entries few k.led (is_whole o) s.size l n in
         concluded _ w.0 (apply_all s.size (place_meant x.device x.endpoint m.store.rows) l m).result w.1 o _ _
 
-  pub recovery_kept : (r : RecoveryReply) → ReplyKept (recovery_reply_of r l s m)
+  pub recovery_kept : (r : Result BackendAbort OperationError) → ReplyKept (recovery_reply_of r l s m)
   recovery_kept r = recovery_all l s m ReplyKept k k k (λ e. refused_kept) refused_kept (λ x own o n. settled_kept x own o n) r

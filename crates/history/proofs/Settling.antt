@@ -1,4 +1,5 @@
 -- What a recovery that succeeded leaves of each row. Assumes nothing.
+use Rattle.std.specs.Prelude.{Result, Ok, Err, ⊤}
 use Prim.Native.Nat.{ℕ, ◌≤◌, ◌<◌}
 use mathlib.Core.Path.{◌≡◌, refl, sym, ap, ◌∙◌, subst}
 use mathlib.Core.Bool.{Bool, true, false, cond, not, ◌&&◌}
@@ -12,7 +13,7 @@ use Rattle.chain.specs.Lists.{count, is_among, all_in}
 use Rattle.chain.specs.After.{After}
 use Rattle.chain.proofs.Chain.{caseB, both, or_false}
 use Rattle.chain.proofs.Lists.{get_or-any, in_cons, in_append, all_in_lem}
-use Rattle.models.specs.declared.{DeviceId.DeviceId, Refusal.Refusal, Verdict.Verdict}
+use Rattle.models.specs.declared.{DeviceId.DeviceId, OperationError.OperationError, Refusal.Refusal, RequestReport.RequestReport}
 use Rattle.models.specs.declared.RequestState.TheVariants.{Aborted}
 use Rattle.rows.specs.InPlace.{completed_row}
 use Rattle.rows.specs.Table.{empty_row, is_held, row_in, token_in}
@@ -26,7 +27,7 @@ use Rattle.scope.specs.Affected.{is_affected}
 use Rattle.scope.specs.Scope.{each_once, in_scope}
 use Rattle.scope.specs.Returned.{Returned}
 use Rattle.recovery.specs.RecoveryReply.{ReplyLists, apply_all, ended, is_whole, abort_report, concluded_by, settled_of, recovery_reply_of}
-use Rattle.recovery.specs.declared.{AbortReport.AbortReport, Outcome.Outcome, RecoveryReply.RecoveryReply, Replied.Replied}
+use Rattle.recovery.specs.declared.{AbortReport.AbortReport, BackendAbort.BackendAbort, Replied.Replied}
 use Rattle.calls.specs.Answers.{of_recovery}
 use Rattle.calls.specs.declared.{Answer.Answer}
 use Rattle.runs.specs.Completed.{completed_as}
@@ -161,13 +162,13 @@ module _ (l : ReplyLists) (s : Session) (m : Memory) (x : AbortReport) where
     whole_is : (a b : Bool) → a ≡ true → b ≡ false → (a && not b) ≡ true
     whole_is a b e f = rw (e, f)
 
-    concluded_told : (y : Recovery) (o : Outcome) → in_scope (is_whole o) (own_tokens y.device y.endpoint rows) (l.tokens ++ l.aborted) ≡ true → (v : Verdict)
-        (done : After Verdict Memory) → done ≡ apply_all s.size (place_meant y.device y.endpoint rows) l m → done.result ≡ v → (a b : ℕ) (places : List ℕ)
+    concluded_told : (y : Recovery) (o : BackendAbort) → in_scope (is_whole o) (own_tokens y.device y.endpoint rows) (l.tokens ++ l.aborted) ≡ true → (v : Result ⊤ Refusal)
+        (done : After (Result ⊤ Refusal) Memory) → done ≡ apply_all s.size (place_meant y.device y.endpoint rows) l m → done.result ≡ v → (a b : ℕ) (places : List ℕ)
         → of_recovery (concluded_by v (ended quiet y o) (abort_report (ended quiet y o) a b) places done.lent.store.rows).answer ≡ Answer.Recovered x
         → Settles l rows done.lent.store.rows x
     unfolding concluded_by
-    concluded_told y o sc (Verdict.Refused r) done ew ev a b places e = no_report r x _ e
-    concluded_told y o sc Verdict.Pass done ew ev a b places e =
+    concluded_told y o sc (Err r) done ew ev a b places e = no_report r x _ e
+    concluded_told y o sc (Ok tt) done ew ev a b places e =
         let q : abort_report (ended quiet y o) a b ≡ x = cc in
         subst (Settles l rows done.lent.store.rows) q
         (λ ready fine different.
@@ -177,26 +178,26 @@ module _ (l : ReplyLists) (s : Session) (m : Memory) (x : AbortReport) where
         let scope : in_scope true own (l.tokens ++ l.aborted) ≡ true = subst (λ (c : Bool). in_scope c own (l.tokens ++ l.aborted) ≡ true) whole sc in
         let k = applied_rows place s.size l m
         (scope_each own true l scope (Named place rows) (named_row y.device y.endpoint rows)) (scope_distinct own true l scope)
-        (ap (λ (z : After Verdict Memory). z.result) (sym ew) ∙ ev) in
-        subst (λ (z : After Verdict Memory). Recovered y.device y.endpoint l rows z.lent.store.rows) (sym ew)
+        (ap (λ (z : After (Result ⊤ Refusal) Memory). z.result) (sym ew) ∙ ev) in
+        subst (λ (z : After (Result ⊤ Refusal) Memory). Recovered y.device y.endpoint l rows z.lent.store.rows) (sym ew)
         (recovered_rows y.device y.endpoint rows few different l scope _ k (scope_spares y.device y.endpoint m true s.size l scope)))
 
-    pub recovered_told : (r : RecoveryReply) → Told (recovery_reply_of r l s m)
+    pub recovered_told : (r : Result BackendAbort OperationError) → Told (recovery_reply_of r l s m)
     unfolding settled_of
     recovered_told r =
         recovery_all l s m Told (no_report _ x _) (no_report _ x _) (no_report _ x _) (λ e. no_report _ x _) (no_report _ x _)
         (λ y own o n. concluded_told y o n _ (apply_all s.size (place_meant y.device y.endpoint rows) l m) refl refl _ _ _) r
 
   -- ---- the report is of the operation that waited
-  concluded_same : (y : Recovery) (o : Outcome) (v : Verdict) (a b : ℕ) (places : List ℕ) (rows' : List Row)
+  concluded_same : (y : Recovery) (o : BackendAbort) (v : Result ⊤ Refusal) (a b : ℕ) (places : List ℕ) (rows' : List Row)
       → of_recovery (concluded_by v (ended quiet y o) (abort_report (ended quiet y o) a b) places rows').answer ≡ Answer.Recovered x → ReportOf (InFlight.Recovery y) x
   unfolding concluded_by
-  concluded_same y o (Verdict.Refused r) a b places rows' e = no_report r x _ e
-  concluded_same y o Verdict.Pass a b places rows' e =
+  concluded_same y o (Err r) a b places rows' e = no_report r x _ e
+  concluded_same y o (Ok tt) a b places rows' e =
       let q : abort_report (ended quiet y o) a b ≡ x = cc in
       subst (ReportOf (InFlight.Recovery y)) q (y.kind, refl)
 
-  pub waited_told : (r : RecoveryReply) → of_recovery (recovery_reply_of r l s m).result.answer ≡ Answer.Recovered x → ReportOf s.in_flight x
+  pub waited_told : (r : Result BackendAbort OperationError) → of_recovery (recovery_reply_of r l s m).result.answer ≡ Answer.Recovered x → ReportOf s.in_flight x
   unfolding settled_of
   waited_told r =
       recovery_all l s m (λ (o : After Replied Memory). of_recovery o.result.answer ≡ Answer.Recovered x → ReportOf s.in_flight x)

@@ -1,4 +1,5 @@
 -- Every call keeps the invariant. Assumes nothing.
+use Rattle.std.specs.Prelude.{Option, Some, None, Result, Ok, Err, ⊤}
 use Prim.Native.Nat.{ℕ, ◌<◌}
 use mathlib.Core.Path.{◌≡◌}
 use mathlib.Core.Bool.{true, false, cond, true≢false}
@@ -8,9 +9,8 @@ use lib.ListN.{length}
 use Rattle.chain.specs.Lists.{count, is_among}
 use Rattle.chain.specs.After.{After, after}
 use Rattle.chain.proofs.Chain.{if_all, if_by}
-use Rattle.words.specs.declared.{OptionU64.OptionU64}
 use Rattle.models.specs.Requests.{device_may_access}
-use Rattle.models.specs.declared.{OptionError.OptionError, RequestId.RequestId}
+use Rattle.models.specs.declared.{OperationError.OperationError, Refusal.Refusal, RequestId.RequestId, RequestReport.RequestReport}
 use Rattle.rows.specs.Store.{Store, put_in, emptied}
 use Rattle.rows.specs.InPlace.{cancel_in, late_in, cancelled, timed_out}
 use Rattle.rows.specs.Table.{is_held, row_in}
@@ -18,14 +18,12 @@ use Rattle.rows.specs.declared.{Row.Row}
 use Rattle.ledger.specs.Apply.{apply_by}
 use Rattle.rules.specs.Rules.{moved, freed, logical_cancel, cancel_withdrawn, time_out, reclaimed, change_row}
 use Rattle.rules.specs.declared.Change as rules
-use Rattle.rules.specs.declared.{Step.Step}
 use Rattle.session.specs.Session.{is_closed, is_busy, marked}
 use Rattle.session.specs.Lifecycle.{acquired_by, acquire_of, initialized_by, initialize_of, closed_by, fresh_by, close_of}
 use Rattle.session.specs.Start.{guarded}
 use Rattle.session.specs.Lent.{Lent}
-use Rattle.session.specs.declared.{Called.Called, Session.Session, lifecycle.AcquireReply.AcquireReply}
+use Rattle.session.specs.declared.{Called.Called, Session.Session, lifecycle.AcquireFailure.AcquireFailure}
 use Rattle.reports.specs.Change.{reported_by, change_of}
-use Rattle.reports.specs.declared.{Reported.Reported}
 use Rattle.calls.specs.Answers.{of_verdict, is_pass}
 use Rattle.calls.specs.Calls.{Changing, Cancel, Timeout, Reclaim, Withdraw, Call, Open, Place, Move, Acquire, Initialize, Close, Begin, Submit, SubmitPlan, Poll, Recover, Reply, ToSubmit, ToPoll, ToRecovery, Change, Read}
 use Rattle.calls.specs.Step.{World, moved_of, begun_of, replied_of, change_by, step_of, world_store}
@@ -43,11 +41,13 @@ use Rattle.history.proofs.Inv.{Inv, marks, quietly, seen_more, closed_again, clo
 use Rattle.history.proofs.Submits.{submit_kept, plan_kept}
 use Rattle.history.proofs.Replies.{reply_kept, poll_kept, finish_kept}
 use Rattle.history.proofs.Recovery.{begin_kept, recovery_kept}
+use Rattle.rules.specs.declared.{Step.Step}
+use Rattle.polls.specs.declared.{PollAnswer.PollAnswer}
 
 -- ---- cancel, its withdrawal, timeout and reclaim: the row they lead to weighs what it did
-abbrev pub Stays : Row → Step → Type 0
-Stays r (Step.Refused x) = Unit {0}
-Stays r (Step.To next x) = Alike r next
+abbrev pub Stays : Row → Result Step Refusal → Type 0
+Stays r (Err x) = Unit {0}
+Stays r (Ok n) = Alike r n.row
 
 change_stays : (c : Changing) (r : Row) → Stays r (change_row r (change_by c))
 unfolding change_row logical_cancel cancelled cancel_withdrawn time_out timed_out reclaimed freed moved
@@ -59,7 +59,7 @@ change_stays Withdraw r =
     while_all r.state _ (Stays r) (λ e. tt) (λ e. if_all (Stays r) _ _ _ tt (flag_alike r false (late_in r.state) false r.timed_out e))
 
 module _ (s : Session) (j : Journal) (seen : List ℕ) (store : Store) (k : Inv s store.rows j seen) where
-  abbrev ChangeKept : After Reported Store → Type 0
+  abbrev ChangeKept : After (Called RequestReport) Store → Type 0
   ChangeKept o = Inv o.result.session o.lent.rows j seen
 
   change_kept : (id : RequestId) (c : rules.Change) → ((r : Row) → Stays r (change_row r c)) → ChangeKept (change_of id c s store)
@@ -67,35 +67,35 @@ module _ (s : Session) (j : Journal) (seen : List ℕ) (store : Store) (k : Inv 
   change_kept id c stays =
       change_all id c s store ChangeKept (λ x. k) (λ idle i lt hit. by_step i lt (change_row (row_in store.rows i) c) (stays (row_in store.rows i)))
     where
-      by_step : (i : ℕ) → i < length store.rows → (t : Step) → Stays (row_in store.rows i) t
+      by_step : (i : ℕ) → i < length store.rows → (t : Result Step Refusal) → Stays (row_in store.rows i) t
           → ChangeKept (after (reported_by (apply_by t i store).result s) (apply_by t i store).lent)
-      by_step i lt (Step.Refused x) h = k
-      by_step i lt (Step.To next x) h = quietly s store.rows j seen k i lt next h
+      by_step i lt (Err x) h = k
+      by_step i lt (Ok xs) h = quietly s store.rows j seen k i lt xs.row h
 
   -- ---- the lifecycle
-  abbrev CalledKept : Called → Type 0
+  abbrev CalledKept : Called ⊤ → Type 0
   CalledKept c = Inv c.session store.rows j seen
 
-  acquire_kept : (x : AcquireReply) → CalledKept (acquire_of x s)
+  acquire_kept : (x : Result ⊤ AcquireFailure) → CalledKept (acquire_of x s)
   unfolding acquire_of acquired_by
   acquire_kept x = if_all CalledKept _ _ _ k (if_all CalledKept _ _ _ k (go x))
     where
-      go : (x : AcquireReply) → CalledKept (acquired_by x s)
-      go AcquireReply.Acquired = k
-      go (AcquireReply.Failed e retained) = if_all CalledKept _ _ _ k k
+      go : (x : Result ⊤ AcquireFailure) → CalledKept (acquired_by x s)
+      go (Ok tt) = k
+      go (Err x) = if_all CalledKept _ _ _ k k
 
-  initialize_kept : (x : OptionError) → CalledKept (initialize_of x s)
+  initialize_kept : (x : Option OperationError) → CalledKept (initialize_of x s)
   unfolding initialize_of initialized_by
   initialize_kept x = if_all CalledKept _ _ _ k (if_all CalledKept _ _ _ k (go x))
     where
-      go : (x : OptionError) → CalledKept (initialized_by x s)
-      go OptionError.None = k
-      go (OptionError.Some e) = marks s store.rows j seen k
+      go : (x : Option OperationError) → CalledKept (initialized_by x s)
+      go None = k
+      go (Some e) = marks s store.rows j seen k
 
-  abbrev CloseKept : OptionU64 → After Called Store → Type 0
+  abbrev CloseKept : Option ℕ → After (Called ⊤) Store → Type 0
   CloseKept n o = Inv o.result.session o.lent.rows (cond (is_pass (of_verdict o.result.answer)) (released_all j) j) (noted n seen)
 
-  close_kept : (is_closed s.state ≡ true → count is_held store.rows ≡ 0) → (n : OptionU64) (x : OptionError) → is_new n seen ≡ true
+  close_kept : (is_closed s.state ≡ true → count is_held store.rows ≡ 0) → (n : Option ℕ) (x : Option OperationError) → is_new n seen ≡ true
       → CloseKept n (close_of n x s store)
   unfolding close_of guarded fresh_by closed_by emptied
   close_kept none n x new =
@@ -105,10 +105,10 @@ module _ (s : Session) (j : Journal) (seen : List ℕ) (store : Store) (k : Inv 
       (λ c. seen_more s store.rows (released_all j) seen (closed_again s store.rows j seen k (none c)) n)
       (λ c. go y n new x)))
     where
-      go : is_busy s.in_flight ≡ false → (n : OptionU64) → is_new n seen ≡ true → (x : OptionError) → CloseKept n (fresh_by n x s store)
-      go y OptionU64.None new x = k
-      go y (OptionU64.Some n) new (OptionError.Some e) = seen_more (marked s) store.rows j seen (marks s store.rows j seen k) (OptionU64.Some n)
-      go y (OptionU64.Some n) new OptionError.None = closed_anew s store.rows j seen k n (length store.rows) (not-true (is_among n seen) new) y
+      go : is_busy s.in_flight ≡ false → (n : Option ℕ) → is_new n seen ≡ true → (x : Option OperationError) → CloseKept n (fresh_by n x s store)
+      go y None new x = k
+      go y (Some n) new (Some e) = seen_more (marked s) store.rows j seen (marks s store.rows j seen k) (Some n)
+      go y (Some n) new None = closed_anew s store.rows j seen k n (length store.rows) (not-true (is_among n seen) new) y
 
 -- ---- any call
 abbrev pub Kept : Call → Journal → List ℕ → After Outcome Lent → Type 0

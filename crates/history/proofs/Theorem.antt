@@ -1,4 +1,5 @@
 -- Demand 3: the claim of every list of calls that follows an opening which passed. Assumes nothing.
+use Rattle.std.specs.Prelude.{Result}
 use Prim.Native.Nat.{ℕ, zero, suc, ◌≤◌, ◌<◌}
 use mathlib.Core.Path.{◌≡◌, refl, sym, ap, ◌∙◌, subst}
 use mathlib.Core.Bool.{Bool, true, false, cond, ◌&&◌}
@@ -13,7 +14,7 @@ use Rattle.chain.proofs.Chain.{caseB, if_by}
 use Rattle.chain.proofs.Lists.{sum_eq, sum_le, sum_one, sum_none, count_pos, find_hit, find_some}
 use Rattle.models.specs.Refusals.{refusal_of}
 use Rattle.models.specs.Requests.{device_may_access, same_request}
-use Rattle.models.specs.declared.{Refusal.Refusal, RequestId.RequestId, RequestReport.RequestReport}
+use Rattle.models.specs.declared.{OperationError.OperationError, Refusal.Refusal, RequestId.RequestId, RequestReport.RequestReport}
 use Rattle.rows.specs.Store.{store_of, emptied, Store}
 use Rattle.rows.specs.Table.{empty_row, is_held, row_in}
 use Rattle.rows.specs.declared.{Row.Row}
@@ -21,16 +22,14 @@ use Rattle.ledger.specs.Apply.{apply_by}
 use Rattle.rules.specs.Rules.{reclaimed, change_row}
 use Rattle.ledger.specs.Search.{is_at}
 use Rattle.rules.specs.declared.Change.TheVariants as change
-use Rattle.rules.specs.declared.{Step.Step}
 use Rattle.bus.specs.Tables.{Bus, bus_of}
 use Rattle.session.specs.Lifecycle.{new_session, open_of}
 use Rattle.session.specs.Lent.{Lent, lent, memory}
-use Rattle.session.specs.declared.{InFlight.InFlight, Recovery.Recovery, RecoveryKind.RecoveryKind, Session.Session, lifecycle.Opened.Opened, lifecycle.Opening.Opening}
+use Rattle.session.specs.declared.{Called.Called, InFlight.InFlight, Recovery.Recovery, RecoveryKind.RecoveryKind, Session.Session, lifecycle.Opening.Opening}
 use Rattle.reports.specs.Change.{reported_by, change_of}
 use Rattle.reports.specs.Status.{tally_of}
-use Rattle.reports.specs.declared.{HeldAnswer.HeldAnswer, Reported.Reported}
 use Rattle.recovery.specs.RecoveryReply.{ReplyLists}
-use Rattle.recovery.specs.declared.{AbortReport.AbortReport, RecoveryReply.RecoveryReply}
+use Rattle.recovery.specs.declared.{AbortReport.AbortReport, BackendAbort.BackendAbort}
 use Rattle.calls.specs.Answers.{of_report, of_tally}
 use Rattle.calls.specs.Calls.{Call, Open, Begin, Recover, Change, Reclaim}
 use Rattle.calls.specs.Step.{World, world, begun_of, replied_of, step_of, opens, read_of, world_store, next}
@@ -52,6 +51,7 @@ use Rattle.history.proofs.Counting.{refused_3, handed_over}
 use Rattle.history.proofs.Refusing.{refused_untouched}
 use Rattle.history.proofs.Settling.{no_report, Settles, recovered_told, waited_told}
 use Rattle.history.proofs.Sparing.{all_spared, reply_spares}
+use Rattle.rules.specs.declared.{Step.Step}
 
 -- ---- rows and entries that agree, seen through a filter
 row_ids : (u d s q : Bool) → cond {A = ℕ} ((u && s) && ((u && d) && q)) 1 0 ≡ cond (u && d) (cond s (cond q 1 0) 0) 0
@@ -139,7 +139,7 @@ run_kept (e ∷ es) w j seen sound k f n =
 pub opened_holds : (o : Opening) (w : World) → (step_of (Open o) w).result.answer ≡ Answer.Pass → Holds (next (step_of (Open o) w)) blank (o.session ∷ [])
 unfolding step_of open_of emptied
 opened_holds o w =
-    if_by (λ (x : After Opened Lent). (opens x w).result.answer ≡ Answer.Pass → Holds (next (opens x w)) blank (o.session ∷ [])) _ _ _
+    if_by (λ (x : After (Result Session Refusal) Lent). (opens x w).result.answer ≡ Answer.Pass → Holds (next (opens x w)) blank (o.session ∷ [])) _ _ _
     (λ y e. let z : ◌≡◌ {A = ℕ} 0 1 = cc in absurd (omega arith)) (λ y e. begins)
   where
     begins : Inv (new_session o) (replicate (length (world_store w).rows) empty_row) blank (o.session ∷ [])
@@ -163,10 +163,10 @@ unfolding reported_by apply_by change_row reclaimed
 reclaim_told s store x r entries k =
     change_all x change.Reclaim s store Told (λ f e. refuses e)
     (λ idle i lt hit.
-    if_by (λ (t : Step). Told (after (reported_by (apply_by t i store).result s) (apply_by t i store).lent)) _ _ _ (λ y e. refuses e)
+    if_by (λ (t : Result Step Refusal). Told (after (reported_by (apply_by t i store).result s) (apply_by t i store).lent)) _ _ _ (λ y e. refuses e)
     (λ y e. unheld_once store.rows entries k x i lt hit (unheld_row (row_in store.rows i) y)))
   where
-    Told : After Reported Store → Type 0
+    Told : After (Called RequestReport) Store → Type 0
     Told o = of_report o.result.answer ≡ Answer.Report r → releases_of x entries ≡ 1
 
     refuses : {f : Refusal} → Answer.Refused f ≡ Answer.Report r → releases_of x entries ≡ 1
@@ -214,7 +214,7 @@ module _ (o : Opening) (w : World) (es : List Event) (pass : (step_of (Open o) w
       (λ first bus area a. begin_names mid.session (journal_of (history_of start before) blank) k.0 (world_store mid) k.1 x id q a)
       (λ a. let z : ◌≡◌ {A = ℕ} 0 1 = cc in absurd (omega arith))
 
-  module _ (before after : List Event) (h : Handed) (reply : RecoveryReply) (l : ReplyLists) (is : es ≡ before ++ (returns reply l h ∷ after)) where
+  module _ (before after : List Event) (h : Handed) (reply : Result BackendAbort OperationError) (l : ReplyLists) (is : es ≡ before ++ (returns reply l h ∷ after)) where
     abbrev mid : World
     mid = end_of start before
 
@@ -255,7 +255,7 @@ module _ (o : Opening) (w : World) (es : List Event) (pass : (step_of (Open o) w
       let k = (run_kept es start blank seen (sound_open o w pass) (opened_holds o w pass) follows fresh).1.led in
       record {
         agrees = agreed _ _ k sound.held;
-        count_is = ap (λ (a : HeldAnswer). of_tally (tally_of a)) (count_answer sound fitted) ∙ ap (λ (n : ℕ). Answer.Number n) (k.same each);
+        count_is = ap (λ (a : Result ℕ Refusal). of_tally (tally_of a)) (count_answer sound fitted) ∙ ap (λ (n : ℕ). Answer.Number n) (k.same each);
         bytes_is = ap of_tally (bytes_answer sound fitted) ∙ ap (λ (n : ℕ). Answer.Number n) (k.same length_of);
         one_entry = k.once;
         one_release = release_once _ _ k;

@@ -1,4 +1,5 @@
 -- No call writes into the bytes of a row that is held before and after it. Assumes nothing.
+use Rattle.std.specs.Prelude.{Option, Some, None, Result, Ok, Err, ⊤}
 use Prim.Native.Nat.{ℕ, ◌+◌, ◌*◌, ◌<◌, ◌≤◌, min}
 use mathlib.Core.Bool.{Bool, true, false, not, true≢false, false≢true}
 use mathlib.Core.List.{List, [], ◌++◌}
@@ -12,9 +13,8 @@ use Rattle.chain.specs.Chain.{◌if◌else◌}
 use Rattle.chain.proofs.Chain.{caseB, if_all, if_by}
 use Rattle.chain.proofs.Lists.{inside}
 use Rattle.words.specs.Records.{splice, splice_cut}
-use Rattle.words.specs.declared.{OptionU32.OptionU32}
 use Rattle.words.proofs.Records.{splice-length, part-splice_apart, record_in, record_apart}
-use Rattle.models.specs.declared.{BackendCompletion.BackendCompletion, ControlPlan.ControlPlan, DeviceId.DeviceId, OptionError.OptionError, PortReading.PortReading, RequestMetadata.RequestMetadata, Verdict.Verdict}
+use Rattle.models.specs.declared.{BackendCompletion.BackendCompletion, ControlPlan.ControlPlan, DeviceId.DeviceId, OperationError.OperationError, Refusal.Refusal, RequestMetadata.RequestMetadata, RequestReport.RequestReport}
 use Rattle.models.specs.declared.RequestState.TheVariants.{Aborted}
 use Rattle.rows.specs.Store.{Store, put_in}
 use Rattle.rows.specs.InPlace.{completed_row}
@@ -22,20 +22,17 @@ use Rattle.rows.specs.Table.{empty_row, is_held, row_in}
 use Rattle.rows.specs.declared.{Row.Row}
 use Rattle.rules.specs.Rules.{moved, completed, abort_confirmed, change_row, with_state}
 use Rattle.rules.specs.declared.Change.TheVariants as change
-use Rattle.rules.specs.declared.{Step.Step}
 use Rattle.ledger.specs.Apply.{apply_by, changed_at}
 use Rattle.checks.specs.Completion.{test_completion}
 use Rattle.checks.specs.Plan.{plan_of}
 use Rattle.checks.specs.Prepare.{metadata_of}
-use Rattle.checks.specs.declared.{completion.CompletionTest.CompletionTest}
 use Rattle.session.specs.Lent.{Memory, Lent, memory, memory_fits, lent_fits}
 use Rattle.session.specs.Session.{with_flight}
 use Rattle.session.specs.Sizes.{place_of}
-use Rattle.session.specs.declared.{InFlight.InFlight, Session.Session, Size.Size}
+use Rattle.session.specs.declared.{Called.Called, InFlight.InFlight, Session.Session, Size.Size}
 use Rattle.session.proofs.sizes.Laws.{area_bytes, lent_memory}
-use Rattle.reports.specs.declared.{Reported.Reported}
 use Rattle.polls.specs.PollReply.{failed_as, invalid_as, judged_test, judged_by, judged, stored_in, settled, poll_reply_at, poll_reply_found, poll_reply_in, poll_reply_of}
-use Rattle.polls.specs.declared.{PollReply.PollReply, poll_reply.Judgement.Judgement}
+use Rattle.polls.specs.declared.{PollAnswer.PollAnswer, poll_reply.Judgement.Judgement}
 use Rattle.submissions.specs.Begin.{draft, buffer_of, write_of}
 use Rattle.submissions.specs.Submit.{Request, submit_target, submit_by, submit_of}
 use Rattle.submissions.specs.Plan.{plan_target, submit_plan_by, submit_plan_of}
@@ -43,7 +40,7 @@ use Rattle.scope.specs.Returned.{Returned}
 use Rattle.scope.specs.Scope.{in_scope}
 use Rattle.recovery.specs.Entries.{row_completed_by, tested_by, complete_one, aborted_by, abort_one}
 use Rattle.recovery.specs.RecoveryReply.{ReplyLists, apply_all, is_whole, settled_of, reply_sized, reply_in, recovery_reply_of}
-use Rattle.recovery.specs.declared.{RecoveryReply.RecoveryReply, Replied.Replied}
+use Rattle.recovery.specs.declared.{BackendAbort.BackendAbort, Replied.Replied}
 use Rattle.calls.specs.Calls.{Submit, SubmitPlan, Poll, Recover, ToSubmit, ToPoll, ToRecovery, Call, Open, Place, Move, Begin, Reply, Change, Read}
 use Rattle.calls.specs.Step.{World, begun_of, replied_of, step_of}
 use Rattle.runs.specs.Run.{is_opening}
@@ -57,11 +54,13 @@ use Rattle.runs.proofs.Stages.{Room, room_told, target_all}
 use Rattle.runs.proofs.Tokens.{tokens_in, Each, scope_each, reply_tokens}
 use Rattle.runs.proofs.Ways.{finish_all, recovery_all}
 use Rattle.history.specs.Grabber.{row_bytes, HeldSame}
+use Rattle.rules.specs.declared.{Step.Step}
+use Rattle.checks.specs.declared.{completion.CompletionFault.CompletionFault, completion.ValidCompletion.ValidCompletion}
 
 -- a step to a row that is not held
-abbrev Frees : Step → Type 0
-Frees (Step.Refused r) = Unit {0}
-Frees (Step.To next x) = is_held next ≡ false
+abbrev Frees : Result Step Refusal → Type 0
+Frees (Err r) = Unit {0}
+Frees (Ok n) = is_held n.row ≡ false
 
 complete_frees : (r : Row) (actual code : ℕ) → Frees (change_row r (change.Complete actual code))
 unfolding change_row completed completed_row moved
@@ -136,48 +135,48 @@ module _ (z : Size) where
   unfolding judged judged_by failed_as judged_test invalid_as
   judged_stores s r c given = by_error c.error
     where
-      by_test : (t : CompletionTest) → Stores r (judged_test t s c)
-      by_test (CompletionTest.Valid actual code) = λ e. complete_frees r actual code
-      by_test CompletionTest.MissingLength = λ e. absurd (false≢true e)
-      by_test CompletionTest.Invalid = λ e. absurd (false≢true e)
+      by_test : (t : Result ValidCompletion CompletionFault) → Stores r (judged_test t s c)
+      by_test (Ok x) = λ e. complete_frees r x.actual_length x.completion_code
+      by_test (Err CompletionFault.MissingLength) = λ e. absurd (false≢true e)
+      by_test (Err CompletionFault.Invalid) = λ e. absurd (false≢true e)
 
-      by_error : (o : OptionError) → Stores r (judged_by o s r c given)
-      by_error (OptionError.Some e) = if_all (Stores r) _ _ _ (λ t. absurd (false≢true t)) (λ t. absurd (false≢true t))
-      by_error OptionError.None = by_test (test_completion c given r.metadata.requested_length)
+      by_error : (o : Option OperationError) → Stores r (judged_by o s r c given)
+      by_error (Some e) = if_all (Stores r) _ _ _ (λ t. absurd (false≢true t)) (λ t. absurd (false≢true t))
+      by_error None = by_test (test_completion c given r.metadata.requested_length)
 
   module _ (m : Memory) (i : ℕ) (h : Inside (length m.area) i) (bytes : List ℕ) (idle : Session) (same : idle.size ≡ z) where
-    settled_safe : (t : Step) (j : Judgement) → (j.stored ≡ true → Frees t) → Safe m (settled (apply_by t i m.store) j i bytes idle m.area).lent
+    settled_safe : (t : Result Step Refusal) (j : Judgement) → (j.stored ≡ true → Frees t) → Safe m (settled (apply_by t i m.store) j i bytes idle m.area).lent
     unfolding settled apply_by stored_in
-    settled_safe (Step.Refused r) j off = unwritten m m.store
-    settled_safe (Step.To next x) j off =
+    settled_safe (Err r) j off = unwritten m m.store
+    settled_safe (Ok xs) j off =
         rw same
-        (if_by (λ (area : List ℕ). Safe m (memory (put_in m.store i next) area)) _ _ _
-        (λ e. write_safe m m (unwritten m m.store) i next (off e) bytes h) (λ e. unwritten m (put_in m.store i next)))
+        (if_by (λ (area : List ℕ). Safe m (memory (put_in m.store i xs.row) area)) _ _ _
+        (λ e. write_safe m m (unwritten m m.store) i xs.row (off e) bytes h) (λ e. unwritten m (put_in m.store i xs.row)))
 
-    polled_safe : (x : PollReply) → Safe m (poll_reply_at x i bytes idle m).lent
+    polled_safe : (x : Result (Option BackendCompletion) OperationError) → Safe m (poll_reply_at x i bytes idle m).lent
     unfolding poll_reply_at changed_at
-    polled_safe PollReply.Nothing = unwritten m m.store
-    polled_safe (PollReply.Error e) = unwritten m m.store
-    polled_safe (PollReply.Completion c) =
+    polled_safe (Ok None) = unwritten m m.store
+    polled_safe (Err e) = unwritten m m.store
+    polled_safe (Ok (Some c)) =
         let r = row_in m.store.rows i in settled_safe _ (judged idle r c (length bytes)) (judged_stores idle r c (length bytes))
 
   -- an entry of a recovery's reply
   module _ (m n : Memory) (k : Safe m n) (p : ℕ) (h : Inside (length m.area) p) where
-    completed_safe : (t : Step) → Frees t → (bytes : List ℕ) → Safe m (row_completed_by (apply_by t p n.store) z p bytes n.area).lent
+    completed_safe : (t : Result Step Refusal) → Frees t → (bytes : List ℕ) → Safe m (row_completed_by (apply_by t p n.store) z p bytes n.area).lent
     unfolding row_completed_by apply_by
-    completed_safe (Step.Refused r) off bytes = k
-    completed_safe (Step.To next x) off bytes = write_safe m n k p next off bytes h
+    completed_safe (Err r) off bytes = k
+    completed_safe (Ok xs) off bytes = write_safe m n k p xs.row off bytes h
 
-    tested_safe : (t : CompletionTest) (code : OptionU32) (bytes : List ℕ) → Safe m (tested_by t code z p bytes n).lent
+    tested_safe : (t : Result ValidCompletion CompletionFault) (code : Option ℕ) (bytes : List ℕ) → Safe m (tested_by t code z p bytes n).lent
     unfolding tested_by changed_at
-    tested_safe CompletionTest.MissingLength code bytes = k
-    tested_safe CompletionTest.Invalid code bytes = k
-    tested_safe (CompletionTest.Valid actual a) code bytes = completed_safe _ (complete_frees (row_in n.store.rows p) actual a) bytes
+    tested_safe (Err CompletionFault.MissingLength) code bytes = k
+    tested_safe (Err CompletionFault.Invalid) code bytes = k
+    tested_safe (Ok v) code bytes = completed_safe _ (complete_frees (row_in n.store.rows p) v.actual_length v.completion_code) bytes
 
-    aborted_safe : (t : Step) → Frees t → Safe m (memory (aborted_by (apply_by t p n.store)).lent n.area)
+    aborted_safe : (t : Result Step Refusal) → Frees t → Safe m (memory (aborted_by (apply_by t p n.store)).lent n.area)
     unfolding aborted_by apply_by
-    aborted_safe (Step.Refused r) off = k
-    aborted_safe (Step.To next x) off = put_safe m n k p next off
+    aborted_safe (Err r) off = k
+    aborted_safe (Ok ns) off = put_safe m n k p ns.row off
 
   module _ (place : ℕ → ℕ) (l : ReplyLists) (m : Memory) where
     abbrev Means : ℕ → Type 0
@@ -186,19 +185,19 @@ module _ (z : Size) where
     abbrev J : List Returned → List ℕ → List ℕ → Memory → Type 0
     J es ts bytes n = Safe m n × Each Means (tokens_in es ++ ts)
 
-    abbrev P : Verdict → Memory → Type 0
+    abbrev P : Result ⊤ Refusal → Memory → Type 0
     P v n = Safe m n
 
-    on : (v : Verdict) (es : List Returned) (ts bytes : List ℕ) (n : Memory) → J es ts bytes n → Onward place z J P v es ts bytes n
-    on (Verdict.Refused r) es ts bytes n h = h.0
-    on Verdict.Pass es ts bytes n h = h
+    on : (v : Result ⊤ Refusal) (es : List Returned) (ts bytes : List ℕ) (n : Memory) → J es ts bytes n → Onward place z J P v es ts bytes n
+    on (Err r) es ts bytes n h = h.0
+    on (Ok tt) es ts bytes n h = h
 
     apply_safe : Each Means (reply_tokens l) → Safe m (apply_all z place l m).lent
     unfolding complete_one abort_one changed_at
     apply_safe a =
         entries_all place z J P (λ bytes n h. h.0)
         (λ e es ts bytes n h.
-        let one : After Verdict Memory = complete_one z (place e.token) e.brought.completion (take e.brought.given bytes) n in
+        let one : After (Result ⊤ Refusal) Memory = complete_one z (place e.token) e.brought.completion (take e.brought.given bytes) n in
         on one.result es ts (drop e.brought.given bytes) one.lent
         (tested_safe m n h.0 (place e.token) h.1.0 _ e.brought.completion.completion_code (take e.brought.given bytes), h.1.1))
         (λ t ts bytes n h.
@@ -223,7 +222,7 @@ module _ (s : Session) (m : Memory) (whole : length m.store.rows ≡ s.size.row_
   unfit : {A : Type 0} (P : A → Type 0) (a b : A) → memory_fits s.size m ≡ false → P a → P (a if not (memory_fits s.size m) else b)
   unfit P a b e k = if_by P a _ b (λ t. k) (λ t. absurd (true≢false (sym (ap not e) ∙ t)))
 
-  finish_unfit : (x : PollReply) (bytes : List ℕ) → memory_fits s.size m ≡ false → Leaves (poll_reply_of x bytes s m).lent
+  finish_unfit : (x : Result (Option BackendCompletion) OperationError) (bytes : List ℕ) → memory_fits s.size m ≡ false → Leaves (poll_reply_of x bytes s m).lent
   unfolding poll_reply_of poll_reply_in poll_reply_found
   finish_unfit x bytes e = by_flight s.in_flight
     where
@@ -231,16 +230,16 @@ module _ (s : Session) (m : Memory) (whole : length m.store.rows ≡ s.size.row_
       by_flight InFlight.Nothing = same
       by_flight (InFlight.Submission id) = same
       by_flight (InFlight.Recovery y) = same
-      by_flight (InFlight.Poll id) = unfit (λ (o : After Reported Memory). Leaves o.lent) _ _ e same
+      by_flight (InFlight.Poll id) = unfit (λ (o : After (Called RequestReport) Memory). Leaves o.lent) _ _ e same
 
-  finish_safe : (x : PollReply) (bytes : List ℕ) → Leaves (poll_reply_of x bytes s m).lent
+  finish_safe : (x : Result (Option BackendCompletion) OperationError) (bytes : List ℕ) → Leaves (poll_reply_of x bytes s m).lent
   finish_safe x bytes =
       caseB (memory_fits s.size m)
-      (λ fits. finish_all x bytes s m (λ (o : After Reported Memory). Leaves o.lent) same same
+      (λ fits. finish_all x bytes s m (λ (o : After (Called RequestReport) Memory). Leaves o.lent) same same
       (λ id own i h hit. polled_safe s.size m i (row_inside fits i h) bytes (with_flight s InFlight.Nothing) refl x))
       (λ e. finish_unfit x bytes e)
 
-  recovery_unfit : (r : RecoveryReply) (l : ReplyLists) → memory_fits s.size m ≡ false → Leaves (recovery_reply_of r l s m).lent
+  recovery_unfit : (r : Result BackendAbort OperationError) (l : ReplyLists) → memory_fits s.size m ≡ false → Leaves (recovery_reply_of r l s m).lent
   unfolding recovery_reply_of reply_in reply_sized
   recovery_unfit r l e = by_flight s.in_flight
     where
@@ -259,7 +258,7 @@ module _ (s : Session) (m : Memory) (whole : length m.store.rows ≡ s.size.row_
       (scope_each (own_tokens d endpoint m.store.rows) all l n (Means s.size place l m)
       (λ t e. row_inside fits (place t) (meant_below d endpoint m.store.rows t e)))
 
-  recovery_safe : (r : RecoveryReply) (l : ReplyLists) → Leaves (recovery_reply_of r l s m).lent
+  recovery_safe : (r : Result BackendAbort OperationError) (l : ReplyLists) → Leaves (recovery_reply_of r l s m).lent
   unfolding settled_of
   recovery_safe r l =
       caseB (memory_fits s.size m)
@@ -296,7 +295,7 @@ module _ (s : Session) (l : Lent) (whole : length l.memory.store.rows ≡ s.size
       (λ ready next later b j was is. begun_keeps fits i (room_told _ i room) (metadata_of q.spec) q.bytes size j was) q.readings l.bus)
       packets q.given
 
-  plan_keeps : (q : ControlPlan) (bytes : List ℕ) (first : PortReading) → Keeps (submit_plan_of q bytes first s l).lent
+  plan_keeps : (q : ControlPlan) (bytes : List ℕ) (first : Result ℕ OperationError) → Keeps (submit_plan_of q bytes first s l).lent
   unfolding submit_plan_of submit_plan_by plan_target
   plan_keeps q bytes first =
       admit_plan_all q (length bytes) s l (λ a. Keeps (submit_plan_by a bytes first s l).lent) (λ r h. stays)

@@ -1,4 +1,5 @@
 -- No row changes between a recovery's start and the reply that ends it. Assumes nothing.
+use Rattle.std.specs.Prelude.{Result}
 use Prim.Native.Nat.{ℕ, ◌≤◌}
 use mathlib.Core.Bool.{Bool, cond, false, true≢false}
 use mathlib.Core.List.{List, [], ◌∷◌, ◌++◌}
@@ -8,7 +9,7 @@ use Rattle.chain.specs.Chain.{◌if◌else◌}
 use Rattle.chain.specs.After.{After, after}
 use Rattle.chain.proofs.Chain.{if_by}
 use Rattle.chain.specs.Lists.{count}
-use Rattle.models.specs.declared.{RequestId.RequestId}
+use Rattle.models.specs.declared.{OperationError.OperationError, RequestId.RequestId}
 use Rattle.rows.specs.Store.{Store}
 use Rattle.rows.specs.Table.{is_held}
 use Rattle.session.specs.Session.{is_busy}
@@ -26,7 +27,7 @@ use Rattle.submissions.specs.SubmitReply.{submit_reply_in, submit_reply_of}
 use Rattle.submissions.specs.Plan.{submit_plan_by, submit_plan_of}
 use Rattle.recovery.specs.Recover.{recover_of}
 use Rattle.recovery.specs.RecoveryReply.{ReplyLists, recovery_reply_of}
-use Rattle.recovery.specs.declared.{RecoveryReply.RecoveryReply, Replied.Replied}
+use Rattle.recovery.specs.declared.{BackendAbort.BackendAbort, Replied.Replied}
 use Rattle.calls.specs.Answers.{of_recovery, is_recovering}
 use Rattle.calls.specs.Calls.{Call, Open, Place, Device, Port, Endpoints, Reconcile, Move, Acquire, Initialize, Close, Begin, Submit, SubmitPlan, Poll, Recover, Reply, ToSubmit, ToPoll, ToRecovery, Change, Read}
 use Rattle.calls.specs.Step.{World, step_of, places, moves, submits, plans, reports, polls, finishes, begins, recovers, placed_of, moved_of, begun_of, replied_of, world_store, next}
@@ -53,14 +54,14 @@ module _ (w : World) (entries : List Entry) (few : count is_held (world_store w)
   refused_1 P a b h = if_by P a (is_busy w.session.in_flight) b (λ y. h) (λ y. absurd (true≢false (sym (ap is_busy own) ∙ y)))
 
   -- its own reply, refused by 3 or 49
-  reply_same : (r : RecoveryReply) (l : ReplyLists) → ends_by (of_recovery (recovery_reply_of r l w.session w.lent.memory).result.answer) ≡ false
+  reply_same : (r : Result BackendAbort OperationError) (l : ReplyLists) → ends_by (of_recovery (recovery_reply_of r l w.session w.lent.memory).result.answer) ≡ false
       → Same (recovers (recovery_reply_of r l w.session w.lent.memory) w)
   reply_same r l =
       recovery_all l w.session w.lent.memory (λ (o : After Replied Memory). ends_by (of_recovery o.result.answer) ≡ false → Same (recovers o w))
       (λ e. refl) (λ e. refl) (λ e. refl) (λ y e. absurd (true≢false e)) (λ e. absurd (true≢false e))
       (λ y on o n e. absurd (true≢false (sym (settled_ends w.session w.lent.memory entries few k l y o n).0 ∙ e))) r
 
-  pub stays : (c : Call) → is_opening c ≡ false → ((r : RecoveryReply) (l : ReplyLists) → c ≡ Reply (ToRecovery r l) → ends_by (step_of c w).result.answer ≡ false)
+  pub stays : (c : Call) → is_opening c ≡ false → ((r : Result BackendAbort OperationError) (l : ReplyLists) → c ≡ Reply (ToRecovery r l) → ends_by (step_of c w).result.answer ≡ false)
       → Same (step_of c w)
   unfolding step_of placed_of moved_of begun_of replied_of set_device_of set_port_of set_endpoints_of set_reconcile_of placed guarded acquire_of initialize_of close_of admit_of submit_by submit_of admit_plan_of submit_plan_by submit_plan_of submit_reply_of submit_reply_in poll_of poll_reply_of poll_reply_in recover_of change_of
   stays (Open o) f n = absurd (true≢false f)
@@ -84,7 +85,7 @@ module _ (w : World) (entries : List Entry) (few : count is_held (world_store w)
 -- ---- a list of calls while it waits
 -- no reply of a recovery ends its operation
 abbrev pub Unended : World → List Event → Type 0
-Unended w es = (before after : List Event) (h : Handed) (r : RecoveryReply) (l : ReplyLists)
+Unended w es = (before after : List Event) (h : Handed) (r : Result BackendAbort OperationError) (l : ReplyLists)
     → es ≡ before ++ (returns r l h ∷ after) → ends_by (answer_to (end_of w before) (returns r l h)) ≡ false
 
 -- the session and the rows are the same
@@ -95,10 +96,10 @@ abbrev InFlightIs : World → Recovery → Type 0
 InFlightIs w x = w.session.in_flight ≡ InFlight.Recovery x
 
 event_stays : (h : Handed) (c : Call) (w : World) (entries : List Entry) → count is_held (world_store w).rows ≤ 128 → Led (world_store w).rows entries → (x : Recovery)
-    → InFlightIs w x → Handing h c → ((r : RecoveryReply) (l : ReplyLists) → c ≡ Reply (ToRecovery r l) → ends_by (answer_to w (record { call = c; handed = h })) ≡ false)
+    → InFlightIs w x → Handing h c → ((r : Result BackendAbort OperationError) (l : ReplyLists) → c ≡ Reply (ToRecovery r l) → ends_by (answer_to w (record { call = c; handed = h })) ≡ false)
     → Kept w (left_by h c w)
 event_stays h c w entries few k x own f =
-    by_handed h c w (λ a v. ((r : RecoveryReply) (l : ReplyLists) → c ≡ Reply (ToRecovery r l) → ends_by a ≡ false) → Kept w v) f
+    by_handed h c w (λ a v. ((r : Result BackendAbort OperationError) (l : ReplyLists) → c ≡ Reply (ToRecovery r l) → ends_by a ≡ false) → Kept w v) f
     (λ first bus area n. let e = stays (beside bus area w) entries few k x own c first n in (ap (λ (v : World). v.session) e, ap world_store e))
     (λ n. (refl, refl))
 

@@ -1,4 +1,5 @@
 -- A reply's entries, applied to rows and to entries of the journal alike: by induction over them. Assumes nothing.
+use Rattle.std.specs.Prelude.{Result, Ok, Err, ⊤}
 use Prim.Native.Nat.{ℕ, ◌<◌}
 use mathlib.Core.Path.{◌≡◌, refl, sym, ap, ◌∙◌, subst}
 use mathlib.Core.Bool.{Bool, true, false, cond, not, ◌&&◌, ◌||◌, true≢false, false≢true}
@@ -14,7 +15,7 @@ use Rattle.chain.specs.After.{After}
 use Rattle.chain.proofs.Chain.{both, or_false}
 use Rattle.chain.proofs.Lists.{in_cons}
 use Rattle.models.specs.Requests.{device_may_access, is_uncertain_failure}
-use Rattle.models.specs.declared.{BackendCompletion.BackendCompletion, RequestId.RequestId, RequestState.RequestState, Verdict.Verdict}
+use Rattle.models.specs.declared.{BackendCompletion.BackendCompletion, Refusal.Refusal, RequestId.RequestId, RequestState.RequestState}
 use Rattle.models.specs.declared.RequestState.TheVariants.{Pending, Completed, Failed, Aborted}
 use Rattle.rows.specs.Store.{put_in}
 use Rattle.rows.specs.InPlace.{cancel_in, completed_row}
@@ -23,7 +24,6 @@ use Rattle.rows.specs.declared.{Row.Row}
 use Rattle.ledger.specs.Search.{is_at}
 use Rattle.rules.specs.Rules.{change_row, completed, while_pending, abort_confirmed, moved, with_state}
 use Rattle.checks.specs.Completion.{test_completion}
-use Rattle.checks.specs.declared.{completion.CompletionTest.CompletionTest}
 use Rattle.scope.specs.Returned.{Returned}
 use Rattle.session.specs.Lent.{Memory, memory}
 use Rattle.session.specs.declared.{Size.Size}
@@ -37,14 +37,15 @@ use Rattle.history.specs.Journal.{Entry, is_entry, entry_of, at_entry, release, 
 use Rattle.history.specs.Claim.{row_view}
 use Rattle.history.proofs.Led.{Led, Changed, led_at, ids_kept, entry_is}
 use Rattle.history.proofs.Changes.{settle_change}
+use Rattle.checks.specs.declared.{completion.CompletionFault.CompletionFault, completion.ValidCompletion.ValidCompletion}
 
 -- a refusal of an entry: not 2, 3, 49, 45 or 46, and not the ledger's 43
 abbrev pub is_late : ℕ → Bool
 is_late n = not (eqb n 2 || eqb n 3 || eqb n 49 || eqb n 45 || eqb n 46) && not (eqb n 43)
 
-abbrev pub LateBy : Verdict → Type 0
-LateBy (Verdict.Refused r) = is_late r.number ≡ true
-LateBy Verdict.Pass = Unit {0}
+abbrev pub LateBy : Result ⊤ Refusal → Type 0
+LateBy (Err r) = is_late r.number ≡ true
+LateBy (Ok tt) = Unit {0}
 
 -- what a list of entries leaves of rows and journal
 pub record Kept (rows : List Row) (entries : List Entry) (rows' : List Row) (entries' : List Entry) : Type 0 where
@@ -108,16 +109,16 @@ module _ (place : ℕ → ℕ) (view : ℕ → View) where
     }
 
   -- ---- one entry of the reply: refused on both sides, or a row changed and its entry released
-  abbrev Together : List Row → List Entry → ℕ → Verdict → List Row → ReleasedTo → Type 0
-  Together rows entries t (Verdict.Refused r) rows' q = (rows' ≡ rows) × (q ≡ released_to true entries) × (is_late r.number ≡ true)
-  Together rows entries t Verdict.Pass rows' q =
+  abbrev Together : List Row → List Entry → ℕ → Result ⊤ Refusal → List Row → ReleasedTo → Type 0
+  Together rows entries t (Err r) rows' q = (rows' ≡ rows) × (q ≡ released_to true entries) × (is_late r.number ≡ true)
+  Together rows entries t (Ok tt) rows' q =
       (s : RequestState) × (device_may_access s ≡ false) × (rows' ≡ set rows (place t) (with_state (row_in rows (place t)) s)) × (q ≡ released_to false (at_entry (view t).id release entries))
 
   module _ (m : Memory) (entries : List Entry) (t : ℕ) (a : Ready m.store.rows t) (z : Size) (bytes : List ℕ) where
     abbrev row : Row
     row = row_in m.store.rows (place t)
 
-    abbrev Both : After Verdict Memory → ReleasedTo → Type 0
+    abbrev Both : After (Result ⊤ Refusal) Memory → ReleasedTo → Type 0
     Both o q = Together m.store.rows entries t o.result o.lent.store.rows q
 
     valid_both : (actual n : ℕ) (st : RequestState) → device_may_access st ≡ true
@@ -130,15 +131,15 @@ module _ (place : ℕ → ℕ) (view : ℕ → View) where
     valid_both actual n (Failed x y false) h = (refl, refl, refl)
     valid_both actual n Aborted h = absurd (false≢true h)
 
-    tested_both : (c : BackendCompletion) (p : CompletionTest) → Both (tested_by p c.completion_code z (place t) bytes m) (completes_by p (view t) entries)
+    tested_both : (c : BackendCompletion) (p : Result ValidCompletion CompletionFault) → Both (tested_by p c.completion_code z (place t) bytes m) (completes_by p (view t) entries)
     unfolding tested_by changed_at change_row completed completed_row is_held
-    tested_both c CompletionTest.MissingLength = (refl, refl, refl)
-    tested_both c CompletionTest.Invalid = (refl, refl, refl)
-    tested_both c (CompletionTest.Valid actual n) =
+    tested_both c (Err CompletionFault.MissingLength) = (refl, refl, refl)
+    tested_both c (Err CompletionFault.Invalid) = (refl, refl, refl)
+    tested_both c (Ok vs) =
         let f : is_uncertain_failure row.state ≡ (view t).failed = ap (λ (v : View). v.failed) a.is in
-        subst (λ (b : Bool). Both (tested_by (CompletionTest.Valid actual n) c.completion_code z (place t) bytes m)
+        subst (λ (b : Bool). Both (tested_by (Ok (record { actual_length = vs.actual_length; completion_code = vs.completion_code })) c.completion_code z (place t) bytes m)
         (cond b (released_to true entries) (released_to false (at_entry (view t).id release entries)))) f
-        (valid_both actual n row.state access)
+        (valid_both vs.actual_length vs.completion_code row.state access)
       where
         access : device_may_access row.state ≡ true
         access = (both row.used (device_may_access row.state) a.held).1
@@ -163,20 +164,20 @@ module _ (place : ℕ → ℕ) (view : ℕ → View) where
     abbrev To : List Returned → List ℕ → List ℕ → Memory → Type 0
     To es ts bytes m = Along es ts bytes m.store.rows
 
-    abbrev End : Verdict → Memory → Type 0
+    abbrev End : Result ⊤ Refusal → Memory → Type 0
     End v m = Kept rows entries m.store.rows whole × LateBy v
 
-    ends : (bytes : List ℕ) (m : Memory) → To [] [] bytes m → End Verdict.Pass m
+    ends : (bytes : List ℕ) (m : Memory) → To [] [] bytes m → End (Ok tt) m
     ends bytes m k = (subst (λ (l : List Entry). Kept rows entries m.store.rows l) k.leads k.kept, tt)
 
-    completes : (e : Returned) (es : List Returned) (ts bytes : List ℕ) (m : Memory) (k : To (e ∷ es) ts bytes m) (v : Verdict) (n : Memory) (q : ReleasedTo)
+    completes : (e : Returned) (es : List Returned) (ts bytes : List ℕ) (m : Memory) (k : To (e ∷ es) ts bytes m) (v : Result ⊤ Refusal) (n : Memory) (q : ReleasedTo)
         → Together m.store.rows k.so_far e.token v n.store.rows q
         → aborted_after (goes_on q (λ (l : List Entry). completes_all view es (drop e.brought.given bytes) l)) view ts ≡ whole
         → Onward place z To End v es ts (drop e.brought.given bytes) n
-    completes e es ts bytes m k (Verdict.Refused r) n q (er, eq, late) leads =
+    completes e es ts bytes m k (Err r) n q (er, eq, late) leads =
         let is : k.so_far ≡ whole = subst (λ (z : ReleasedTo). aborted_after (goes_on z (λ (l : List Entry). completes_all view es (drop e.brought.given bytes) l)) view ts ≡ whole) eq leads in
         (subst (λ (l : List Row). Kept rows entries l whole) (sym er) (subst (λ (l : List Entry). Kept rows entries m.store.rows l) is k.kept), late)
-    completes e es ts bytes m k Verdict.Pass n q (s, h, er, eq) leads =
+    completes e es ts bytes m k (Ok tt) n q (s, h, er, eq) leads =
         let next : List Entry = at_entry (view e.token).id release k.so_far in
         record {
           so_far = next;
@@ -211,7 +212,7 @@ module _ (place : ℕ → ℕ) (view : ℕ → View) where
       entries_all place z (To z m.store.rows entries whole) (End z m.store.rows entries whole) (ends z m.store.rows entries whole)
       (λ e es ts bytes n h.
       let given : List ℕ = take e.brought.given bytes in
-      let one : After Verdict Memory = complete_one z (place e.token) e.brought.completion given n in
+      let one : After (Result ⊤ Refusal) Memory = complete_one z (place e.token) e.brought.completion given n in
       completes z m.store.rows entries whole e es ts bytes n h one.result one.lent
       (completes_by (test_completion e.brought.completion (length given) (view e.token).requested) (view e.token) h.so_far)
       (complete_both n h.so_far e.token h.ready.0 z given e.brought.completion) h.leads)

@@ -1,9 +1,9 @@
 -- Demand 3, one claim about a list of calls: the held rows are the entries without a release. Assumes nothing.
-use Rattle.std.specs.Prelude.{ℕ, ◌≤◌, ◌<◌, Bool, true, false, cond, ◌&&◌, List, [], ◌∷◌, ◌++◌, map, ◌≡◌, eqb, length}
+use Rattle.std.specs.Prelude.{ℕ, ◌≤◌, ◌<◌, Bool, true, false, cond, ◌&&◌, List, [], ◌∷◌, ◌++◌, map, ◌≡◌, eqb, length, Option, Some, None, Result}
 use Rattle.chain.specs.Lists.{sum_by, only, count, any_in, is_among}
 use Rattle.models.specs.Refusals.{refusal_of}
 use Rattle.models.specs.Requests.{held_most, is_uncertain_failure, same_request}
-use Rattle.models.specs.declared.{DeviceId.DeviceId, RequestId.RequestId, RequestReport.RequestReport, RequestState.RequestState}
+use Rattle.models.specs.declared.{DeviceId.DeviceId, OperationError.OperationError, RequestId.RequestId, RequestReport.RequestReport, RequestState.RequestState}
 use Rattle.models.specs.declared.RequestState.TheVariants.{Pending, Completed, Failed, Aborted}
 use Rattle.rows.specs.Table.{is_held, row_in, token_in}
 use Rattle.rows.specs.declared.{Row.Row}
@@ -11,11 +11,10 @@ use Rattle.rules.specs.Rules.{with_state}
 use Rattle.ledger.specs.Search.{is_at}
 use Rattle.checks.specs.Completion.{has_error}
 use Rattle.session.specs.declared.{InFlight.InFlight, Recovery.Recovery, RecoveryKind.RecoveryKind}
-use Rattle.reports.specs.declared.{OptionId.OptionId}
 use Rattle.scope.specs.Affected.{is_affected}
 use Rattle.scope.specs.Returned.{Returned, read_returned}
 use Rattle.recovery.specs.RecoveryReply.{ReplyLists}
-use Rattle.recovery.specs.declared.{AbortReport.AbortReport, RecoveryReply.RecoveryReply}
+use Rattle.recovery.specs.declared.{AbortReport.AbortReport, BackendAbort.BackendAbort}
 use Rattle.calls.specs.Calls.{Call, Begin, Recover, Reply, ToRecovery, Change, Reclaim, Read, HeldCount, HeldBytes}
 use Rattle.calls.specs.Step.{World, step_of, world_store, next}
 use Rattle.calls.specs.Answers.{begun_id}
@@ -80,9 +79,9 @@ abbrev pub reclaims : RequestId → Handed → Event
 reclaims x h = record { call = Change x Reclaim; handed = h }
 
 -- an answer that hands the id x over
-abbrev pub is_begun : RequestId → OptionId → Bool
-is_begun x OptionId.None = false
-is_begun x (OptionId.Some id) = same_request id x
+abbrev pub is_begun : RequestId → Option RequestId → Bool
+is_begun x None = false
+is_begun x (Some id) = same_request id x
 
 abbrev pub hands_over : RequestId → Answered → Bool
 hands_over x h = is_begun x (begun_id h.answer)
@@ -136,7 +135,7 @@ abbrev pub starts : RecoveryKind → RequestId → Handed → Event
 starts q id h = record { call = Begin (Recover id q); handed = h }
 
 -- a recovery's reply
-abbrev pub returns : RecoveryReply → ReplyLists → Handed → Event
+abbrev pub returns : Result BackendAbort OperationError → ReplyLists → Handed → Event
 returns reply l h = record { call = Reply (ToRecovery reply l); handed = h }
 
 -- a report is of the operation
@@ -161,15 +160,15 @@ pub record ClaimOf (step : Stepping) (w : World) (es : List Event) : Type 0 wher
       → answer_by step (end_by step w before) (starts q id h) ≡ Answer.Recovering x
       → InFlight.Recovery x ≡ (recovery_waits id q (journal_of (history_by step w before) blank)).waiting
   -- each recovery that succeeded, ready and without an error, the affected tokens all different
-  pub recovered : (before after : List Event) (h : Handed) (reply : RecoveryReply) (l : ReplyLists) → es ≡ before ++ (returns reply l h ∷ after) → (x : AbortReport)
+  pub recovered : (before after : List Event) (h : Handed) (reply : Result BackendAbort OperationError) (l : ReplyLists) → es ≡ before ++ (returns reply l h ∷ after) → (x : AbortReport)
       → answer_by step (end_by step w before) (returns reply l h) ≡ Answer.Recovered x → x.restart_ready ≡ true → has_error x.error ≡ false
       → Different x.device x.endpoint (rows_end step w before)
       → Recovered x.device x.endpoint l (rows_end step w before) (rows_left step (end_by step w before) (returns reply l h))
   -- whatever a recovery's reply is answered, it changes no row but those that are affected by the operation that, by the history, waits
-  pub spared : (before after : List Event) (h : Handed) (reply : RecoveryReply) (l : ReplyLists) → es ≡ before ++ (returns reply l h ∷ after)
+  pub spared : (before after : List Event) (h : Handed) (reply : Result BackendAbort OperationError) (l : ReplyLists) → es ≡ before ++ (returns reply l h ∷ after)
       → Spared (journal_of (history_by step w before) blank).waiting (rows_end step w before) (rows_left step (end_by step w before) (returns reply l h))
   -- the report of any recovery is of the operation that, by the history, waited
-  pub reported : (before after : List Event) (h : Handed) (reply : RecoveryReply) (l : ReplyLists) → es ≡ before ++ (returns reply l h ∷ after) → (x : AbortReport)
+  pub reported : (before after : List Event) (h : Handed) (reply : Result BackendAbort OperationError) (l : ReplyLists) → es ≡ before ++ (returns reply l h ∷ after) → (x : AbortReport)
       → answer_by step (end_by step w before) (returns reply l h) ≡ Answer.Recovered x → ReportOf (journal_of (history_by step w before) blank).waiting x
   -- a refusal by 3 leaves whatever the call was handed as it was
   pub untouched : (c : Call) (v : World) → (step c v).result.answer ≡ Answer.Refused (refusal_of 3) → next (step c v) ≡ v

@@ -1,7 +1,7 @@
 -- Four steps that the claim must refuse (document 01, "How the checks may be trusted"): each is the calls' own but for one fault. Assumes nothing.
-use Rattle.std.specs.Prelude.{ℕ, zero, suc, false, cond, ◌&&◌, List, [], ◌∷◌, eqb, length, take}
+use Rattle.std.specs.Prelude.{ℕ, zero, suc, false, cond, ◌&&◌, List, [], ◌∷◌, eqb, length, take, Result, Ok, Err}
 use Rattle.chain.specs.After.{After, after}
-use Rattle.models.specs.declared.{DeviceId.DeviceId, RequestId.RequestId}
+use Rattle.models.specs.declared.{DeviceId.DeviceId, OperationError.OperationError, RequestId.RequestId}
 use Rattle.rows.specs.Table.{is_held, row_in}
 use Rattle.rows.specs.declared.{Row.Row}
 use Rattle.rules.specs.declared.Change.TheVariants as change
@@ -12,16 +12,16 @@ use Rattle.reports.specs.Change.{change_of}
 use Rattle.scope.specs.Affected.{insert_row, tokens_of}
 use Rattle.scope.specs.Returned.{completion_words, brought_at}
 use Rattle.recovery.specs.RecoveryReply.{ReplyLists, reply_lists, ended, done_of}
-use Rattle.recovery.specs.declared.{RecoveryReply.RecoveryReply}
 use Rattle.calls.specs.Calls.{Open, Place, Move, Begin, Reply, ToSubmit, ToPoll, ToRecovery, Change, Cancel, Timeout, Reclaim, Withdraw, Read, Status, Reports, CountReports, CompletedBytes, HeldCount, HeldBytes}
 use Rattle.calls.specs.Step.{World, world_store, reports, recovers, reads, read_of, step_of}
 use Rattle.calls.specs.declared.{Answer.Answer, Outcome.Outcome}
 use Rattle.runs.specs.Run.{Stepping}
 use Rattle.history.specs.Journal.{ends_by, counts_by}
+use Rattle.recovery.specs.declared.{BackendAbort.BackendAbort}
 
 -- the calls in which an impostor goes its own way: a recovery's reply, a timeout, the held count
 pub record Ways : Type 0 where
-  pub recovery : RecoveryReply → ReplyLists → World → After Outcome Lent
+  pub recovery : Result BackendAbort OperationError → ReplyLists → World → After Outcome Lent
   pub timeout : RequestId → World → After Outcome Lent
   pub held : World → Answer
 
@@ -62,12 +62,12 @@ first_of (t ∷ ts) l =
     reply_lists (t ∷ []) (take completion_words l.completions) [] (take (brought_at l.completions 0).given l.bytes)
 
 -- of a reply that is not ready a part of the affected tokens is in scope
-abbrev pub not_ready : RecoveryReply → RecoveryReply
-not_ready (RecoveryReply.Error e) = RecoveryReply.Error e
-not_ready (RecoveryReply.Done o) = RecoveryReply.Done (record { restart_ready = false; error = o.error })
+abbrev pub not_ready : Result BackendAbort OperationError → Result BackendAbort OperationError
+not_ready (Err e) = Err e
+not_ready (Ok o) = Ok (record { restart_ready = false; error = o.error })
 
 -- where the entries count: the right answer and session, and what the first entry leaves
-abbrev pub first_applied : RecoveryReply → ReplyLists → World → After Outcome Lent
+abbrev pub first_applied : Result BackendAbort OperationError → ReplyLists → World → After Outcome Lent
 first_applied q l w =
     let right = right_ways.recovery q l w in
     cond (ends_by right.result.answer && counts_by right.result.answer)
@@ -101,18 +101,18 @@ in_slot_up_to d endpoint rows (suc n) =
     cond (is_held r && eqb r.metadata.device.slot d.slot && eqb r.metadata.endpoint endpoint) (insert_row rows n l) l
 
 -- those are the affected rows; `right` is what is right
-abbrev pub in_slot_by : InFlight → RecoveryReply → ReplyLists → World → After Outcome Lent → After Outcome Lent
+abbrev pub in_slot_by : InFlight → Result BackendAbort OperationError → ReplyLists → World → After Outcome Lent → After Outcome Lent
 in_slot_by InFlight.Nothing q l w right = right
 in_slot_by (InFlight.Submission id) q l w right = right
 in_slot_by (InFlight.Poll id) q l w right = right
-in_slot_by (InFlight.Recovery x) (RecoveryReply.Error e) l w right = right
-in_slot_by (InFlight.Recovery x) (RecoveryReply.Done o) l w right =
+in_slot_by (InFlight.Recovery x) (Err e) l w right = right
+in_slot_by (InFlight.Recovery x) (Ok o) l w right =
     let rows = (world_store w).rows in
     let affected = in_slot_up_to x.device x.endpoint rows (length rows) in
     recovers (done_of (ended (with_flight w.session InFlight.Nothing) x o) affected (tokens_of rows affected) l w.lent.memory) w
 
 -- where the reply is not refused by 2, 3 or 49
-abbrev pub in_slot : RecoveryReply → ReplyLists → World → After Outcome Lent
+abbrev pub in_slot : Result BackendAbort OperationError → ReplyLists → World → After Outcome Lent
 in_slot q l w =
     let right = right_ways.recovery q l w in
     cond (ends_by right.result.answer) (in_slot_by w.session.in_flight q l w right) right

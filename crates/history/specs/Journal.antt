@@ -1,15 +1,11 @@
 -- The journal (document 01's "book of demand 3"): what calls and answers say of each request. It reads no row. Assumes nothing.
-use Rattle.std.specs.Prelude.{ℕ, zero, suc, Bool, true, false, not, cond, ◌&&◌, ◌||◌, List, [], ◌∷◌, map, eqb, length, get_or, set, take, drop}
+use Rattle.std.specs.Prelude.{ℕ, zero, suc, Bool, true, false, not, cond, ◌&&◌, ◌||◌, List, [], ◌∷◌, map, eqb, length, get_or, set, take, drop, Option, Some, None, Result, Ok, Err}
 use Rattle.chain.specs.Lists.{find, map_at}
 use Rattle.models.specs.Requests.{no_id, same_request, same_device, request_before}
-use Rattle.models.specs.declared.{BackendCompletion.BackendCompletion, DeviceId.DeviceId, OptionError.OptionError, RequestId.RequestId}
+use Rattle.models.specs.declared.{BackendCompletion.BackendCompletion, DeviceId.DeviceId, OperationError.OperationError, RequestId.RequestId}
 use Rattle.checks.specs.Completion.{test_completion}
 use Rattle.checks.specs.Plan.{stage_of}
-use Rattle.checks.specs.declared.{completion.CompletionTest.CompletionTest}
 use Rattle.session.specs.declared.{InFlight.InFlight, Recovery.Recovery, RecoveryKind.RecoveryKind}
-use Rattle.reports.specs.declared.{OptionId.OptionId}
-use Rattle.polls.specs.declared.{PollReply.PollReply}
-use Rattle.submissions.specs.declared.{SubmitReply.SubmitReply}
 use Rattle.scope.specs.Returned.{Returned, read_returned}
 use Rattle.recovery.specs.RecoveryReply.{ReplyLists}
 use Rattle.calls.specs.Calls.{Call, Open, Place, Move, Acquire, Initialize, Close, Begin, Submit, SubmitPlan, Poll, Recover, Reply, ToSubmit, ToPoll, ToRecovery, Change, Read}
@@ -17,6 +13,8 @@ use Rattle.calls.specs.Answers.{is_pass, is_asked, is_recovering, begun_id}
 use Rattle.calls.specs.Said.{answer_said}
 use Rattle.calls.specs.declared.{Answer.Answer}
 use Rattle.runs.specs.Run.{Answered}
+use Rattle.checks.specs.declared.{completion.CompletionFault.CompletionFault, completion.ValidCompletion.ValidCompletion}
+use Rattle.polls.specs.declared.{PollAnswer.PollAnswer}
 
 -- what an entry and a row have in common; a token that has not come yet is 0
 pub record View : Type 0 where
@@ -104,27 +102,27 @@ counts_by a = not (eqb (refusal_number a) 45 || eqb (refusal_number a) 46)
 abbrev pub new_entry : RequestId → DeviceId → ℕ → ℕ → Entry
 new_entry id device endpoint requested = record { view = view_of id device endpoint requested; releases = 0 }
 
-abbrev pub begun_by : OptionId → DeviceId → ℕ → ℕ → Journal → Journal
-begun_by OptionId.None device endpoint requested j = j
-begun_by (OptionId.Some id) device endpoint requested j =
+abbrev pub begun_by : Option RequestId → DeviceId → ℕ → ℕ → Journal → Journal
+begun_by None device endpoint requested j = j
+begun_by (Some id) device endpoint requested j =
     record { entries = new_entry id device endpoint requested ∷ j.entries; waiting = InFlight.Submission id }
 
 -- the reply adds the token or, by 45, a release
-abbrev pub accepted_as : SubmitReply → Entry → Entry
-accepted_as (SubmitReply.Token token) e = entry_with_token token e
-accepted_as (SubmitReply.Error x) e = release e
+abbrev pub accepted_as : Result ℕ OperationError → Entry → Entry
+accepted_as (Ok token) e = entry_with_token token e
+accepted_as (Err x) e = release e
 
 -- ---- polls
 
-abbrev pub tested_as : CompletionTest → Entry → Entry
-tested_as (CompletionTest.Valid actual code) e = release e
-tested_as CompletionTest.MissingLength e = mark_failed e
-tested_as CompletionTest.Invalid e = mark_failed e
+abbrev pub tested_as : Result ValidCompletion CompletionFault → Entry → Entry
+tested_as (Ok v) e = release e
+tested_as (Err CompletionFault.MissingLength) e = mark_failed e
+tested_as (Err CompletionFault.Invalid) e = mark_failed e
 
 -- a completion adds a release if valid, or quiescent with an error; else it marks the entry Failed
-abbrev pub settled_by : OptionError → BackendCompletion → ℕ → Entry → Entry
-settled_by (OptionError.Some x) c given e = cond c.quiescent (release e) (mark_failed e)
-settled_by OptionError.None c given e = tested_as (test_completion c given e.view.requested) e
+abbrev pub settled_by : Option OperationError → BackendCompletion → ℕ → Entry → Entry
+settled_by (Some x) c given e = cond c.quiescent (release e) (mark_failed e)
+settled_by None c given e = tested_as (test_completion c given e.view.requested) e
 
 -- ---- the journal after a call
 
@@ -142,10 +140,10 @@ abbrev pub idle : Journal → Journal
 idle j = record { entries = j.entries; waiting = InFlight.Nothing }
 
 -- nothing came, or the backend's error: no entry changes
-abbrev pub polled_by : PollReply → ℕ → Journal → Journal
-polled_by PollReply.Nothing given j = idle j
-polled_by (PollReply.Error x) given j = idle j
-polled_by (PollReply.Completion c) given j = ended_with (settled_by c.error c given) j
+abbrev pub polled_by : Result (Option BackendCompletion) OperationError → ℕ → Journal → Journal
+polled_by (Ok None) given j = idle j
+polled_by (Err x) given j = idle j
+polled_by (Ok (Some c)) given j = ended_with (settled_by c.error c given) j
 
 abbrev pub poll_waits : RequestId → Journal → Journal
 poll_waits id j = record { entries = j.entries; waiting = InFlight.Poll id }
@@ -180,10 +178,10 @@ abbrev pub released_to : Bool → List Entry → ReleasedTo
 released_to b es = record { refused = b; entries = es }
 
 -- a completion of the entry v: a release, unless it meets 47, 48 or, the entry being marked Failed, 41
-abbrev pub completes_by : CompletionTest → View → List Entry → ReleasedTo
-completes_by CompletionTest.MissingLength v es = released_to true es
-completes_by CompletionTest.Invalid v es = released_to true es
-completes_by (CompletionTest.Valid actual code) v es = cond v.failed (released_to true es) (released_to false (at_entry v.id release es))
+abbrev pub completes_by : Result ValidCompletion CompletionFault → View → List Entry → ReleasedTo
+completes_by (Err CompletionFault.MissingLength) v es = released_to true es
+completes_by (Err CompletionFault.Invalid) v es = released_to true es
+completes_by (Ok vs) v es = cond v.failed (released_to true es) (released_to false (at_entry v.id release es))
 
 abbrev pub goes_on : ReleasedTo → (List Entry → ReleasedTo) → ReleasedTo
 goes_on q next = cond q.refused q (next q.entries)

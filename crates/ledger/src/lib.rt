@@ -10,46 +10,30 @@ ghost use Rattle.rules.specs.Said.{change_numbers};
 ghost use Rattle.ledger.specs.Apply.{changed_at, apply_of};
 ghost use Rattle.ledger.specs.Said.{applied_said, apply_numbers};
 
-use chain::Found;
 use models::{Refusal, RequestId, RequestReport};
-use rules::{Change, Step};
+use rules::Change;
 
 pub mod in_place; // in_place.rt: a change on the words of its row
 pub mod search; // search.rt: the row of an id, the first free row, an uncertain row
 pub mod tally; // tally.rt: how many rows are held, and how many bytes
 
-// What a change of the row of an id answers.
-#[derive(Clone, Copy)]
-pub enum Applied {
-    Refused(Refusal),
-    Done(RequestReport),
-}
-
 // Changes row i by a rule and writes it. A refusal leaves it as it is.
-pub fn change_at(rows: &mut [u64], i: usize, change: Change) -> Applied
+pub fn change_at(rows: &mut [u64], i: usize, change: Change) -> Result<RequestReport, Refusal>
     requires { i < length (read_rows rows.old) }
     ensures step { after result (store_of rows.new) ≡ changed_at i change (store_of rows.old) }
     ensures table { Tabled (change_numbers change) (applied_said result) }
 {
     let row = rows::read_row(rows, i);
-    let step = rules::change_row(row, change);
-    match step {
-        Step::Refused(refusal) => Applied::Refused(refusal),
-        Step::To(next, report) => {
-            rows::write_row(rows, i, next);
-            Applied::Done(report)
-        }
-    }
+    let step = rules::change_row(row, change)?;
+    rows::write_row(rows, i, step.row);
+    Ok(step.report)
 }
 
-// Changes the row of an id. 40: no row has it.
-pub fn apply(rows: &mut [u64], id: RequestId, change: Change) -> Applied
+// Changes the row of an id.
+pub fn apply(rows: &mut [u64], id: RequestId, change: Change) -> Result<RequestReport, Refusal>
     ensures step { after result (store_of rows.new) ≡ apply_of id change (store_of rows.old) }
     ensures table { Tabled (apply_numbers change) (applied_said result) }
 {
-    let found = search::find(rows, id);
-    let Found::At(i) = found else {
-        return Applied::Refused(models::refuse(40));
-    };
+    let i = search::place(rows, id)?;
     change_at(rows, i, change)
 }

@@ -2,13 +2,11 @@
 ghost use Rattle.std.specs.Prelude.{◌≡◌, ◌<◌, ◌≤◌, length, take};
 ghost use Rattle.chain.specs.Lists.{find, count, found_in, any_in};
 ghost use Rattle.rows.specs.Table.{read_rows, row_at, is_uncertain};
-ghost use Rattle.ledger.specs.Search.{is_at, is_free, has_sequence, found_before, block_start};
+ghost use Rattle.ledger.specs.Search.{is_at, is_free, has_sequence, found_before, block_start, place_to_change};
 
-use chain::Found;
-use models::RequestId;
+use models::{Cause, Refusal, RequestId};
 use rows::columns;
 use rows::columns::BLOCK;
-use words::slices;
 
 // How many rows are read one by one before any block.
 const NEAR: usize = 8;
@@ -18,28 +16,17 @@ fn holds(rows: &[u64], i: usize, id: RequestId) -> bool
     requires { i < length (read_rows rows.now) }
     ensures { result ≡ is_at id (row_at rows.now i) }
 {
-    let own = columns::sequence_at(rows, i);
-    if own != id.sequence {
-        return false;
-    }
-    let whole = columns::id_at(rows, i);
-    let used = columns::used_at(rows, i);
-    used & models::same_request(whole, id)
+    columns::sequence_at(rows, i) == id.sequence
+        && columns::used_at(rows, i)
+        && columns::id_at(rows, i) == id
 }
 
 // The row of an id, where none before `from` has it. Rows from `to` on are not read.
-fn scan(rows: &[u64], id: RequestId, from: usize, to: usize) -> Found
+fn scan(rows: &[u64], id: RequestId, from: usize, to: usize) -> Option<usize>
     requires { (from ≤ find (is_at id) (read_rows rows.now)) × (to ≤ length (read_rows rows.now)) }
     ensures { result ≡ found_before to (is_at id) (read_rows rows.now) }
 {
-    let mut i = from;
-    while i < to {
-        if holds(rows, i, id) {
-            return Found::At(i);
-        }
-        i += 1;
-    }
-    Found::Nothing
+    (from..to).find(|i| holds(rows, *i, id))
 }
 
 // How many rows before `to` have the sequence, where none before `from` has it. The loop only adds: it compiles to vector code.
@@ -49,11 +36,8 @@ fn count_sequence(rows: &[u64], sequence: u64, from: usize, to: usize) -> u64
     ensures { result ≡ count (has_sequence sequence) (take to (read_rows rows.now)) }
 {
     let mut total: u64 = 0;
-    let mut i = from;
-    while i < to {
-        let own = columns::sequence_at(rows, i);
-        total += words::flag_word(own == sequence);
-        i += 1;
+    for i in from..to {
+        total += u64::from(columns::sequence_at(rows, i) == sequence);
     }
     total
 }
@@ -62,58 +46,46 @@ fn count_sequence(rows: &[u64], sequence: u64, from: usize, to: usize) -> u64
 fn block_of(rows: &[u64], sequence: u64) -> usize
     ensures { result ≡ block_start (find (has_sequence sequence) (read_rows rows.now)) }
 {
-    let n = rows::count(rows);
-    let mut at = 0;
-    while n - at >= BLOCK {
-        let end = at + BLOCK;
-        if count_sequence(rows, sequence, at, end) != 0 {
+    let blocks = rows::count(rows) / BLOCK;
+    for block in 0..blocks {
+        let at = block * BLOCK;
+        if count_sequence(rows, sequence, at, at + BLOCK) != 0 {
             return at;
         }
-        at = end;
     }
-    at
+    blocks * BLOCK
 }
 
 // The row of an id. The first rows, which fill first, are read one by one.
-pub fn find(rows: &[u64], id: RequestId) -> Found
+pub fn find(rows: &[u64], id: RequestId) -> Option<usize>
     ensures { result ≡ found_in (is_at id) (read_rows rows.now) }
 {
     let n = rows::count(rows);
-    let near = slices::least(n, NEAR);
-    let found = scan(rows, id, 0, near);
-    let Found::Nothing = found else {
-        return found;
-    };
+    let near = scan(rows, id, 0, n.min(NEAR));
+    if near.is_some() {
+        return near;
+    }
     let at = block_of(rows, id.sequence);
     scan(rows, id, at, n)
 }
 
+// `find`, for a change of the row. 40: no row has the id.
+pub fn place(rows: &[u64], id: RequestId) -> Result<usize, Refusal>
+    ensures { result ≡ place_to_change id (read_rows rows.now) }
+{
+    find(rows, id).ok_or(models::refuse(Cause::UnknownRequest))
+}
+
 // The first row without a request.
-pub fn first_free(rows: &[u64]) -> Found
+pub fn first_free(rows: &[u64]) -> Option<usize>
     ensures { result ≡ found_in is_free (read_rows rows.now) }
 {
-    let n = rows::count(rows);
-    let mut i = 0;
-    while i < n {
-        if !columns::used_at(rows, i) {
-            return Found::At(i);
-        }
-        i += 1;
-    }
-    Found::Nothing
+    (0..rows::count(rows)).find(|i| !columns::used_at(rows, *i))
 }
 
 // Whether a row is Failed and not quiescent.
 pub fn any_uncertain(rows: &[u64]) -> bool
     ensures { result ≡ any_in is_uncertain (read_rows rows.now) }
 {
-    let n = rows::count(rows);
-    let mut i = 0;
-    while i < n {
-        if columns::uncertain_at(rows, i) {
-            return true;
-        }
-        i += 1;
-    }
-    false
+    (0..rows::count(rows)).any(|i| columns::uncertain_at(rows, i))
 }

@@ -13,13 +13,17 @@ ghost use Rattle.polls.specs.Said.{poll_said, poll_numbers};
 ghost use Rattle.lent.specs.Lent.{polled_as, reported_as};
 ghost use Rattle.rows.specs.Store.{store_of};
 
-use models::RequestId;
+use models::{Refusal, RequestId, RequestReport};
 use polls::{PollAnswer, poll};
-use reports::{ReportAnswer, change};
+use reports::change;
 use session::Session;
 
 // The rows are lent again, as the others lend theirs.
-pub fn poll_request(session: &mut Session, rows: &[u64], id: RequestId) -> PollAnswer
+pub fn poll_request(
+    session: &mut Session,
+    rows: &[u64],
+    id: RequestId,
+) -> Result<PollAnswer, Refusal>
     ensures step { polled_as result session.new ≡ poll_of id session.old (store_of rows.now) }
     ensures table { Tabled poll_numbers (poll_said result) }
 {
@@ -32,7 +36,7 @@ pub fn logical_cancel_request(
     session: &mut Session,
     rows: &mut [u64],
     id: RequestId,
-) -> ReportAnswer
+) -> Result<RequestReport, Refusal>
     ensures step { after (reported_as result session.new) (store_of rows.new)
         ≡ change_of id Change.LogicalCancel session.old (store_of rows.old) }
     ensures table { Tabled cancel_numbers (report_said result) }
@@ -46,7 +50,7 @@ pub fn withdraw_cancel_request(
     session: &mut Session,
     rows: &mut [u64],
     id: RequestId,
-) -> ReportAnswer
+) -> Result<RequestReport, Refusal>
     ensures step { after (reported_as result session.new) (store_of rows.new)
         ≡ change_of id Change.WithdrawCancel session.old (store_of rows.old) }
     ensures table { Tabled withdraw_numbers (report_said result) }
@@ -56,7 +60,11 @@ pub fn withdraw_cancel_request(
     done.answer
 }
 
-pub fn timeout_request(session: &mut Session, rows: &mut [u64], id: RequestId) -> ReportAnswer
+pub fn timeout_request(
+    session: &mut Session,
+    rows: &mut [u64],
+    id: RequestId,
+) -> Result<RequestReport, Refusal>
     ensures step { after (reported_as result session.new) (store_of rows.new)
         ≡ change_of id Change.Timeout session.old (store_of rows.old) }
     ensures table { Tabled cancel_numbers (report_said result) }
@@ -66,7 +74,11 @@ pub fn timeout_request(session: &mut Session, rows: &mut [u64], id: RequestId) -
     done.answer
 }
 
-pub fn reclaim_request(session: &mut Session, rows: &mut [u64], id: RequestId) -> ReportAnswer
+pub fn reclaim_request(
+    session: &mut Session,
+    rows: &mut [u64],
+    id: RequestId,
+) -> Result<RequestReport, Refusal>
     ensures step { after (reported_as result session.new) (store_of rows.new)
         ≡ change_of id Change.Reclaim session.old (store_of rows.old) }
     ensures table { Tabled reclaim_numbers (report_said result) }

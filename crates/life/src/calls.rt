@@ -1,15 +1,14 @@
 // Calls whose answers are printed.
 use crate::fixtures::{bulk, id_of};
 use crate::show;
-use models::{OptionError, PortReading};
-use polls::{PollReply, poll, poll_reply};
+use models::{BackendCompletion, OperationError};
+use polls::{poll, poll_reply};
 use reports::{change, status};
-use session::{Session, lifecycle};
+use session::{Called, Session, lifecycle};
 use std::io;
 use std::io::Write;
-use submissions::{SubmitReply, Submitted, submit, submit_reply};
+use submissions::{NewRequest, Submission, submit, submit_reply};
 use targets::Readings;
-use words::OptionU64;
 
 pub(crate) fn submit_bulk(
     s: Session,
@@ -17,23 +16,18 @@ pub(crate) fn submit_bulk(
     rows: &mut [u64],
     area: &mut [u8],
     length: u64,
-) -> Submitted {
-    let none = [0u64; 1];
-    let word = PortReading::Word(0x403);
-    submit::submit_request_packets(
-        s,
-        bus,
-        rows,
-        area,
-        bulk(length),
-        b"",
-        false,
-        &none,
-        Readings {
+) -> Called<Submission> {
+    let word = Ok(0x403);
+    let q = NewRequest {
+        spec: bulk(length),
+        bytes: b"",
+        packets: None,
+        readings: Readings {
             first: word,
             second: word,
         },
-    )
+    };
+    submit::submit_request_packets(s, bus, rows, area, q)
 }
 
 // The first half of a submission.
@@ -56,7 +50,7 @@ pub(crate) fn take<W: Write>(
     out: &mut W,
     s: Session,
     rows: &mut [u64],
-    r: SubmitReply,
+    r: Result<u64, OperationError>,
 ) -> io::Result<Session> {
     let x = submit_reply::submit_reply(s, rows, r);
     let answer = x.answer;
@@ -72,7 +66,7 @@ pub(crate) fn send<W: Write>(
     rows: &mut [u64],
     area: &mut [u8],
     length: u64,
-    r: SubmitReply,
+    r: Result<u64, OperationError>,
 ) -> io::Result<Session> {
     let s = ask(out, s, bus, rows, area, length)?;
     take(out, s, rows, r)
@@ -95,7 +89,7 @@ pub(crate) fn take_poll<W: Write>(
     s: Session,
     rows: &mut [u64],
     area: &mut [u8],
-    r: PollReply,
+    r: Result<Option<BackendCompletion>, OperationError>,
     bytes: &[u8],
 ) -> io::Result<Session> {
     let x = poll_reply::poll_reply(s, rows, area, r, bytes);
@@ -144,8 +138,8 @@ pub(crate) fn close<W: Write>(
     out: &mut W,
     s: Session,
     rows: &mut [u64],
-    fresh: OptionU64,
-    r: OptionError,
+    fresh: Option<u64>,
+    r: Option<OperationError>,
 ) -> io::Result<Session> {
     let x = lifecycle::close(s, rows, fresh, r);
     let answer = x.answer;

@@ -1,20 +1,17 @@
 // What every life is made of: the opening, the device of slot 1, ids, requests and replies.
 use models::{
     BackendCompletion, DeviceId, DeviceSnapshot, DeviceState, Direction, ErrorCategory,
-    OperationError, OptionError, OptionSetup, PortId, RequestId, RequestSpec, TransferType,
+    OperationError, PortId, RequestId, RequestSpec, TransferType,
 };
-use polls::PollReply;
 use session::Size;
 use session::lifecycle::Opening;
-use words::{OptionI32, OptionU32, OptionU64};
 
 pub(crate) fn opening(row_count: u64, row_bytes: u64) -> Opening {
     Opening {
         session: 1,
         first_sequence: 0,
-        recovery_revision: OptionU64::Some(0),
-        has_ports: true,
-        port_count: 1,
+        recovery_revision: Some(0),
+        port_count: Some(1),
         size: Size {
             row_count,
             row_bytes,
@@ -50,8 +47,8 @@ pub(crate) fn error(category: ErrorCategory) -> OperationError {
     OperationError {
         category,
         message: 7,
-        os_code: OptionI32::None,
-        completion_code: OptionU32::None,
+        os_code: None,
+        completion_code: None,
     }
 }
 
@@ -65,16 +62,19 @@ pub(crate) fn bulk(length: u64) -> RequestSpec {
         transfer_type: TransferType::Bulk,
         direction: Direction::In,
         length,
-        setup: OptionSetup::None,
+        setup: None,
     }
 }
 
-pub(crate) fn completion(length: u64, code: u32) -> PollReply {
-    PollReply::Completion(BackendCompletion {
-        actual_length: OptionU64::Some(length),
-        completion_code: OptionU32::Some(code),
+pub(crate) fn completion(
+    length: u64,
+    code: u32,
+) -> Result<Option<BackendCompletion>, OperationError> {
+    Ok(Some(BackendCompletion {
+        actual_length: Some(length),
+        completion_code: Some(code),
         has_data: true,
-        error: OptionError::None,
+        error: None,
         quiescent: true,
-    })
+    }))
 }

@@ -3,11 +3,10 @@ use crate::calls::{ask, send, show_held, submit_bulk};
 use crate::fixtures::opening;
 use crate::prepare::prepare;
 use crate::show;
-use session::lifecycle::Opened;
 use session::{Session, lifecycle};
 use std::io;
 use std::io::Write;
-use submissions::{SubmitReply, submit_reply};
+use submissions::submit_reply;
 
 // The words of the store's rows.
 const ROWS: usize = 130 * rows::ROW_WORDS;
@@ -18,16 +17,14 @@ const BUS: usize = bus::WORDS;
 // Both halves of a submission, not printed.
 fn hold(s: Session, bus: &mut [u64], rows: &mut [u64], area: &mut [u8]) -> Session {
     let r = submit_bulk(s, bus, rows, area, 1);
-    let x = submit_reply::submit_reply(r.session, rows, SubmitReply::Token(1));
+    let x = submit_reply::submit_reply(r.session, rows, Ok(1));
     x.session
 }
 
 fn hold_many(s: Session, bus: &mut [u64], rows: &mut [u64], area: &mut [u8], n: u64) -> Session {
     let mut held = s;
-    let mut i = 0;
-    while i < n {
+    for _ in 0..n {
         held = hold(held, bus, rows, area);
-        i += 1;
     }
     held
 }
@@ -40,7 +37,7 @@ fn reach_limit<W: Write>(
     rows: &mut [u64],
     area: &mut [u8],
 ) -> io::Result<()> {
-    let s = send(out, s, bus, rows, area, 1, SubmitReply::Token(1))?;
+    let s = send(out, s, bus, rows, area, 1, Ok(1))?;
     show_held(out, s, rows)?;
     ask(out, s, bus, rows, area, 1)?;
     Ok(())
@@ -66,7 +63,7 @@ pub(crate) fn run<W: Write>(out: &mut W) -> io::Result<()> {
     let mut area = [0u8; 130];
     let opened = lifecycle::open(opening(130, 1), &mut rows, &area, &mut bus);
     show::opened(out, b"open", opened)?;
-    let Opened::Open(s) = opened else {
+    let Ok(s) = opened else {
         return Ok(());
     };
     let s = prepare(out, s, &mut bus)?;

@@ -1,11 +1,10 @@
 // Answers as text.
-use models::{Refusal, RequestReport, RequestState, Verdict};
+use models::{Refusal, RequestReport, RequestState};
 use polls::PollAnswer;
-use reports::{NextReport, ReportAnswer, Tally};
-use session::lifecycle::Opened;
+use session::Session;
 use std::io;
 use std::io::Write;
-use submissions::SubmitAnswer;
+use submissions::Submission;
 use texts::print::{number, text};
 
 fn refused<W: Write>(out: &mut W, r: Refusal) -> io::Result<()> {
@@ -18,19 +17,19 @@ fn refused_by<W: Write>(out: &mut W, n: u16) -> io::Result<()> {
     text(out, b"\n")
 }
 
-pub fn verdict<W: Write>(out: &mut W, name: &[u8], v: Verdict) -> io::Result<()> {
+pub fn verdict<W: Write>(out: &mut W, name: &[u8], v: Result<(), Refusal>) -> io::Result<()> {
     text(out, name)?;
     match v {
-        Verdict::Refused(r) => refused(out, r),
-        Verdict::Pass => text(out, b" ok\n"),
+        Err(r) => refused(out, r),
+        Ok(()) => text(out, b" ok\n"),
     }
 }
 
-pub fn opened<W: Write>(out: &mut W, name: &[u8], o: Opened) -> io::Result<()> {
+pub fn opened<W: Write>(out: &mut W, name: &[u8], o: Result<Session, Refusal>) -> io::Result<()> {
     text(out, name)?;
     match o {
-        Opened::Refused(r) => refused(out, r),
-        Opened::Open(_) => text(out, b" ok\n"),
+        Err(r) => refused(out, r),
+        Ok(_) => text(out, b" ok\n"),
     }
 }
 
@@ -79,29 +78,41 @@ fn report<W: Write>(out: &mut W, r: RequestReport) -> io::Result<()> {
     text(out, b"\n")
 }
 
-pub fn reported<W: Write>(out: &mut W, name: &[u8], a: ReportAnswer) -> io::Result<()> {
+pub fn reported<W: Write>(
+    out: &mut W,
+    name: &[u8],
+    a: Result<RequestReport, Refusal>,
+) -> io::Result<()> {
     text(out, name)?;
     match a {
-        ReportAnswer::Refused(r) => refused(out, r),
-        ReportAnswer::Report(x) => report(out, x),
+        Err(r) => refused(out, r),
+        Ok(x) => report(out, x),
     }
 }
 
-pub fn next<W: Write>(out: &mut W, name: &[u8], a: NextReport) -> io::Result<()> {
+pub fn next<W: Write>(
+    out: &mut W,
+    name: &[u8],
+    a: Result<Option<RequestReport>, Refusal>,
+) -> io::Result<()> {
     text(out, name)?;
     match a {
-        NextReport::Refused(r) => refused(out, r),
-        NextReport::None => text(out, b" none\n"),
-        NextReport::Report(x) => report(out, x),
+        Err(r) => refused(out, r),
+        Ok(None) => text(out, b" none\n"),
+        Ok(Some(x)) => report(out, x),
     }
 }
 
-pub fn polled<W: Write>(out: &mut W, name: &[u8], a: PollAnswer) -> io::Result<()> {
+pub fn polled<W: Write>(
+    out: &mut W,
+    name: &[u8],
+    a: Result<PollAnswer, Refusal>,
+) -> io::Result<()> {
     text(out, name)?;
     match a {
-        PollAnswer::Refused(r) => refused(out, r),
-        PollAnswer::Report(x) => report(out, x),
-        PollAnswer::Asked(token) => {
+        Err(r) => refused(out, r),
+        Ok(PollAnswer::Report(x)) => report(out, x),
+        Ok(PollAnswer::Asked(token)) => {
             text(out, b" asks for token")?;
             number(out, token)?;
             text(out, b"\n")
@@ -109,11 +120,15 @@ pub fn polled<W: Write>(out: &mut W, name: &[u8], a: PollAnswer) -> io::Result<(
     }
 }
 
-pub fn submitted<W: Write>(out: &mut W, name: &[u8], a: SubmitAnswer) -> io::Result<()> {
+pub fn submitted<W: Write>(
+    out: &mut W,
+    name: &[u8],
+    a: Result<Submission, Refusal>,
+) -> io::Result<()> {
     text(out, name)?;
     match a {
-        SubmitAnswer::Refused(r) => refused(out, r),
-        SubmitAnswer::Begun(x) => {
+        Err(r) => refused(out, r),
+        Ok(x) => {
             text(out, b" begun: sequence")?;
             number(out, x.id.sequence)?;
             text(out, b" row")?;
@@ -123,11 +138,11 @@ pub fn submitted<W: Write>(out: &mut W, name: &[u8], a: SubmitAnswer) -> io::Res
     }
 }
 
-pub fn tally<W: Write>(out: &mut W, name: &[u8], a: Tally) -> io::Result<()> {
+pub fn tally<W: Write>(out: &mut W, name: &[u8], a: Result<u64, Refusal>) -> io::Result<()> {
     text(out, name)?;
     match a {
-        Tally::Refused(r) => refused(out, r),
-        Tally::Number(n) => {
+        Err(r) => refused(out, r),
+        Ok(n) => {
             number(out, n)?;
             text(out, b"\n")
         }

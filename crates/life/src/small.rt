@@ -5,16 +5,12 @@ use crate::calls::{
 use crate::fixtures::{completion, error, id_of, opening};
 use crate::prepare::prepare;
 use crate::show;
-use models::{ErrorCategory, OptionError};
-use polls::PollReply;
-use reports::{OptionId, status};
-use session::lifecycle::Opened;
+use models::ErrorCategory;
+use reports::status;
 use session::{Session, lifecycle};
 use std::io;
 use std::io::Write;
-use submissions::SubmitReply;
 use texts::print;
-use words::OptionU64;
 
 // The words of the store's rows.
 const ROWS: usize = 2 * rows::ROW_WORDS;
@@ -29,13 +25,10 @@ fn show_bytes<W: Write>(
     area: &[u8],
     sequence: u64,
 ) -> io::Result<()> {
-    let mut number = 0u16;
-    let bytes = status::completed_bytes(s, rows, area, id_of(sequence), &mut number);
-    if number != 0 {
-        show::refusal(out, b"bytes", number)?;
-        return Ok(());
+    match status::completed_bytes(s, rows, area, id_of(sequence)) {
+        Err(refusal) => show::refusal(out, b"bytes", refusal.number),
+        Ok(bytes) => print::bytes(out, b"bytes", bytes),
     }
-    print::bytes(out, b"bytes", bytes)
 }
 
 // The first request's report and its bytes.
@@ -64,8 +57,8 @@ fn accept<W: Write>(
     rows: &mut [u64],
     area: &mut [u8],
 ) -> io::Result<Session> {
-    let s = take_poll(out, s, rows, area, PollReply::Nothing, b"")?;
-    take(out, s, rows, SubmitReply::Token(70))
+    let s = take_poll(out, s, rows, area, Ok(None), b"")?;
+    take(out, s, rows, Ok(70))
 }
 
 // A request that is Pending has no bytes.
@@ -98,7 +91,7 @@ fn complete<W: Write>(
 ) -> io::Result<Session> {
     let s = ask_poll(out, s, rows, 9)?;
     let s = ask_poll(out, s, rows, 0)?;
-    let s = take_poll(out, s, rows, area, PollReply::Nothing, b"")?;
+    let s = take_poll(out, s, rows, area, Ok(None), b"")?;
     let s = ask_poll(out, s, rows, 0)?;
     take_poll(out, s, rows, area, completion(3, 13), b"abc")
 }
@@ -149,27 +142,23 @@ fn fill<W: Write>(
     rows: &mut [u64],
     area: &mut [u8],
 ) -> io::Result<Session> {
-    let s = send(out, s, bus, rows, area, 8, SubmitReply::Token(71))?;
-    send(out, s, bus, rows, area, 4, SubmitReply::Token(72))
+    let s = send(out, s, bus, rows, area, 8, Ok(71))?;
+    send(out, s, bus, rows, area, 4, Ok(72))
 }
 
 // Reports in the order of ids, and one by its id.
 fn show_reports<W: Write>(out: &mut W, s: Session, rows: &[u64]) -> io::Result<()> {
     show::tally(out, b"reports", status::count_reports(s, rows))?;
+    show::next(out, b"first", status::request_reports(s, rows, None))?;
     show::next(
         out,
-        b"first",
-        status::request_reports(s, rows, OptionId::None),
+        b"next",
+        status::request_reports(s, rows, Some(id_of(2))),
     )?;
     show::next(
         out,
         b"next",
-        status::request_reports(s, rows, OptionId::Some(id_of(2))),
-    )?;
-    show::next(
-        out,
-        b"next",
-        status::request_reports(s, rows, OptionId::Some(id_of(3))),
+        status::request_reports(s, rows, Some(id_of(3))),
     )?;
     show::reported(out, b"status", status::request_status(s, rows, id_of(3)))
 }
@@ -212,7 +201,7 @@ fn send_failed<W: Write>(
     rows: &mut [u64],
     area: &mut [u8],
 ) -> io::Result<Session> {
-    let failed = SubmitReply::Error(error(ErrorCategory::Unsupported));
+    let failed = Err(error(ErrorCategory::Unsupported));
     send(out, s, bus, rows, area, 8, failed)
 }
 
@@ -230,17 +219,17 @@ fn trouble<W: Write>(
 
 // A close refused by 52, one by 45, then one that passes.
 fn close_open<W: Write>(out: &mut W, s: Session, rows: &mut [u64]) -> io::Result<Session> {
-    let failed = OptionError::Some(error(ErrorCategory::Timeout));
-    let s = close(out, s, rows, OptionU64::None, OptionError::None)?;
-    let s = close(out, s, rows, OptionU64::Some(2), failed)?;
-    close(out, s, rows, OptionU64::Some(2), OptionError::None)
+    let failed = Some(error(ErrorCategory::Timeout));
+    let s = close(out, s, rows, None, None)?;
+    let s = close(out, s, rows, Some(2), failed)?;
+    close(out, s, rows, Some(2), None)
 }
 
 // Once closed, none is held, and the session closes again.
 fn finish_life<W: Write>(out: &mut W, s: Session, rows: &mut [u64]) -> io::Result<()> {
     let s = close_open(out, s, rows)?;
     show_held(out, s, rows)?;
-    close(out, s, rows, OptionU64::None, OptionError::None)?;
+    close(out, s, rows, None, None)?;
     Ok(())
 }
 
@@ -253,7 +242,7 @@ pub(crate) fn run<W: Write>(out: &mut W) -> io::Result<()> {
     show::opened(out, b"open", wrong)?;
     let opened = lifecycle::open(opening(2, 8), &mut rows, &area, &mut bus);
     show::opened(out, b"open", opened)?;
-    let Opened::Open(s) = opened else {
+    let Ok(s) = opened else {
         return Ok(());
     };
     let s = prepare(out, s, &mut bus)?;

@@ -1,5 +1,6 @@
 -- The walk over a paper's events: what is left of it leads to the whole. Assumes nothing.
-use Prim.Native.Nat.{ℕ, suc, ◌+◌, ◌*◌, ◌/◌, ◌^◌, ◌≤◌, ◌<◌}
+use Rattle.std.specs.Prelude.{Option, Some}
+use Prim.Native.Nat.{ℕ, suc, ◌+◌, ◌*◌, ◌/◌, ◌≤◌, ◌<◌}
 use mathlib.Core.Bool.{Bool, true, false}
 use mathlib.Core.Path.{◌≡◌, refl, sym, ap, ◌∙◌}
 use mathlib.Core.List.{List, ◌∷◌, ◌++◌, append-nil}
@@ -18,7 +19,7 @@ use Rattle.session.specs.Lent.{Lent}
 use Rattle.calls.specs.Step.{World, world, made_on}
 use Rattle.paper.specs.Events.{event_count, events_of, event_at}
 use Rattle.paper.specs.Form.{is_refused_size, is_damaged}
-use Rattle.paper.specs.declared.{OptionEvent.OptionEvent, PaperEvent.PaperEvent}
+use Rattle.paper.specs.declared.{PaperEvent.PaperEvent}
 use Rattle.paper.proofs.Papers.{events_end, event_some}
 use Rattle.paper_session.specs.Start.{blank_lent, start_on}
 use Rattle.decimal.specs.Text.{appended}
@@ -35,9 +36,6 @@ module _ (size at i n : ℕ) (fits : is_refused_size size ≡ false) (few : at �
   events_few : size ≤ 65536
   unfolding is_refused_size
   events_few = ltb-false 65536 size (or_false (ltb 65536 size) _ fits).0
-
-  pub index_next : i < size / 8 → i + 1 < 2 ^ 64
-  index_next h = omega (arith, events_few)
 
   pub room_next : i < size / 8 → at + line_room ≤ n
   room_next h = omega (arith, events_few)
@@ -85,7 +83,7 @@ module _ (paper : List ℕ) (i : ℕ) (w : World) (at : ℕ) (out : List ℕ) (x
   pub walk_done : event_count paper ≤ i → after at out ≡ x
   walk_done h = sym (appended_none at out) ∙ rw (events_end paper i h) at whole
 
-  module _ (o : OptionEvent) (e : PaperEvent) (read : o ≡ event_at paper i) (some : o ≡ OptionEvent.Some e)
+  module _ (o : Option PaperEvent) (e : PaperEvent) (read : o ≡ event_at paper i) (some : o ≡ Some e)
       (v : World) (r : ℕ) (left : List ℕ) (done : walk v (after r left) ≡ event_walked i e w at out) (b : Bool) (test : b ≡ is_damaged e) where
     next_event : drop i (events_of paper) ≡ e ∷ drop (suc i) (events_of paper)
     next_event = (event_some paper i e (sym read ∙ some)).1

@@ -1,13 +1,12 @@
 -- A paper's lines: for every list of bytes those that the calls of each event give, made one by one (document 02, M-100). Assumes nothing.
-use Rattle.std.specs.Prelude.{ℕ, suc, ◌*◌, cond, List, [], ◌∷◌, ◌++◌, length}
+use Rattle.std.specs.Prelude.{ℕ, suc, ◌*◌, cond, List, [], ◌∷◌, ◌++◌, length, Option, Some, None, Result, Ok, Err}
 use Rattle.chain.specs.After.{After}
 use Rattle.chain.specs.Chain.{◌if◌else◌}
-use Rattle.models.specs.declared.{RequestState.RequestState}
+use Rattle.models.specs.declared.{Refusal.Refusal, RequestId.RequestId, RequestReport.RequestReport, RequestState.RequestState}
 use Rattle.models.specs.declared.RequestState.TheVariants.{Pending, Completed, Failed, Aborted}
 use Rattle.rows.specs.Store.{Store}
 use Rattle.session.specs.Lent.{Lent}
 use Rattle.session.specs.declared.{Session.Session}
-use Rattle.reports.specs.declared.{HeldAnswer.HeldAnswer, OptionId.OptionId, ReportAnswer.ReportAnswer}
 use Rattle.reports.specs.Status.{status_of, held_count_of}
 use Rattle.calls.specs.Step.{World, made_on}
 use Rattle.paper.specs.Form.{is_refused_size, is_damaged}
@@ -30,18 +29,18 @@ state_letter Aborted = 65
 abbrev pub no_letter : ℕ
 no_letter = 45
 
-abbrev pub letter_by : ReportAnswer → ℕ
-letter_by (ReportAnswer.Refused r) = no_letter
-letter_by (ReportAnswer.Report x) = state_letter x.state
+abbrev pub letter_by : Result RequestReport Refusal → ℕ
+letter_by (Err r) = no_letter
+letter_by (Ok x) = state_letter x.state
 
 -- the state of an id, by its status
-abbrev pub letter_of : OptionId → Session → Store → ℕ
-letter_of OptionId.None s store = no_letter
-letter_of (OptionId.Some id) s store = letter_by (status_of id s store)
+abbrev pub letter_of : Option RequestId → Session → Store → ℕ
+letter_of None s store = no_letter
+letter_of (Some id) s store = letter_by (status_of id s store)
 
-abbrev pub held_number : HeldAnswer → ℕ
-held_number (HeldAnswer.Refused r) = 0
-held_number (HeldAnswer.Count n) = n
+abbrev pub held_number : Result ℕ Refusal → ℕ
+held_number (Err r) = 0
+held_number (Ok n) = n
 
 -- how many rows are held
 abbrev pub held_in : Session → Store → ℕ

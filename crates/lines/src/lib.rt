@@ -12,7 +12,7 @@ ghost use Rattle.paper_session.specs.Start.{blank_lent, start_on};
 ghost use Rattle.decimal.specs.Text.{appended};
 ghost use Rattle.lines.specs.Lines.{line_room, text_room, key_text, walk, event_walked, text_from};
 
-use paper::{OptionEvent, PaperEvent, form, reader};
+use paper::{PaperEvent, form, reader};
 use paper_session::{AREA_BYTES, STORE_WORDS};
 use session::Session;
 
@@ -75,9 +75,8 @@ fn mark_events(
 {
     let mut own = session;
     let mut at = 0;
-    let mut i = 0;
-    while i < paper.len() / 8 {
-        let OptionEvent::Some(e) = reader::read(paper, i) else {
+    for i in 0..paper.len() / 8 {
+        let Some(e) = reader::read(paper, i) else {
             return at;
         };
         let walked = mark_event(out, at, i as u64, own, bus, rows, area, e);
@@ -86,7 +85,6 @@ fn mark_events(
         if form::is_damaged(e) {
             return at;
         }
-        i += 1;
     }
     at
 }

@@ -5,6 +5,7 @@ ghost use Rattle.decimal.specs.Text.{appended};
 ghost use Rattle.lines.specs.Lines.{line_room, line_text, refused_text};
 
 use crate::Line;
+use models::Cause;
 
 // A line at `at`; answers where it ends.
 pub(crate) fn put_line(out: &mut [u8], at: usize, line: Line) -> usize
@@ -23,5 +24,5 @@ pub(crate) fn put_refused(out: &mut [u8]) -> usize
     requires { line_room ≤ length out.old }
     ensures { after result out.new ≡ appended refused_text 0 out.old }
 {
-    decimal::put_field(out, 0, 56, b'\n')
+    decimal::put_field(out, 0, Cause::PaperSize.number() as u64, b'\n')
 }

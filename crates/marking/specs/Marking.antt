@@ -1,12 +1,10 @@
 -- The calls of an event, and what they leave (document 02, M-100). Assumes nothing.
-use Rattle.std.specs.Prelude.{ℕ, min, true, false, cond, ◌≡◌, List, [], ◌∷◌, eqb, replicate}
+use Rattle.std.specs.Prelude.{ℕ, min, true, false, cond, ◌≡◌, List, [], ◌∷◌, eqb, replicate, Option, Some, None, Result, Ok}
 use Rattle.chain.specs.After.{After, after}
 use Rattle.chain.specs.Chain.{◌if◌else◌}
-use Rattle.words.specs.declared.{OptionU32.OptionU32, OptionU64.OptionU64}
 use Rattle.models.specs.Refusals.{own_error}
-use Rattle.models.specs.declared.{BackendCompletion.BackendCompletion, ErrorCategory.ErrorCategory, OperationError.OperationError, OptionError.OptionError, OptionSetup.OptionSetup, RequestId.RequestId, RequestSpec.RequestSpec}
+use Rattle.models.specs.declared.{BackendCompletion.BackendCompletion, ErrorCategory.ErrorCategory, OperationError.OperationError, RequestId.RequestId, RequestSpec.RequestSpec}
 use Rattle.models.specs.declared.Direction.TheVariants.{In}
-use Rattle.models.specs.declared.PortReading.TheVariants.{Word}
 use Rattle.models.specs.declared.TransferType.TheVariants.{Bulk}
 use Rattle.standards.specs.Fields.{bit}
 use Rattle.rows.specs.Store.{store_of}
@@ -17,13 +15,8 @@ use Rattle.bus.specs.Tables.{Bus}
 use Rattle.session.specs.Lent.{Lent, memory, lent, memory_of}
 use Rattle.session.specs.declared.{Recovery.Recovery, Session.Session}
 use Rattle.session.specs.declared.RecoveryKind.TheVariants.{Abort}
-use Rattle.reports.specs.declared.{OptionId.OptionId}
 use Rattle.submissions.specs.Submit.{Request, request}
-use Rattle.submissions.specs.declared.SubmitReply.TheVariants.{Token}
-use Rattle.polls.specs.declared.{PollReply.PollReply}
 use Rattle.recovery.specs.RecoveryReply.{reply_lists}
-use Rattle.recovery.specs.declared.{RecoveryReply.RecoveryReply}
-use Rattle.recovery.specs.declared.RecoveryReply.TheVariants.{Done}
 use Rattle.calls.specs.Calls.{Call, Begin, Submit, Poll, Recover, Reply, ToSubmit, ToPoll, ToRecovery, Change, Cancel, Timeout, Reclaim}
 use Rattle.calls.specs.Said.{answer_said}
 use Rattle.calls.specs.Step.{World, world, world_store, step_of, made_after}
@@ -33,11 +26,12 @@ use Rattle.paper.specs.Form.{is_damaged}
 use Rattle.paper.specs.declared.{PaperEvent.PaperEvent}
 use Rattle.paper_session.specs.Start.{slot_device, paper_reading}
 use Rattle.marking.specs.declared.{Marked.Marked}
+use Rattle.recovery.specs.declared.{BackendAbort.BackendAbort}
 
 -- ---- the first call
 
 abbrev pub paper_readings : Readings
-paper_readings = record { first = Word paper_reading; second = Word paper_reading }
+paper_readings = record { first = Ok paper_reading; second = Ok paper_reading }
 
 -- kind 0: bulk IN, to the slot's device
 abbrev pub event_spec : PaperEvent → RequestSpec
@@ -47,7 +41,7 @@ event_spec e = record {
   transfer_type = Bulk;
   direction = In;
   length = e.length;
-  setup = OptionSetup.None;
+  setup = None;
 }
 
 abbrev pub event_request : PaperEvent → Request
@@ -70,31 +64,31 @@ event_call e =
 
 -- RecoveryRequired, with the event's code; message 0 and no system number
 abbrev pub event_error : PaperEvent → OperationError
-event_error e = own_error ErrorCategory.RecoveryRequired 0 (OptionU32.Some e.code)
+event_error e = own_error ErrorCategory.RecoveryRequired 0 (Some e.code)
 
-abbrev pub error_flag : PaperEvent → OptionError
-error_flag e = cond (bit 1 e.flags) (OptionError.Some (event_error e)) OptionError.None
+abbrev pub error_flag : PaperEvent → Option OperationError
+error_flag e = cond (bit 1 e.flags) (Some (event_error e)) None
 
 abbrev pub event_completion : PaperEvent → BackendCompletion
 event_completion e = record {
-  actual_length = OptionU64.Some e.length;
-  completion_code = OptionU32.Some e.code;
+  actual_length = Some e.length;
+  completion_code = Some e.code;
   has_data = true;
   error = error_flag e;
   quiescent = bit 0 e.flags;
 }
 
 -- without the first flag nothing came, and the rest is unread
-abbrev pub event_reply : PaperEvent → PollReply
-event_reply e = cond (bit 2 e.flags) (PollReply.Completion (event_completion e)) PollReply.Nothing
+abbrev pub event_reply : PaperEvent → Result (Option BackendCompletion) OperationError
+event_reply e = cond (bit 2 e.flags) (Ok (Some (event_completion e))) (Ok None)
 
 -- zeros, as many as the length, at most 256
 abbrev pub event_bytes : PaperEvent → List ℕ
 event_bytes e = replicate (min e.length 256) 0
 
 -- kind 5: ready, without error
-abbrev pub ready_reply : RecoveryReply
-ready_reply = Done (record { restart_ready = true; error = OptionError.None })
+abbrev pub ready_reply : Result BackendAbort OperationError
+ready_reply = Ok (record { restart_ready = true; error = None })
 
 -- the tokens of all affected requests, by ascending id
 abbrev pub affected_tokens : Recovery → List Row → List ℕ
@@ -104,7 +98,7 @@ affected_tokens x rows = tokens_of rows (affected_of x.device x.endpoint rows)
 unfoldable pub reply_calls : Answer → PaperEvent → List Row → List Call
 reply_calls (Answer.Refused r) e rows = []
 reply_calls Answer.Pass e rows = []
-reply_calls (Answer.Begun x) e rows = Reply (ToSubmit (Token x.id.sequence)) ∷ []
+reply_calls (Answer.Begun x) e rows = Reply (ToSubmit (Ok x.id.sequence)) ∷ []
 reply_calls (Answer.PlanBegun x) e rows = []
 reply_calls (Answer.Report x) e rows = []
 reply_calls Answer.NoReport e rows = []
@@ -123,14 +117,14 @@ event_calls e w =
 -- ---- what the line shows
 
 -- whose state is shown: the submission's new id, none where it was refused; in kinds 1 to 5 the event's id
-abbrev pub shown_id : Answer → PaperEvent → OptionId
-shown_id a e = cond (eqb e.kind 0) (begun_id a) (OptionId.Some (event_id e))
+abbrev pub shown_id : Answer → PaperEvent → Option RequestId
+shown_id a e = cond (eqb e.kind 0) (begun_id a) (Some (event_id e))
 
 -- what an event's calls leave: the refusal's number or 0, the id whose state is shown, the session
-abbrev pub leaves : ℕ → OptionId → Session → Marked
+abbrev pub leaves : ℕ → Option RequestId → Session → Marked
 leaves number id s = record { refusal = number; id = id; session = s }
 
-abbrev pub marked_as : OptionId → After Outcome Lent → After Marked Lent
+abbrev pub marked_as : Option RequestId → After Outcome Lent → After Marked Lent
 marked_as id o = after (leaves (answer_said o.result.answer).number id o.result.session) o.lent
 
 -- an event's calls, made one by one
@@ -142,7 +136,7 @@ calls_marked e w = marked_by (step_of (event_call e) w) e (world_store w).rows
 
 -- 57: a damaged event changes nothing and shows no id
 unfoldable pub event_marked : PaperEvent → World → After Marked Lent
-event_marked e w = after (leaves 57 OptionId.None w.session) w.lent if is_damaged e else calls_marked e w
+event_marked e w = after (leaves 57 None w.session) w.lent if is_damaged e else calls_marked e w
 
 -- ---- of lent slices: marked as the event's calls, whatever the bus, and whatever the bus and the area
 

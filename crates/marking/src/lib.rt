@@ -12,13 +12,13 @@ ghost use Rattle.calls.specs.Step.{world};
 ghost use Rattle.marking.specs.Marking.{event_request, event_reply, event_bytes, ready_reply, leaves, calls_marked, event_marked, MarksMemory, MarksRows};
 
 use calls::{Answer, Outcome, answers};
+use models::{Cause, RequestId, RequestReport};
 use paper::{PaperEvent, form};
 use polls::{PollAnswer, poll, poll_reply};
-use recovery::{BeginAnswer, Replied, recover, recovery_reply};
-use reports::{OptionId, Reported, change};
-use session::Session;
-use submissions::{SubmitAnswer, SubmitReply, Submitted, submit, submit_reply};
-use words::slices;
+use recovery::{Replied, recover, recovery_reply};
+use reports::change;
+use session::{Called, Session};
+use submissions::{NewRequest, Submission, submit, submit_reply};
 
 mod said; // said.rt: what an event's fields say
 
@@ -26,7 +26,7 @@ mod said; // said.rt: what an event's fields say
 #[derive(Clone, Copy)]
 pub struct Marked {
     pub refusal: u16,
-    pub id: OptionId,
+    pub id: Option<RequestId>,
     pub session: Session,
 }
 
@@ -36,21 +36,12 @@ fn refusal_number(a: Answer) -> u16
 {
     match a {
         Answer::Refused(refusal) => refusal.number,
-        Answer::Pass => 0,
-        Answer::Begun(_) => 0,
-        Answer::PlanBegun(_) => 0,
-        Answer::Report(_) => 0,
-        Answer::NoReport => 0,
-        Answer::Asked(_) => 0,
-        Answer::Number(_) => 0,
-        Answer::Bytes(_) => 0,
-        Answer::Recovering(_) => 0,
-        Answer::Recovered(_) => 0,
+        _ => 0,
     }
 }
 
 // What the last of an event's calls leaves.
-fn marked_as(last: Outcome, id: OptionId) -> Marked
+fn marked_as(last: Outcome, id: Option<RequestId>) -> Marked
     ensures { result ≡ leaves (answer_said last.answer).number id last.session }
 {
     let answer = last.answer;
@@ -69,13 +60,16 @@ fn begin_submission(
     rows: &mut [u64],
     area: &mut [u8],
     e: PaperEvent,
-) -> Submitted
+) -> Called<Submission>
     ensures { after result (lent_of bus.new rows.new area.new) ≡ submit_of [] (event_request e) session (lent_of bus.old rows.old area.old) }
 {
-    let none: [u64; 0] = [];
-    let q = said::spec_of(e);
-    let readings = said::readings();
-    submit::submit_request_packets(session, bus, rows, area, q, b"", false, &none, readings)
+    let q = NewRequest {
+        spec: said::spec_of(e),
+        bytes: b"",
+        packets: None,
+        readings: said::readings(),
+    };
+    submit::submit_request_packets(session, bus, rows, area, q)
 }
 
 // A submission that began is taken under its sequence as token.
@@ -93,26 +87,31 @@ fn submit_event(
     let answer = done.answer;
     let next = done.session;
     match answer {
-        SubmitAnswer::Refused(refusal) => Marked {
+        Err(refusal) => Marked {
             refusal: refusal.number,
-            id: OptionId::None,
+            id: None,
             session: next,
         },
-        SubmitAnswer::Begun(x) => {
+        Ok(x) => {
             let id = x.id;
-            let reply = SubmitReply::Token(id.sequence);
-            let last = answers::of_reported(submit_reply::submit_reply(next, rows, reply));
-            marked_as(last, OptionId::Some(id))
+            let reply = Ok(id.sequence);
+            let last = answers::of_called(submit_reply::submit_reply(next, rows, reply));
+            marked_as(last, Some(id))
         }
     }
 }
 
 // The reply to a poll that asked for it.
-fn reply_to_poll(session: Session, rows: &mut [u64], area: &mut [u8], e: PaperEvent) -> Reported
+fn reply_to_poll(
+    session: Session,
+    rows: &mut [u64],
+    area: &mut [u8],
+    e: PaperEvent,
+) -> Called<RequestReport>
     ensures { after result (memory_of rows.new area.new) ≡ poll_reply_of (event_reply e) (event_bytes e) session (memory_of rows.old area.old) }
 {
     let zeros = [0u8; 256];
-    let n = slices::least(e.length as usize, 256);
+    let n = (e.length as usize).min(256);
     let reply = said::reply_of(e);
     poll_reply::poll_reply(session, rows, area, reply, &zeros[..n])
 }
@@ -126,19 +125,19 @@ fn poll_event(session: Session, rows: &mut [u64], area: &mut [u8], e: PaperEvent
     let answer = polled.answer;
     let next = polled.session;
     match answer {
-        PollAnswer::Refused(refusal) => Marked {
+        Err(refusal) => Marked {
             refusal: refusal.number,
-            id: OptionId::Some(id),
+            id: Some(id),
             session: next,
         },
-        PollAnswer::Report(_) => Marked {
+        Ok(PollAnswer::Report(_)) => Marked {
             refusal: 0,
-            id: OptionId::Some(id),
+            id: Some(id),
             session: next,
         },
-        PollAnswer::Asked(_) => {
-            let last = answers::of_reported(reply_to_poll(next, rows, area, e));
-            marked_as(last, OptionId::Some(id))
+        Ok(PollAnswer::Asked(_)) => {
+            let last = answers::of_called(reply_to_poll(next, rows, area, e));
+            marked_as(last, Some(id))
         }
     }
 }
@@ -150,15 +149,15 @@ fn change_event(session: Session, rows: &mut [u64], e: PaperEvent) -> Marked
 {
     let id = said::id_of(e);
     if e.kind == 2 {
-        let last = answers::of_reported(change::logical_cancel_request(session, rows, id));
-        return marked_as(last, OptionId::Some(id));
+        let last = answers::of_called(change::logical_cancel_request(session, rows, id));
+        return marked_as(last, Some(id));
     }
     if e.kind == 3 {
-        let last = answers::of_reported(change::timeout_request(session, rows, id));
-        return marked_as(last, OptionId::Some(id));
+        let last = answers::of_called(change::timeout_request(session, rows, id));
+        return marked_as(last, Some(id));
     }
-    let last = answers::of_reported(change::reclaim_request(session, rows, id));
-    marked_as(last, OptionId::Some(id))
+    let last = answers::of_called(change::reclaim_request(session, rows, id));
+    marked_as(last, Some(id))
 }
 
 // The reply to an abort that began: every affected token aborted, ready.
@@ -173,7 +172,7 @@ fn reply_to_abort(
         (reply_lists [] [] (take count tokens) []) session (memory_of rows.old area.old) }
 {
     let none: [u64; 0] = [];
-    let n = slices::least(count as usize, 128);
+    let n = (count as usize).min(128);
     let reply = said::ready_reply();
     recovery_reply::reply_by_places(session, rows, area, reply, &none, &none, &tokens[..n], b"")
 }
@@ -188,14 +187,14 @@ fn abort_event(session: Session, rows: &mut [u64], area: &mut [u8], e: PaperEven
     let next = begun.session;
     let tokens = begun.tokens;
     match answer {
-        BeginAnswer::Refused(refusal) => Marked {
+        Err(refusal) => Marked {
             refusal: refusal.number,
-            id: OptionId::Some(id),
+            id: Some(id),
             session: next,
         },
-        BeginAnswer::Recover(_) => {
+        Ok(_) => {
             let replied = reply_to_abort(next, rows, area, tokens, begun.count);
-            marked_as(answers::of_replied(replied), OptionId::Some(id))
+            marked_as(answers::of_replied(replied), Some(id))
         }
     }
 }
@@ -234,8 +233,8 @@ pub fn mark(
 {
     if form::is_damaged(e) {
         return Marked {
-            refusal: 57,
-            id: OptionId::None,
+            refusal: Cause::DamagedEvent.number(),
+            id: None,
             session,
         };
     }

@@ -3,19 +3,17 @@ ghost use Rattle.std.specs.Prelude.{◌≡◌};
 ghost use Rattle.marking.specs.Marking.{paper_readings, event_spec, event_id, error_flag, event_completion, event_reply, ready_reply};
 
 use models::{
-    BackendCompletion, DeviceId, Direction, ErrorCategory, OperationError, OptionError,
-    OptionSetup, PortReading, RequestId, RequestSpec, TransferType,
+    BackendCompletion, DeviceId, Direction, ErrorCategory, OperationError, RequestId, RequestSpec,
+    TransferType,
 };
 use paper::{PaperEvent, form};
-use polls::PollReply;
-use recovery::{Outcome, RecoveryReply};
+use recovery::BackendAbort;
 use targets::Readings;
-use words::{OptionI32, OptionU32, OptionU64};
 
 pub(crate) fn readings() -> Readings
     ensures { result ≡ paper_readings }
 {
-    let word = PortReading::Word(0x403);
+    let word = Ok(0x403);
     Readings {
         first: word,
         second: word,
@@ -36,7 +34,7 @@ pub(crate) fn spec_of(e: PaperEvent) -> RequestSpec
         transfer_type: TransferType::Bulk,
         direction: Direction::In,
         length: e.length as u64,
-        setup: OptionSetup::None,
+        setup: None,
     }
 }
 
@@ -51,17 +49,17 @@ pub(crate) fn id_of(e: PaperEvent) -> RequestId
     }
 }
 
-fn error_of(e: PaperEvent) -> OptionError
+fn error_of(e: PaperEvent) -> Option<OperationError>
     ensures { result ≡ error_flag e }
 {
     if !form::has_error(e) {
-        return OptionError::None;
+        return None;
     }
-    OptionError::Some(OperationError {
+    Some(OperationError {
         category: ErrorCategory::RecoveryRequired,
         message: 0,
-        os_code: OptionI32::None,
-        completion_code: OptionU32::Some(e.code as u32),
+        os_code: None,
+        completion_code: Some(e.code as u32),
     })
 }
 
@@ -69,8 +67,8 @@ fn completion_of(e: PaperEvent) -> BackendCompletion
     ensures { result ≡ event_completion e }
 {
     BackendCompletion {
-        actual_length: OptionU64::Some(e.length as u64),
-        completion_code: OptionU32::Some(e.code as u32),
+        actual_length: Some(e.length as u64),
+        completion_code: Some(e.code as u32),
         has_data: true,
         error: error_of(e),
         quiescent: form::is_quiescent(e),
@@ -78,20 +76,20 @@ fn completion_of(e: PaperEvent) -> BackendCompletion
 }
 
 // Without the first flag nothing came.
-pub(crate) fn reply_of(e: PaperEvent) -> PollReply
+pub(crate) fn reply_of(e: PaperEvent) -> Result<Option<BackendCompletion>, OperationError>
     ensures { result ≡ event_reply e }
 {
     if !form::has_completion(e) {
-        return PollReply::Nothing;
+        return Ok(None);
     }
-    PollReply::Completion(completion_of(e))
+    Ok(Some(completion_of(e)))
 }
 
-pub(crate) fn ready_reply() -> RecoveryReply
+pub(crate) fn ready_reply() -> Result<BackendAbort, OperationError>
     ensures { result ≡ ready_reply }
 {
-    RecoveryReply::Done(Outcome {
+    Ok(BackendAbort {
         restart_ready: true,
-        error: OptionError::None,
+        error: None,
     })
 }

@@ -1,4 +1,5 @@
 -- Laws of `Tabled`: of an answer and of a refusal, of a chain, of a longer list, and of what equals its definition. Assumes nothing.
+use Rattle.std.specs.Prelude.{Option, Result, ⊤}
 use Prim.Native.Nat.{ℕ}
 use mathlib.Core.Bool.{Bool, true, false, not, ◌&&◌, ◌||◌, false≢true}
 use mathlib.Core.List.{List, [], ◌∷◌}
@@ -10,12 +11,11 @@ use Rattle.chain.specs.Lists.{is_among, all_in}
 use Rattle.chain.proofs.Chain.{caseB, both, if_all}
 use Rattle.chain.proofs.Lists.{all_in_lem, in_cons}
 use Rattle.words.specs.Words.{option_u32_word}
-use Rattle.words.specs.declared.{OptionU32.OptionU32}
 use Rattle.models.specs.Codes.{category_word}
 use Rattle.models.specs.Refusals.{table_category, refusal_of, rejected, from_backend, invalid_completion}
 use Rattle.models.specs.Said.{Said, says, refused, verdict_said, is_table_error, Tabled}
 use Rattle.models.specs.Values.{error_words}
-use Rattle.models.specs.declared.{OperationError.OperationError, Refusal.Refusal, Verdict.Verdict}
+use Rattle.models.specs.declared.{OperationError.OperationError, Refusal.Refusal}
 
 or_true : (a : Bool) → (a || true) ≡ true
 or_true true = refl
@@ -44,11 +44,11 @@ module _ (ns : List ℕ) where
   unfolding ◌if◌else◌
   tabled_backend n x b e = listed n _ e (rw b refl)
 
-  pub tabled_code : (code : OptionU32) → is_among 48 ns ≡ true → Tabled ns (refused (invalid_completion code))
+  pub tabled_code : (code : Option ℕ) → is_among 48 ns ≡ true → Tabled ns (refused (invalid_completion code))
   tabled_code code e = listed 48 _ e (table_error 48 (option_u32_word code) refl)
 
-  pub tabled_stop : (n : ℕ) → is_among n ns ≡ true → (t : Bool) (p : Verdict) → Tabled ns (verdict_said p) → Tabled ns (verdict_said (rejected n if t else p))
-  tabled_stop n e t p h = if_all (λ (v : Verdict). Tabled ns (verdict_said v)) (rejected n) t p (tabled_own n e) h
+  pub tabled_stop : (n : ℕ) → is_among n ns ≡ true → (t : Bool) (p : Result ⊤ Refusal) → Tabled ns (verdict_said p) → Tabled ns (verdict_said (rejected n if t else p))
+  tabled_stop n e t p h = if_all (λ (v : Result ⊤ Refusal). Tabled ns (verdict_said v)) (rejected n) t p (tabled_own n e) h
 
 within : (ms ns : List ℕ) → all_in ns ms ≡ true → (r : Bool) (n : ℕ) (b : Bool) → (not r || is_among n ns && b) ≡ true → (not r || is_among n ms && b) ≡ true
 within ms ns a true n b e = let p = both (is_among n ns) b e in rw (all_in_lem ns ms n a p.0, p.1)

@@ -1,5 +1,6 @@
 pub mod Requests
 pub mod Refusals
+pub mod Causes
 pub mod Codes
 pub mod Kinds
 pub mod Values

@@ -1,14 +1,12 @@
 -- Refusals: a number of document 01's table and its error. Assumes nothing.
-use Rattle.std.specs.Prelude.{ℕ, Bool, ◌||◌, eqb}
+use Rattle.std.specs.Prelude.{ℕ, Bool, ◌||◌, eqb, Option, None, Result, Ok, Err, ⊤}
 use Rattle.chain.specs.Chain.{◌if◌else◌}
-use Rattle.words.specs.declared.{OptionI32.OptionI32, OptionU32.OptionU32}
-use Rattle.models.specs.declared.{ErrorCategory.ErrorCategory, OperationError.OperationError, Refusal.Refusal, Verdict.Verdict}
+use Rattle.models.specs.declared.{ErrorCategory.ErrorCategory, OperationError.OperationError, Refusal.Refusal}
 use Rattle.models.specs.declared.ErrorCategory.TheVariants.{Validation, Unsupported, RecoveryRequired}
-use Rattle.models.specs.declared.Verdict.TheVariants.{Refused}
 
 -- an error whose message is the number n
-abbrev pub own_error : ErrorCategory → ℕ → OptionU32 → OperationError
-own_error c n code = record { category = c; message = n; os_code = OptionI32.None; completion_code = code }
+abbrev pub own_error : ErrorCategory → ℕ → Option ℕ → OperationError
+own_error c n code = record { category = c; message = n; os_code = None; completion_code = code }
 
 -- 33 and 45 carry the backend's error
 abbrev pub from_backend : ℕ → OperationError → Refusal
@@ -27,11 +25,15 @@ table_category n =
 
 -- a refusal of our own, by its number
 abbrev pub refusal_of : ℕ → Refusal
-refusal_of n = from_backend n (own_error (table_category n) n OptionU32.None)
+refusal_of n = from_backend n (own_error (table_category n) n None)
 
-abbrev pub rejected : ℕ → Verdict
-rejected n = Refused (refusal_of n)
+-- what a check answers that refuses nothing
+abbrev pub pass : Result ⊤ Refusal
+pass = Ok tt
+
+abbrev pub rejected : ℕ → Result ⊤ Refusal
+rejected n = Err (refusal_of n)
 
 -- 48 has the completion's code
-abbrev pub invalid_completion : OptionU32 → Refusal
+abbrev pub invalid_completion : Option ℕ → Refusal
 invalid_completion code = from_backend 48 (own_error (table_category 48) 48 code)

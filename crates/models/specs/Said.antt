@@ -1,11 +1,11 @@
 -- An answer of any enum as its number in document 01's table and its values as words. Assumes nothing.
-use Rattle.std.specs.Prelude.{ℕ, Bool, true, false, not, ◌&&◌, ◌||◌, List, [], ◌≡◌, eqb, get_or}
+use Rattle.std.specs.Prelude.{ℕ, Bool, true, false, not, ◌&&◌, ◌||◌, List, [], ◌≡◌, eqb, get_or, Result, Ok, Err, ⊤}
 use Rattle.chain.specs.Chain.{◌if◌else◌}
 use Rattle.chain.specs.Lists.{is_among}
 use Rattle.models.specs.Codes.{category_word}
 use Rattle.models.specs.Refusals.{table_category}
 use Rattle.models.specs.Values.{error_words}
-use Rattle.models.specs.declared.{Refusal.Refusal, Verdict.Verdict}
+use Rattle.models.specs.declared.{Refusal.Refusal}
 
 -- the number is 0 where the call is not refused
 pub record Said : Type 0 where
@@ -20,9 +20,13 @@ says values = record { is_refused = false; number = 0; values = values }
 abbrev pub refused : Refusal → Said
 refused r = record { is_refused = true; number = r.number; values = error_words r.error }
 
-abbrev pub verdict_said : Verdict → Said
-verdict_said (Verdict.Refused r) = refused r
-verdict_said Verdict.Pass = says []
+-- of an answer whose values f gives
+abbrev pub said_by : {A : Type 0} → (A → List ℕ) → Result A Refusal → Said
+said_by f (Err r) = refused r
+said_by f (Ok x) = says (f x)
+
+abbrev pub verdict_said : Result ⊤ Refusal → Said
+verdict_said = said_by (λ x. [])
 
 -- the table's error of number n: its category, the number as message, no system number and no code, but 48's is the completion's.
 -- 33 and 45 have the backend's error, whatever it is

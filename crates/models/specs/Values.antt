@@ -1,8 +1,8 @@
 -- Ids, errors and a request's metadata as words, a word a value. Reading is total: a missing word counts as 0. Assumes nothing.
-use Rattle.std.specs.Prelude.{ℕ, ◌+◌, ◌%◌, ◌^◌, cond, List, [], ◌∷◌, ◌++◌, eqb, get_or, replicate}
+use Rattle.std.specs.Prelude.{ℕ, ◌+◌, ◌%◌, ◌^◌, cond, List, [], ◌∷◌, ◌++◌, eqb, get_or, replicate, Option, Some, None}
 use Rattle.words.specs.Words.{read_option_u32, option_u32_word, read_option_i32, option_i32_word}
 use Rattle.models.specs.Codes.{read_category, category_word, transfer_word, direction_word, device_state_word}
-use Rattle.models.specs.declared.{DeviceId.DeviceId, DeviceSnapshot.DeviceSnapshot, OperationError.OperationError, OptionError.OptionError, OptionSetup.OptionSetup, PortId.PortId, RequestId.RequestId, RequestMetadata.RequestMetadata, SetupWords.SetupWords}
+use Rattle.models.specs.declared.{DeviceId.DeviceId, DeviceSnapshot.DeviceSnapshot, OperationError.OperationError, PortId.PortId, RequestId.RequestId, RequestMetadata.RequestMetadata, SetupPacket.SetupPacket, SetupWords.SetupWords}
 
 abbrev pub request_id_words : RequestId → List ℕ
 request_id_words x = x.session ∷ x.generation ∷ x.sequence ∷ []
@@ -45,16 +45,16 @@ abbrev pub read_error : List ℕ → ℕ → OperationError
 read_error w at = read_error_words (get_or w at 0) (get_or w (at + 1) 0) (get_or w (at + 2) 0) (get_or w (at + 3) 0)
 
 -- five: a flag, and the error
-abbrev pub option_error_words : OptionError → List ℕ
-option_error_words OptionError.None = replicate 5 0
-option_error_words (OptionError.Some e) = 1 ∷ error_words e
+abbrev pub option_error_words : Option OperationError → List ℕ
+option_error_words None = replicate 5 0
+option_error_words (Some e) = 1 ∷ error_words e
 
-abbrev pub read_option_error : List ℕ → ℕ → OptionError
-read_option_error w at = cond (eqb (get_or w at 0) 0) OptionError.None (OptionError.Some (read_error w (at + 1)))
+abbrev pub read_option_error : List ℕ → ℕ → Option OperationError
+read_option_error w at = cond (eqb (get_or w at 0) 0) None (Some (read_error w (at + 1)))
 
-abbrev pub setup_words : OptionSetup → SetupWords
-setup_words OptionSetup.None = record { present = 0; request_type = 0; request = 0; value = 0; index = 0; length = 0 }
-setup_words (OptionSetup.Some p) = record { present = 1; request_type = p.request_type; request = p.request; value = p.value; index = p.index; length = p.length }
+abbrev pub setup_words : Option SetupPacket → SetupWords
+setup_words None = record { present = 0; request_type = 0; request = 0; value = 0; index = 0; length = 0 }
+setup_words (Some p) = record { present = 1; request_type = p.request_type; request = p.request; value = p.value; index = p.index; length = p.length }
 
 abbrev pub setup_tail : SetupWords → List ℕ → List ℕ
 setup_tail p rest = p.present ∷ p.request_type ∷ p.request ∷ p.value ∷ p.index ∷ p.length ∷ rest

@@ -3,19 +3,21 @@
 #![tactic(auto)]
 
 ghost use Rattle.std.specs.Prelude.{◌≡◌};
-ghost use Rattle.models.specs.Requests.{device_may_access, is_pending, no_id, same_request, same_device, request_before};
-ghost use Rattle.models.specs.Refusals.{own_error, table_category, refusal_of, rejected, from_backend, invalid_completion};
+ghost use Rattle.models.specs.Requests.{device_may_access, is_pending};
+ghost use Rattle.models.specs.Causes.{number_of};
+ghost use Rattle.models.specs.Refusals.{own_error, refusal_of, rejected, from_backend, invalid_completion};
 
-use words::{OptionI32, OptionU32, OptionU64};
-
-pub mod codes; // codes.rt: the fieldless enums as words
+pub mod causes; // causes.rt: why a call is refused
+mod codes; // codes.rt: the fieldless enums as words
 pub mod kinds; // kinds.rt: tests on the fieldless enums
 pub mod values; // values.rt: ids and errors, read from words
+
+pub use causes::Cause;
 
 // So many requests are held at most, and a list of requests has so many places.
 pub const HELD_MOST: usize = 128;
 
-#[derive(Clone, Copy)]
+#[derive(Clone, Copy, Debug, PartialEq, Eq)]
 pub enum ControllerState {
     Closed,
     AcquiredUnknown,
@@ -24,7 +26,7 @@ pub enum ControllerState {
     RecoveryRequired,
 }
 
-#[derive(Clone, Copy)]
+#[derive(Clone, Copy, Debug, PartialEq, Eq)]
 pub enum DeviceState {
     Observed,
     PortReset,
@@ -35,7 +37,7 @@ pub enum DeviceState {
     Disconnected,
 }
 
-#[derive(Clone, Copy)]
+#[derive(Clone, Copy, Debug, PartialEq, Eq)]
 pub enum ErrorCategory {
     Validation,
     Unsupported,
@@ -46,49 +48,44 @@ pub enum ErrorCategory {
     RecoveryRequired,
 }
 
-#[derive(Clone, Copy)]
+#[derive(Clone, Copy, Debug, PartialEq, Eq)]
 pub struct OperationError {
     pub category: ErrorCategory,
     pub message: u16,
-    pub os_code: OptionI32,
-    pub completion_code: OptionU32,
-}
-
-#[derive(Clone, Copy)]
-pub enum OptionError {
-    None,
-    Some(OperationError),
+    pub os_code: Option<i32>,
+    pub completion_code: Option<u32>,
 }
 
 // A call that is refused: its number in document 01's table, and its error.
-#[derive(Clone, Copy)]
+#[derive(Clone, Copy, Debug, PartialEq, Eq)]
 pub struct Refusal {
     pub number: u16,
     pub error: OperationError,
 }
 
-#[derive(Clone, Copy)]
+// The order of the fields is the order of ids. The default is the id of the places that a list of ids leaves.
+#[derive(Clone, Copy, Debug, PartialEq, Eq, PartialOrd, Ord, Hash, Default)]
 pub struct RequestId {
     pub session: u64,
     pub generation: u64,
     pub sequence: u64,
 }
 
-#[derive(Clone, Copy)]
+#[derive(Clone, Copy, Debug, PartialEq, Eq, PartialOrd, Ord, Hash)]
 pub struct DeviceId {
     pub session: u64,
     pub generation: u64,
     pub slot: u8,
 }
 
-#[derive(Clone, Copy)]
+#[derive(Clone, Copy, Debug, PartialEq, Eq, PartialOrd, Ord, Hash)]
 pub struct PortId {
     pub session: u64,
     pub generation: u64,
     pub number: u8,
 }
 
-#[derive(Clone, Copy)]
+#[derive(Clone, Copy, Debug, PartialEq, Eq)]
 pub enum RequestState {
     Pending {
         logical_cancel: bool,
@@ -101,19 +98,19 @@ pub enum RequestState {
     },
     Failed {
         error: OperationError,
-        completion_code: OptionU32,
+        completion_code: Option<u32>,
         quiescent: bool,
     },
     Aborted,
 }
 
-#[derive(Clone, Copy)]
+#[derive(Clone, Copy, Debug, PartialEq, Eq)]
 pub enum Direction {
     In,
     Out,
 }
 
-#[derive(Clone, Copy)]
+#[derive(Clone, Copy, Debug, PartialEq, Eq)]
 pub enum TransferType {
     Control,
     Bulk,
@@ -121,7 +118,7 @@ pub enum TransferType {
     Isochronous,
 }
 
-#[derive(Clone, Copy)]
+#[derive(Clone, Copy, Debug, PartialEq, Eq, Default)]
 pub struct SetupPacket {
     pub request_type: u8,
     pub request: u8,
@@ -130,14 +127,8 @@ pub struct SetupPacket {
     pub length: u16,
 }
 
-#[derive(Clone, Copy)]
-pub enum OptionSetup {
-    None,
-    Some(SetupPacket),
-}
-
-// An optional SETUP packet as words.
-#[derive(Clone, Copy)]
+// An optional SETUP packet as C's words: a flag, and zeros where there is none.
+#[derive(Clone, Copy, Debug, PartialEq, Eq)]
 pub struct SetupWords {
     pub present: u64,
     pub request_type: u64,
@@ -147,18 +138,18 @@ pub struct SetupWords {
     pub length: u64,
 }
 
-#[derive(Clone, Copy)]
+#[derive(Clone, Copy, Debug, PartialEq, Eq)]
 pub struct RequestMetadata {
     pub device: DeviceId,
     pub endpoint: u8,
     pub transfer_type: TransferType,
     pub direction: Direction,
     pub requested_length: u64,
-    pub setup: OptionSetup,
+    pub setup: Option<SetupPacket>,
 }
 
 // A call's report of a request. The Rust's `data` comes back as a part of the lent area, from a call of its own.
-#[derive(Clone, Copy)]
+#[derive(Clone, Copy, Debug, PartialEq, Eq)]
 pub struct RequestReport {
     pub id: RequestId,
     pub metadata: RequestMetadata,
@@ -167,99 +158,62 @@ pub struct RequestReport {
     pub timed_out: bool,
 }
 
-// What the backend brings of a request. The data's bytes are lent beside it, and are not read where `has_data` is false.
-#[derive(Clone, Copy)]
+// What the backend brings of a request. The data's bytes are lent beside it, and are not read where `has_data` is false: C hands the flag as a word and
+// the bytes as a slice (docs/CALLS.md).
+#[derive(Clone, Copy, Debug, PartialEq, Eq)]
 pub struct BackendCompletion {
-    pub actual_length: OptionU64,
-    pub completion_code: OptionU32,
+    pub actual_length: Option<u64>,
+    pub completion_code: Option<u32>,
     pub has_data: bool,
-    pub error: OptionError,
+    pub error: Option<OperationError>,
     pub quiescent: bool,
 }
 
-// What a check answers.
-#[derive(Clone, Copy)]
-pub enum Verdict {
-    Refused(Refusal),
-    Pass,
-}
-
-#[derive(Clone, Copy)]
-pub enum OptionDirection {
-    None,
-    Some(Direction),
-}
-
 // A request as it is asked for. The data's bytes are lent beside it.
-#[derive(Clone, Copy)]
+#[derive(Clone, Copy, Debug, PartialEq, Eq)]
 pub struct RequestSpec {
     pub device: DeviceId,
     pub endpoint: u8,
     pub transfer_type: TransferType,
     pub direction: Direction,
     pub length: u64,
-    pub setup: OptionSetup,
+    pub setup: Option<SetupPacket>,
 }
 
-#[derive(Clone, Copy)]
+#[derive(Clone, Copy, Debug, PartialEq, Eq)]
 pub enum ControlProfile {
     Compliant,
     DeviceCompatibility,
 }
 
-#[derive(Clone, Copy)]
+#[derive(Clone, Copy, Debug, PartialEq, Eq)]
 pub struct DataStage {
     pub direction: Direction,
     pub length: u64,
 }
 
-#[derive(Clone, Copy)]
-pub enum OptionStage {
-    None,
-    Some(DataStage),
-}
-
 // A control transfer with its stages declared. The data's bytes are lent beside it.
-#[derive(Clone, Copy)]
+#[derive(Clone, Copy, Debug, PartialEq, Eq)]
 pub struct ControlPlan {
     pub device: DeviceId,
     pub profile: ControlProfile,
     pub setup: SetupPacket,
-    pub data_stage: OptionStage,
-    pub status_direction: OptionDirection,
+    pub data_stage: Option<DataStage>,
+    pub status_direction: Option<Direction>,
 }
 
 // The ports of an opening: the session number that their ids carry, and how many there are.
-#[derive(Clone, Copy)]
+#[derive(Clone, Copy, Debug, PartialEq, Eq)]
 pub struct Ports {
     pub session: u64,
     pub count: u8,
 }
 
-#[derive(Clone, Copy)]
-pub enum OptionPorts {
-    None,
-    Some(Ports),
-}
-
-#[derive(Clone, Copy)]
+#[derive(Clone, Copy, Debug, PartialEq, Eq)]
 pub struct DeviceSnapshot {
     pub id: DeviceId,
     pub port: PortId,
     pub state: DeviceState,
-}
-
-#[derive(Clone, Copy)]
-pub enum OptionDevice {
-    None,
-    Some(DeviceSnapshot),
-}
-
-// What reading a port's status register brought.
-#[derive(Clone, Copy)]
-pub enum PortReading {
-    Word(u32),
-    Error(OperationError),
 }
 
 // The controller may still write to the request's buffer: document 01's "held".
@@ -267,142 +221,61 @@ pub fn device_may_access(state: RequestState) -> bool
     ensures { result ≡ device_may_access state }
 {
     match state {
-        RequestState::Pending {
-            logical_cancel: _,
-            timed_out: _,
-        } => true,
-        RequestState::Completed {
-            actual_length: _,
-            completion_code: _,
-            logical_cancel: _,
-        } => false,
-        RequestState::Failed {
-            error: _,
-            completion_code: _,
-            quiescent,
-        } => !quiescent,
-        RequestState::Aborted => false,
+        RequestState::Pending { .. } => true,
+        RequestState::Failed { quiescent, .. } => !quiescent,
+        _ => false,
     }
 }
 
 pub fn is_pending(state: RequestState) -> bool
     ensures { result ≡ is_pending state }
 {
-    match state {
-        RequestState::Pending {
-            logical_cancel: _,
-            timed_out: _,
-        } => true,
-        RequestState::Completed {
-            actual_length: _,
-            completion_code: _,
-            logical_cancel: _,
-        } => false,
-        RequestState::Failed {
-            error: _,
-            completion_code: _,
-            quiescent: _,
-        } => false,
-        RequestState::Aborted => false,
-    }
-}
-
-// The id of the places that a list of ids leaves.
-pub fn no_id() -> RequestId
-    ensures { result ≡ no_id }
-{
-    RequestId {
-        session: 0,
-        generation: 0,
-        sequence: 0,
-    }
-}
-
-pub fn same_request(a: RequestId, b: RequestId) -> bool
-    ensures { result ≡ same_request a b }
-{
-    (a.session == b.session) & (a.generation == b.generation) & (a.sequence == b.sequence)
-}
-
-pub fn same_device(a: DeviceId, b: DeviceId) -> bool
-    ensures { result ≡ same_device a b }
-{
-    (a.session == b.session) & (a.generation == b.generation) & (a.slot == b.slot)
-}
-
-// The order of ids: by session, then generation, then sequence.
-pub fn request_before(a: RequestId, b: RequestId) -> bool
-    ensures { result ≡ request_before a b }
-{
-    if a.session != b.session {
-        return a.session < b.session;
-    }
-    if a.generation != b.generation {
-        return a.generation < b.generation;
-    }
-    a.sequence < b.sequence
+    matches!(state, RequestState::Pending { .. })
 }
 
 // An error of the ledger's own: its message is the refusal's number.
-fn own_error(category: ErrorCategory, number: u16, code: OptionU32) -> OperationError
+fn own_error(category: ErrorCategory, number: u16, code: Option<u32>) -> OperationError
     ensures { result ≡ own_error category number code }
 {
     OperationError {
         category,
         message: number,
-        os_code: OptionI32::None,
+        os_code: None,
         completion_code: code,
     }
 }
 
-// The category that the table gives a number.
-fn table_category(number: u16) -> ErrorCategory
-    ensures { result ≡ table_category number }
+// A refusal of our own, by its cause.
+pub fn refuse(cause: Cause) -> Refusal
+    ensures { result ≡ refusal_of (number_of cause) }
 {
-    let prepare = (number == 6) | (number == 11) | (number == 13) | (number == 14);
-    if prepare
-        | (number == 18)
-        | (number == 19)
-        | (number == 20)
-        | (number == 21)
-        | (number == 37)
-        | (number == 58)
-    {
-        return ErrorCategory::Unsupported;
-    }
-    if number == 48 {
-        return ErrorCategory::RecoveryRequired;
-    }
-    ErrorCategory::Validation
-}
-
-// A refusal of our own, by its number.
-pub fn refuse(number: u16) -> Refusal
-    ensures { result ≡ refusal_of number }
-{
-    let category = table_category(number);
-    let error = own_error(category, number, OptionU32::None);
+    let number = cause.number();
+    let error = own_error(cause.category(), number, None);
     Refusal { number, error }
 }
 
-pub fn reject(number: u16) -> Verdict
-    ensures { result ≡ rejected number }
+pub fn reject(cause: Cause) -> Result<(), Refusal>
+    ensures { result ≡ rejected (number_of cause) }
 {
-    Verdict::Refused(refuse(number))
+    Err(refuse(cause))
 }
 
 // 33 and 45 carry the backend's error.
-pub fn refuse_backend(number: u16, error: OperationError) -> Refusal
-    ensures { result ≡ from_backend number error }
+pub fn refuse_backend(cause: Cause, error: OperationError) -> Refusal
+    ensures { result ≡ from_backend (number_of cause) error }
 {
-    Refusal { number, error }
+    Refusal {
+        number: cause.number(),
+        error,
+    }
 }
 
 // 48, with the completion's code.
-pub fn refuse_completion(code: OptionU32) -> Refusal
+pub fn refuse_completion(code: Option<u32>) -> Refusal
     ensures { result ≡ invalid_completion code }
 {
-    let category = table_category(48);
-    let error = own_error(category, 48, code);
-    Refusal { number: 48, error }
+    let cause = Cause::InvalidCompletion;
+    let number = cause.number();
+    let error = own_error(cause.category(), number, code);
+    Refusal { number, error }
 }

@@ -2,7 +2,7 @@
 ghost use Rattle.std.specs.Prelude.{◌≡◌};
 ghost use Rattle.models.specs.Values.{read_request_id, read_device_id, read_error_words, read_error, read_option_error};
 
-use crate::{DeviceId, OperationError, OptionError, RequestId, codes};
+use crate::{DeviceId, ErrorCategory, OperationError, RequestId};
 use words::slices::word_at;
 
 pub fn id_at(w: &[u64], at: u8) -> RequestId
@@ -31,7 +31,7 @@ pub fn to_error(category: u64, message: u64, os_code: u64, code: u64) -> Operati
     ensures { result ≡ read_error_words category message os_code code }
 {
     OperationError {
-        category: codes::to_category(category),
+        category: ErrorCategory::from(category),
         message: (message % 65536) as u16,
         os_code: words::to_option_i32(os_code),
         completion_code: words::to_option_u32(code),
@@ -50,11 +50,11 @@ pub fn error_at(w: &[u64], at: u16) -> OperationError
     )
 }
 
-pub fn option_error_at(w: &[u64], at: u8) -> OptionError
+pub fn option_error_at(w: &[u64], at: u8) -> Option<OperationError>
     ensures { result ≡ read_option_error w.now at }
 {
     if word_at(w, at as usize) == 0 {
-        return OptionError::None;
+        return None;
     }
-    OptionError::Some(error_at(w, at as u16 + 1))
+    Some(error_at(w, at as u16 + 1))
 }

@@ -7,7 +7,7 @@ use native.Mathlib.Omega.{arith}
 use native.Mathlib.Nat.{mod-lt, mod-eq_of_lt, mul-le-mul_right, suc-mul, zero-mul, zero-add, mod-one}
 use lib.Dec.{ltb}
 use lib.ListN.{length, get_or, take, replicate}
-use lib.Pow.{pow_pos, pow-add, pow_mono, mod-pow-add, high, low}
+use lib.Pow.{pow_pos, pow-add, mod-pow-add, high, low}
 use borrow.Author.Tests.{lt-ltb, le-ltb, ltb-true}
 use Rattle.chain.proofs.Chain.{both, and_false}
 use Rattle.standards.specs.Fields.{field}
@@ -84,14 +84,3 @@ module _ (w : ℕ) where
   packed_next (x ∷ xs) zero h = omega arith
   packed_next (x ∷ xs) (suc i) h =
       rw (packed_next xs i (omega arith), pow-add 2 w (bits_of (replicate i w))) (omega arith)
-
-  -- one more of them after i has its place among n
-  pub next_fits : (n i x y : ℕ) → x < 2 ^ (i * w) → y < 2 ^ w → i < n → x * 2 ^ w + y < 2 ^ (n * w)
-  next_fits n i x y hx hy h =
-      omega (
-        arith,
-        suc-mul x (2 ^ w),
-        mul-le-mul_right (2 ^ w) hx,
-        pow-add 2 (i * w) w,
-        rw (suc-mul i w) at (pow_mono (mul-le-mul_right w h)),
-      )

@@ -1,9 +1,8 @@
 -- A paper's events (document 02, M-100): 64 bits each, most significant first. Assumes nothing.
-use Rattle.std.specs.Prelude.{ℕ, ◌*◌, ◌/◌, cond, List, [], ◌∷◌, ltb, length, get_or, replicate}
+use Rattle.std.specs.Prelude.{ℕ, ◌*◌, ◌/◌, cond, List, [], ◌∷◌, ltb, length, get_or, replicate, Option, Some, None}
 use Rattle.words.specs.Records.{part, chunks}
-use Rattle.words.specs.declared.{OptionU64.OptionU64}
 use Rattle.paper.specs.Widths.{fields_of, packed, are_fields}
-use Rattle.paper.specs.declared.{OptionEvent.OptionEvent, PaperEvent.PaperEvent}
+use Rattle.paper.specs.declared.{PaperEvent.PaperEvent}
 
 -- kind 4, slot 8, endpoint 8, sequence 16, code 8, length 17, flags 3
 abbrev pub widths : List ℕ
@@ -27,8 +26,8 @@ event_by l = record {
 unfoldable pub decoded : ℕ → PaperEvent
 decoded n = event_by (fields_of widths n)
 
-unfoldable pub encoded : PaperEvent → OptionU64
-encoded e = cond (are_fields widths (event_fields e)) (OptionU64.Some (packed widths (event_fields e))) OptionU64.None
+unfoldable pub encoded : PaperEvent → Option ℕ
+encoded e = cond (are_fields widths (event_fields e)) (Some (packed widths (event_fields e))) None
 
 -- eight bytes are eight fields of eight bits
 unfoldable pub word_of : List ℕ → ℕ
@@ -45,5 +44,5 @@ unfoldable pub events_of : List ℕ → List PaperEvent
 events_of paper = chunks 0 8 event_in (event_count paper) paper
 
 -- the event at a position
-unfoldable pub event_at : List ℕ → ℕ → OptionEvent
-event_at paper i = cond (ltb i (event_count paper)) (OptionEvent.Some (event_in (part (i * 8) 8 paper))) OptionEvent.None
+unfoldable pub event_at : List ℕ → ℕ → Option PaperEvent
+event_at paper i = cond (ltb i (event_count paper)) (Some (event_in (part (i * 8) 8 paper))) None

@@ -3,7 +3,7 @@
 ghost use Rattle.std.specs.Prelude.{◌≡◌};
 ghost use Rattle.paper.specs.Events.{event_at};
 
-use crate::{OptionEvent, events};
+use crate::{PaperEvent, events};
 
 // `at` counts events, from 0.
 #[derive(Clone, Copy)]
@@ -12,30 +12,32 @@ pub struct Reader<'a> {
     pub at: usize,
 }
 
-// At the first event.
-pub fn new<'a>(paper: &'a [u8]) -> Reader<'a>
-    ensures { (result.paper ≡ paper.entry) × (result.at ≡ 0) }
-{
-    Reader { paper, at: 0 }
-}
+impl<'a> Reader<'a> {
+    // At the first event.
+    pub fn new(paper: &'a [u8]) -> Self
+        ensures { (result.paper ≡ paper.entry) × (result.at ≡ 0) }
+    {
+        Reader { paper, at: 0 }
+    }
 
-// The same paper at another position.
-pub fn seek<'a>(r: Reader<'a>, at: usize) -> Reader<'a>
-    ensures { (result.paper ≡ r.entry.paper) × (result.at ≡ at) }
-{
-    Reader { paper: r.paper, at }
-}
+    // The same paper at another position.
+    pub fn seek(self, at: usize) -> Self
+        ensures { (result.paper ≡ self.entry.paper) × (result.at ≡ at) }
+    {
+        Reader { at, ..self }
+    }
 
-// The event at the position; none at the paper's end.
-pub fn next<'a>(r: Reader<'a>) -> OptionEvent
-    ensures { result ≡ event_at r.entry.paper.now r.entry.at }
-{
-    events::event_at(r.paper, r.at)
+    // The event at the position; none at the paper's end.
+    pub fn next(self) -> Option<PaperEvent>
+        ensures { result ≡ event_at self.entry.paper.now self.entry.at }
+    {
+        events::event_at(self.paper, self.at)
+    }
 }
 
 // The event at a position of a paper, through a reader.
-pub fn read(paper: &[u8], at: usize) -> OptionEvent
+pub fn read(paper: &[u8], at: usize) -> Option<PaperEvent>
     ensures { result ≡ event_at paper.now at }
 {
-    next(seek(new(paper), at))
+    Reader::new(paper).seek(at).next()
 }

@@ -1,4 +1,5 @@
 -- What the start is, without calls: none of its calls is refused. Assumes nothing.
+use Rattle.std.specs.Prelude.{Option, Some, None, Result, Ok, ⊤}
 use Prim.Native.Nat.{ℕ, zero, suc, ◌+◌, ◌*◌, ◌<◌, ◌≤◌}
 use mathlib.Core.Bool.{Bool, true, false, not}
 use mathlib.Core.List.{List, [], ◌∷◌}
@@ -12,7 +13,7 @@ use Rattle.chain.specs.After.{After, after}
 use Rattle.chain.specs.Chain.{◌if◌else◌}
 use Rattle.chain.proofs.Chain.{passes, both}
 use Rattle.words.proofs.Records.{splice-length, le_or_lt}
-use Rattle.models.specs.declared.{DeviceSnapshot.DeviceSnapshot, OptionDevice.OptionDevice, Verdict.Verdict}
+use Rattle.models.specs.declared.{DeviceSnapshot.DeviceSnapshot, Refusal.Refusal}
 use Rattle.rows.specs.Store.{store_of, emptied}
 use Rattle.bus.specs.Endpoints.{set_endpoints}
 use Rattle.bus.specs.Ports.{number_checked, set_port_by, set_port}
@@ -25,7 +26,7 @@ use Rattle.session.specs.Place.{placed, set_device_of, set_port_of, set_endpoint
 use Rattle.session.specs.Session.{is_busy}
 use Rattle.session.specs.Sizes.{rows_fit, area_fits, memory_sizes, lent_sizes}
 use Rattle.session.specs.Start.{guarded}
-use Rattle.session.specs.declared.{Session.Session, Size.Size, lifecycle.Opened.Opened}
+use Rattle.session.specs.declared.{Session.Session, Size.Size}
 use Rattle.calls.specs.Calls.{Placing, Device, Port, Endpoints, Open, Place}
 use Rattle.calls.specs.Step.{World, world, opens, places, placed_of, step_of, next, made_on, no_session}
 use Rattle.calls.proofs.Made.{made_append}
@@ -33,16 +34,16 @@ use Rattle.paper_session.specs.Start.{paper_size, paper_opening, paper_port, slo
 use Rattle.paper_session.proofs.Laws.{ready_to}
 
 -- a placing call where nothing is in flight and the bus has its size
-placed_on : (done : After Verdict Bus) (s : Session) (b : Bus) → is_busy s.in_flight ≡ false → length b.words ≡ bus_words → placed done s b ≡ done
+placed_on : (done : After (Result ⊤ Refusal) Bus) (s : Session) (b : Bus) → is_busy s.in_flight ≡ false → length b.words ≡ bus_words → placed done s b ≡ done
 unfolding placed guarded
 placed_on done s b free sized =
-    sym (passes (After Verdict Bus) _ _ _ done free (passes (After Verdict Bus) _ _ _ done (ap not (eq-eqb (length b.words) bus_words sized)) refl))
+    sym (passes (After (Result ⊤ Refusal) Bus) _ _ _ done free (passes (After (Result ⊤ Refusal) Bus) _ _ _ done (ap not (eq-eqb (length b.words) bus_words sized)) refl))
 
 -- leaves the session and the memory as they are
-handed : (p : Placing) (w : World) (left : Bus) → placed_of p w ≡ after Verdict.Pass left
+handed : (p : Placing) (w : World) (left : Bus) → placed_of p w ≡ after (Ok tt) left
     → next (step_of (Place p) w) ≡ world w.session (lent left w.lent.memory)
 unfolding step_of
-handed p w left h = ap (λ (z : After Verdict Bus). next (places z w)) h
+handed p w left h = ap (λ (z : After (Result ⊤ Refusal) Bus). next (places z w)) h
 
 module _ (s : Session) (b : Bus) (m : Memory) (free : is_busy s.in_flight ≡ false) (sized : length b.words ≡ bus_words) where
   device_on : (d : DeviceSnapshot) → next (step_of (Place (Device d)) (world s (lent b m))) ≡ world s (lent (put_device b d) m)
@@ -54,7 +55,7 @@ module _ (s : Session) (b : Bus) (m : Memory) (free : is_busy s.in_flight ≡ fa
   unfolding placed_of set_endpoints_of set_endpoints
   bulk_on slot =
       handed (Endpoints slot bulk_endpoints) (world s (lent b m)) (put_endpoints b slot bulk_endpoints)
-      (placed_on _ s b free sized ∙ sym (passes (After Verdict Bus) _ _ _ _ refl refl))
+      (placed_on _ s b free sized ∙ sym (passes (After (Result ⊤ Refusal) Bus) _ _ _ _ refl refl))
 
 -- a device and a list of endpoints keep the bus's size
 device_sized : (b : Bus) (d : DeviceSnapshot) → d.id.slot < 256 → length b.words ≡ bus_words → length (put_device b d).words ≡ bus_words
@@ -93,7 +94,7 @@ opened_on : (l : Lent) → lent_fits paper_size l ≡ true
     → next (step_of (Open paper_opening) (world no_session l))
     ≡ world (new_session paper_opening) (lent cleared (memory (emptied l.memory.store) l.memory.area))
 unfolding step_of open_of
-opened_on l fits = ap (λ (z : After Opened Lent). next (opens z (world no_session l))) (sym (passes (After Opened Lent) _ _ _ _ (ap not fits) refl))
+opened_on l fits = ap (λ (z : After (Result Session Refusal) Lent). next (opens z (world no_session l))) (sym (passes (After (Result Session Refusal) Lent) _ _ _ _ (ap not fits) refl))
 
 readied_on : readied (new_session paper_opening) ≡ paper_session
 unfolding readied acquire_of acquired_by initialize_of initialized_by ◌if◌else◌
@@ -147,10 +148,10 @@ module _ {A : Type 0} (f : ℕ → A) where
       (le_or_lt n i)
 
 -- the tables of a bus with the first n slots
-slots_devices : (n : ℕ) (b : Bus) → (slots_on n b).devices ≡ filled (λ (k : ℕ). OptionDevice.Some (slot_snapshot k)) n b.devices
+slots_devices : (n : ℕ) (b : Bus) → (slots_on n b).devices ≡ filled (λ (k : ℕ). Some (slot_snapshot k)) n b.devices
 unfolding slots_on put_device put_endpoints
 slots_devices zero b = refl
-slots_devices (suc n) b = ap (λ (t : List OptionDevice). set t n (OptionDevice.Some (slot_snapshot n))) (slots_devices n b)
+slots_devices (suc n) b = ap (λ (t : List (Option DeviceSnapshot)). set t n (Some (slot_snapshot n))) (slots_devices n b)
 
 slots_lists : (n : ℕ) (b : Bus) → (slots_on n b).lists ≡ filled (λ (k : ℕ). bulk_endpoints) n b.lists
 unfolding slots_on put_device put_endpoints
@@ -173,7 +174,7 @@ ported_port = get_or-set_same (replicate 255 new_port) 0 paper_port new_port (rw
 
 ported_devices : length ported_bus.devices ≡ 256
 unfolding ported_bus put_port cleared
-ported_devices = length-replicate {0} {A = OptionDevice} 256 OptionDevice.None
+ported_devices = length-replicate {0} {A = (Option DeviceSnapshot)} 256 None
 
 ported_lists : length ported_bus.lists ≡ 256
 unfolding ported_bus put_port cleared
@@ -201,8 +202,8 @@ start_placed l fits =
       fits = fits_still paper_size l (slots_on 256 ported_bus) fits (slots_sized 256 ported_bus (omega arith) ported_sized);
       port = ap (λ (t : List PortRow). get_or t 0 new_port) (slots_ports 256 ported_bus) ∙ ported_port;
       device = λ slot h.
-          ap (λ (t : List OptionDevice). get_or t slot OptionDevice.None) (slots_devices 256 ported_bus)
-          ∙ filled_at (λ (k : ℕ). OptionDevice.Some (slot_snapshot k)) 256 slot ported_bus.devices OptionDevice.None h (rw ported_devices (omega arith));
+          ap (λ (t : List (Option DeviceSnapshot)). get_or t slot None) (slots_devices 256 ported_bus)
+          ∙ filled_at (λ (k : ℕ). Some (slot_snapshot k)) 256 slot ported_bus.devices None h (rw ported_devices (omega arith));
       endpoints = λ slot h.
           ap (λ (t : List (List ℕ)). get_or t slot []) (slots_lists 256 ported_bus)
           ∙ filled_at (λ (k : ℕ). bulk_endpoints) 256 slot ported_bus.lists [] h (rw ported_lists (omega arith));

@@ -1,9 +1,8 @@
 -- The session that a paper's events are put to (document 02, M-100). Assumes nothing.
-use Rattle.std.specs.Prelude.{ℕ, zero, suc, ◌+◌, ◌*◌, ◌<◌, true, false, ◌≡◌, List, [], ◌∷◌, ◌++◌, replicate}
+use Rattle.std.specs.Prelude.{ℕ, zero, suc, ◌+◌, ◌*◌, ◌<◌, true, false, ◌≡◌, List, [], ◌∷◌, ◌++◌, replicate, Some, None, Ok}
 use Rattle.words.specs.Records.{tab}
-use Rattle.words.specs.declared.{OptionU32.OptionU32, OptionU64.OptionU64}
 use Rattle.models.specs.declared.ControllerState.TheVariants.{Initialized}
-use Rattle.models.specs.declared.{DeviceId.DeviceId, DeviceSnapshot.DeviceSnapshot, OptionDevice.OptionDevice, OptionError.OptionError, OptionPorts.OptionPorts}
+use Rattle.models.specs.declared.{DeviceId.DeviceId, DeviceSnapshot.DeviceSnapshot}
 use Rattle.models.specs.declared.DeviceState.TheVariants.{Configured}
 use Rattle.models.specs.declared.TransferType.TheVariants.{Bulk}
 use Rattle.rows.specs.Table.{row_words}
@@ -13,8 +12,7 @@ use Rattle.bus.specs.Tables.{Bus, bus_of, port_at, device_at, endpoints_at, mark
 use Rattle.bus.specs.declared.{PortRow.PortRow}
 use Rattle.session.specs.Lent.{Memory, Lent, memory, lent, lent_fits}
 use Rattle.session.specs.Lifecycle.{acquire_of, initialize_of}
-use Rattle.session.specs.declared.{InFlight.InFlight, OptionStall.OptionStall, Session.Session, Size.Size, lifecycle.Opening.Opening}
-use Rattle.session.specs.declared.lifecycle.AcquireReply.TheVariants.{Acquired}
+use Rattle.session.specs.declared.{InFlight.InFlight, Session.Session, Size.Size, lifecycle.Opening.Opening}
 use Rattle.calls.specs.Calls.{Call, Open, Place, Device, Port, Endpoints, Move, Acquire, Initialize}
 use Rattle.calls.specs.Step.{World, world, no_session, made_on}
 
@@ -27,9 +25,8 @@ abbrev pub paper_opening : Opening
 paper_opening = record {
   session = 1;
   first_sequence = 0;
-  recovery_revision = OptionU64.Some 0;
-  has_ports = true;
-  port_count = 1;
+  recovery_revision = Some 0;
+  port_count = Some 1;
   size = paper_size;
 }
 
@@ -38,7 +35,7 @@ abbrev pub paper_reading : ℕ
 paper_reading = 1027
 
 abbrev pub paper_port : PortRow
-paper_port = record { generation = 1; reading = OptionU32.Some paper_reading }
+paper_port = record { generation = 1; reading = Some paper_reading }
 
 -- a slot's device has session 1, generation 0
 abbrev pub slot_device : ℕ → DeviceId
@@ -54,10 +51,10 @@ bulk_endpoints = tab (λ (k : ℕ). endpoint_word (129 + k) Bulk) 15
 
 -- what acquire and initialise leave of a session, where the backend reports no failure
 unfoldable pub readied : Session → Session
-readied s = (initialize_of OptionError.None (acquire_of Acquired s).session).session
+readied s = (initialize_of None (acquire_of (Ok tt) s).session).session
 
 abbrev pub ready_calls : List Call
-ready_calls = Move (Acquire Acquired) ∷ Move (Initialize OptionError.None) ∷ Place (Port 1 paper_port) ∷ []
+ready_calls = Move (Acquire (Ok tt)) ∷ Move (Initialize None) ∷ Place (Port 1 paper_port) ∷ []
 
 abbrev pub opening_calls : List Call
 opening_calls = Open paper_opening ∷ ready_calls
@@ -105,10 +102,10 @@ paper_session = record {
   number = 1;
   generation = 0;
   next_sequence = 0;
-  ports = OptionPorts.Some (record { session = 1; count = 1 });
+  ports = Some (record { session = 1; count = 1 });
   state = Initialized;
-  recovery_revision = OptionU64.Some 0;
-  recoverable_stall = OptionStall.None;
+  recovery_revision = Some 0;
+  recoverable_stall = None;
   in_flight = InFlight.Nothing;
   size = paper_size;
 }
@@ -131,7 +128,7 @@ pub record Started (l : Lent) (w : World) : Type 0 where
   pub session : w.session ≡ paper_session
   pub fits : lent_fits paper_size w.lent ≡ true
   pub port : port_at w.lent.bus 1 ≡ paper_port
-  pub device : (slot : ℕ) → slot < 256 → device_at w.lent.bus slot ≡ OptionDevice.Some (slot_snapshot slot)
+  pub device : (slot : ℕ) → slot < 256 → device_at w.lent.bus slot ≡ Some (slot_snapshot slot)
   pub endpoints : (slot : ℕ) → slot < 256 → endpoints_at w.lent.bus slot ≡ bulk_endpoints
   pub mark : (slot : ℕ) → slot < 256 → mark_at w.lent.bus slot ≡ false
   pub store : w.lent.memory.store ≡ emptied l.memory.store

@@ -11,13 +11,10 @@ ghost use Rattle.rows.specs.Store.{store_of};
 
 use bus::PortRow;
 use calls::answers;
-use models::{
-    ControllerState, DeviceId, DeviceSnapshot, DeviceState, OptionError, OptionPorts, PortId,
-};
+use models::{ControllerState, DeviceId, DeviceSnapshot, DeviceState, PortId};
 use rows::ROW_WORDS;
-use session::lifecycle::{AcquireReply, Opening};
-use session::{InFlight, OptionStall, Session, Size, lifecycle, place};
-use words::{OptionU32, OptionU64};
+use session::lifecycle::Opening;
+use session::{InFlight, Session, Size, lifecycle, place};
 
 // The store: 64 rows of 256 bytes.
 const ROWS: usize = 64;
@@ -36,9 +33,8 @@ fn opening() -> Opening
     Opening {
         session: 1,
         first_sequence: 0,
-        recovery_revision: OptionU64::Some(0),
-        has_ports: true,
-        port_count: 1,
+        recovery_revision: Some(0),
+        port_count: Some(1),
         size: Size {
             row_count: ROWS as u64,
             row_bytes: ROW_BYTES as u64,
@@ -54,10 +50,10 @@ fn no_session() -> Session
         number: 0,
         generation: 0,
         next_sequence: 0,
-        ports: OptionPorts::None,
+        ports: None,
         state: ControllerState::Closed,
-        recovery_revision: OptionU64::None,
-        recoverable_stall: OptionStall::None,
+        recovery_revision: None,
+        recoverable_stall: None,
         in_flight: InFlight::Nothing,
         size: Size {
             row_count: 0,
@@ -71,7 +67,7 @@ fn port() -> PortRow
 {
     PortRow {
         generation: 1,
-        reading: OptionU32::Some(0x403),
+        reading: Some(0x403),
     }
 }
 
@@ -101,17 +97,15 @@ fn place_slot(session: Session, bus: &mut [u64], slot: u8)
         0x181u64, 0x182, 0x183, 0x184, 0x185, 0x186, 0x187, 0x188, 0x189, 0x18a, 0x18b, 0x18c,
         0x18d, 0x18e, 0x18f,
     ];
-    place::set_device(session, bus, snapshot(slot));
-    place::set_endpoints(session, bus, slot, &bulk);
+    let _ = place::set_device(session, bus, snapshot(slot));
+    let _ = place::set_endpoints(session, bus, slot, &bulk);
 }
 
 fn place_slots(session: Session, bus: &mut [u64])
     ensures { PlacesSlots session bus.old bus.new }
 {
-    let mut slot: u16 = 0;
-    while slot < 256 {
-        place_slot(session, bus, slot as u8);
-        slot += 1;
+    for slot in 0..=255 {
+        place_slot(session, bus, slot);
     }
 }
 
@@ -128,8 +122,8 @@ fn opened(bus: &mut [u64], rows: &mut [u64], area: &[u8]) -> Session
 fn ready(session: Session) -> Session
     ensures { result ≡ readied session }
 {
-    let acquired = lifecycle::acquire(session, AcquireReply::Acquired);
-    let initialized = lifecycle::initialize(acquired.session, OptionError::None);
+    let acquired = lifecycle::acquire(session, Ok(()));
+    let initialized = lifecycle::initialize(acquired.session, None);
     initialized.session
 }
 
@@ -139,7 +133,7 @@ fn open(bus: &mut [u64], rows: &mut [u64], area: &[u8]) -> Session
         ≡ made_on opening_calls (world no_session (lent_of bus.old rows.old area.now)) }
 {
     let session = ready(opened(bus, rows, area));
-    place::set_port(session, bus, 1, port());
+    let _ = place::set_port(session, bus, 1, port());
     session
 }
 

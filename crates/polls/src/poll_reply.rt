@@ -10,20 +10,18 @@ ghost use Rattle.polls.specs.PollReply.{is_recovery, code_is_stall, is_scoped_st
 ghost use Rattle.polls.specs.Said.{poll_reply_numbers};
 ghost use Rattle.rows.specs.Store.{store_of};
 
-use crate::PollReply;
-use chain::Found;
 use checks::completion;
-use checks::completion::CompletionTest;
-use ledger::{Applied, search};
+use checks::completion::{CompletionFault, ValidCompletion};
+use ledger::search;
 use models::{
-    BackendCompletion, ErrorCategory, OperationError, OptionError, RequestId, RequestMetadata,
+    BackendCompletion, Cause, ErrorCategory, OperationError, RequestId, RequestMetadata,
+    RequestReport,
 };
-use reports::{ReportAnswer, Reported, answers};
+use reports::answers;
 use rows::Row;
 use rules::Change;
-use session::{InFlight, OptionStall, RecoverableStall, Session, Size, sizes};
+use session::{Called, InFlight, RecoverableStall, Session, Size, sizes};
 use standards::completion::is_stall;
-use words::{OptionU32, OptionU64};
 
 // What a completion does: the change of the row, the session after it, and whether the data is stored.
 #[derive(Clone, Copy)]
@@ -36,21 +34,13 @@ pub struct Judgement {
 fn is_recovery(c: ErrorCategory) -> bool
     ensures { result ≡ is_recovery c }
 {
-    match c {
-        ErrorCategory::Validation => false,
-        ErrorCategory::Unsupported => false,
-        ErrorCategory::OperatingSystem => false,
-        ErrorCategory::Controller => false,
-        ErrorCategory::Timeout => false,
-        ErrorCategory::Disconnect => false,
-        ErrorCategory::RecoveryRequired => true,
-    }
+    c == ErrorCategory::RecoveryRequired
 }
 
-fn code_is_stall(c: OptionU32) -> bool
+fn code_is_stall(c: Option<u32>) -> bool
     ensures { result ≡ code_is_stall c }
 {
-    let OptionU32::Some(code) = c else {
+    let Some(code) = c else {
         return false;
     };
     is_stall(code)
@@ -70,17 +60,21 @@ fn is_scoped_stall(completion: BackendCompletion, error: OperationError) -> bool
 }
 
 // The stall to keep: none where the revision is exhausted or the failure is no stall.
-fn stall_of(revision: OptionU64, metadata: RequestMetadata, scoped: bool) -> OptionStall
+fn stall_of(
+    revision: Option<u64>,
+    metadata: RequestMetadata,
+    scoped: bool,
+) -> Option<RecoverableStall>
     ensures { result ≡ stall_of revision metadata scoped }
 {
-    let OptionU64::Some(n) = revision else {
-        return OptionStall::None;
+    let Some(n) = revision else {
+        return None;
     };
     if !scoped {
-        return OptionStall::None;
+        return None;
     }
     let device = metadata.device;
-    OptionStall::Some(RecoverableStall {
+    Some(RecoverableStall {
         revision: n,
         device,
         endpoint: metadata.endpoint,
@@ -131,17 +125,20 @@ fn invalid(session: Session, completion: BackendCompletion) -> Judgement
     }
 }
 
-fn judge_test(test: CompletionTest, session: Session, completion: BackendCompletion) -> Judgement
+fn judge_test(
+    test: Result<ValidCompletion, CompletionFault>,
+    session: Session,
+    completion: BackendCompletion,
+) -> Judgement
     ensures { result ≡ judged_test test session completion }
 {
     match test {
-        CompletionTest::Valid(actual, code) => Judgement {
-            change: Change::Complete(actual, code),
+        Ok(valid) => Judgement {
+            change: Change::Complete(valid.actual_length, valid.completion_code),
             session,
             stored: true,
         },
-        CompletionTest::MissingLength => invalid(session, completion),
-        CompletionTest::Invalid => invalid(session, completion),
+        Err(_) => invalid(session, completion),
     }
 }
 
@@ -150,8 +147,8 @@ fn judge(session: Session, row: Row, completion: BackendCompletion, given: u64) 
 {
     let error = completion.error;
     match error {
-        OptionError::Some(e) => fail(session, row, completion, e),
-        OptionError::None => {
+        Some(e) => fail(session, row, completion, e),
+        None => {
             let metadata = row.metadata;
             let test = completion::test_completion(completion, given, metadata.requested_length);
             judge_test(test, session, completion)
@@ -178,7 +175,7 @@ fn settle(
     area: &mut [u8],
     i: usize,
     bytes: &[u8],
-) -> Reported
+) -> Called<RequestReport>
     requires { (i < length (read_rows rows.old))
         × (i * idle.size.row_bytes + idle.size.row_bytes ≤ length area.old) }
     ensures { after result (memory_of rows.new area.new)
@@ -189,11 +186,11 @@ fn settle(
     let size = idle.size;
     let applied = ledger::change_at(rows, i, change);
     match applied {
-        Applied::Refused(refusal) => answers::refused(idle, refusal),
-        Applied::Done(report) => {
+        Err(refusal) => Called::refused(idle, refusal),
+        Ok(report) => {
             store_data(area, size, i, bytes, j.stored);
-            Reported {
-                answer: ReportAnswer::Report(report),
+            Called {
+                answer: Ok(report),
                 session,
             }
         }
@@ -206,9 +203,9 @@ fn reply_at(
     rows: &mut [u64],
     area: &mut [u8],
     i: usize,
-    reply: PollReply,
+    reply: Result<Option<BackendCompletion>, OperationError>,
     bytes: &[u8],
-) -> Reported
+) -> Called<RequestReport>
     requires { (i < length (read_rows rows.old))
         × (i * idle.size.row_bytes + idle.size.row_bytes ≤ length area.old) }
     ensures { after result (memory_of rows.new area.new)
@@ -216,15 +213,15 @@ fn reply_at(
 {
     let row = rows::read_row(rows, i);
     match reply {
-        PollReply::Nothing => Reported {
-            answer: ReportAnswer::Report(rules::report_of(row)),
+        Ok(None) => Called {
+            answer: Ok(rules::report_of(row)),
             session: idle,
         },
-        PollReply::Error(error) => {
+        Err(error) => {
             let after = answers::take_effect(idle, error);
-            answers::refused(after, models::refuse_backend(45, error))
+            Called::refused(after, models::refuse_backend(Cause::BackendError, error))
         }
-        PollReply::Completion(completion) => {
+        Ok(Some(completion)) => {
             let j = judge(idle, row, completion, bytes.len() as u64);
             settle(j, idle, rows, area, i, bytes)
         }
@@ -237,19 +234,19 @@ fn reply_found(
     rows: &mut [u64],
     area: &mut [u8],
     id: RequestId,
-    reply: PollReply,
+    reply: Result<Option<BackendCompletion>, OperationError>,
     bytes: &[u8],
-) -> Reported
+) -> Called<RequestReport>
     ensures { after result (memory_of rows.new area.new)
         ≡ poll_reply_found id reply bytes.now session (memory_of rows.old area.old) }
 {
     let size = session.size;
     if !sizes::memory_fits(size, rows.len(), area.len()) {
-        return answers::refused_by(session, 3);
+        return Called::refused_by(session, Cause::WrongSize);
     }
     let found = search::find(rows, id);
-    let Found::At(i) = found else {
-        return answers::refused_by(session, 2);
+    let Some(i) = found else {
+        return Called::refused_by(session, Cause::NothingWaits);
     };
     let idle = session::with_flight(session, InFlight::Nothing);
     reply_at(idle, rows, area, i, reply, bytes)
@@ -260,18 +257,18 @@ pub fn poll_reply(
     session: Session,
     rows: &mut [u64],
     area: &mut [u8],
-    reply: PollReply,
+    reply: Result<Option<BackendCompletion>, OperationError>,
     bytes: &[u8],
-) -> Reported
+) -> Called<RequestReport>
     ensures step { after result (memory_of rows.new area.new)
         ≡ poll_reply_of reply bytes.now session (memory_of rows.old area.old) }
     ensures table { Tabled poll_reply_numbers (report_said result.answer) }
 {
     let flight = session.in_flight;
     match flight {
-        InFlight::Nothing => answers::refused_by(session, 2),
-        InFlight::Submission(_) => answers::refused_by(session, 2),
+        InFlight::Nothing => Called::refused_by(session, Cause::NothingWaits),
+        InFlight::Submission(_) => Called::refused_by(session, Cause::NothingWaits),
         InFlight::Poll(id) => reply_found(session, rows, area, id, reply, bytes),
-        InFlight::Recovery(_) => answers::refused_by(session, 2),
+        InFlight::Recovery(_) => Called::refused_by(session, Cause::NothingWaits),
     }
 }

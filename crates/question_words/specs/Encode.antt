@@ -1,5 +1,5 @@
 -- Answers to questions as words: a tag, then the answer's fields. Assumes nothing.
-use Rattle.std.specs.Prelude.{ℕ, List, [], ◌∷◌}
+use Rattle.std.specs.Prelude.{Option, Some, None, ℕ, List, [], ◌∷◌}
 use Rattle.words.specs.Words.{option_u64_words}
 use Rattle.models.specs.Codes.{controller_word}
 use Rattle.models.specs.declared.{RequestReport.RequestReport}
@@ -23,10 +23,10 @@ session_status_words s =
 unfoldable pub placed_words : ℕ → RequestReport → List ℕ
 placed_words place x = 12 ∷ place ∷ report_values x
 
-abbrev pub wanted_words : Wanted → List ℕ
-wanted_words Wanted.Nothing = 13 ∷ 0 ∷ 0 ∷ []
-wanted_words (Wanted.First number) = 13 ∷ 1 ∷ number ∷ []
-wanted_words (Wanted.Second number) = 13 ∷ 2 ∷ number ∷ []
+abbrev pub wanted_words : Option Wanted → List ℕ
+wanted_words None = 13 ∷ 0 ∷ 0 ∷ []
+wanted_words (Some (Wanted.First number)) = 13 ∷ 1 ∷ number ∷ []
+wanted_words (Some (Wanted.Second number)) = 13 ∷ 2 ∷ number ∷ []
 
 abbrev pub question_words : QuestionAnswer → List ℕ
 question_words (QuestionAnswer.Refused r) = refusal_words r

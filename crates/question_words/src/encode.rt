@@ -20,9 +20,9 @@ fn status_words(session: Session) -> [u64; 19]
     let own = state::session_words(session);
     let tag = [11];
     let mut w = [0; 19];
-    slices::copy_words(&mut w, 0, &tag, 1);
-    slices::copy_words(&mut w, 1, &own, 16);
-    slices::copy_words(&mut w, 17, slices::rest(&own, 24), 2);
+    slices::copy(&mut w, 0, &tag, 1);
+    slices::copy(&mut w, 1, &own, 16);
+    slices::copy(&mut w, 17, slices::rest(&own, 24), 2);
     w
 }
 
@@ -32,18 +32,18 @@ fn placed_words(place: u64, report: RequestReport) -> [u64; 27]
     let own = encode::report_words(report);
     let head = [12, place];
     let mut w = [0; 27];
-    slices::copy_words(&mut w, 0, &head, 2);
-    slices::copy_words(&mut w, 2, slices::rest(&own, 1), 25);
+    slices::copy(&mut w, 0, &head, 2);
+    slices::copy(&mut w, 2, slices::rest(&own, 1), 25);
     w
 }
 
-fn wanted_words(wanted: Wanted) -> [u64; 3]
+fn wanted_words(wanted: Option<Wanted>) -> [u64; 3]
     ensures { result ≡ wanted_words wanted }
 {
     match wanted {
-        Wanted::Nothing => [13, 0, 0],
-        Wanted::First(number) => [13, 1, number as u64],
-        Wanted::Second(number) => [13, 2, number as u64],
+        None => [13, 0, 0],
+        Some(Wanted::First(number)) => [13, 1, number as u64],
+        Some(Wanted::Second(number)) => [13, 2, number as u64],
     }
 }
 

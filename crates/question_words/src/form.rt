@@ -8,19 +8,13 @@ use words::slices::word_at;
 fn is_question(number: u64, w: &[u64]) -> bool
     ensures { result ≡ is_question number w.now }
 {
-    if number == 25 {
-        return form::has(w, 1);
+    match number {
+        25 => form::has(w, 1),
+        26 => form::has(w, 2),
+        27 => form::is_submit(w),
+        28 => form::is_plan(w),
+        _ => false,
     }
-    if number == 26 {
-        return form::has(w, 2);
-    }
-    if number == 27 {
-        return form::is_submit(w);
-    }
-    if number == 28 {
-        return form::is_plan(w);
-    }
-    false
 }
 
 // The report calls and the questions.
@@ -28,8 +22,8 @@ pub fn is_read(w: &[u64]) -> bool
     ensures { result ≡ is_read w.now }
 {
     let number = word_at(w, 0);
-    if (number > 15) & (number <= 21) {
-        return form::is_reporting(number, w);
+    match number {
+        16..=21 => form::is_reporting(number, w),
+        _ => is_question(number, w),
     }
-    is_question(number, w)
 }

@@ -1,12 +1,13 @@
 -- The questions, each with its arguments, and their answers. Assumes nothing.
-use Rattle.std.specs.Prelude.{ℕ, List}
+use Rattle.std.specs.Prelude.{ℕ, List, Option, Some, None, Result, Ok, Err}
 use Rattle.reports.specs.Scan.{report_from}
-use Rattle.reports.specs.declared.{PlacedReport.PlacedReport}
 use Rattle.submissions.specs.Submit.{Request}
 use Rattle.submissions.specs.Wants.{submit_wants, plan_wants}
 use Rattle.calls.specs.Calls.{PlanRequest}
 use Rattle.calls.specs.Step.{World, world_store}
 use Rattle.questions.specs.declared.{QuestionAnswer.QuestionAnswer}
+use Rattle.reports.specs.declared.{PlacedReport.PlacedReport}
+use Rattle.models.specs.declared.{Refusal.Refusal}
 
 pub data Question : Type 0 where
   SessionStatus : Question
@@ -15,10 +16,10 @@ pub data Question : Type 0 where
   SubmitWants : List ℕ → Request → Question
   PlanWants : PlanRequest → Question
 
-abbrev pub of_placed : PlacedReport → QuestionAnswer
-of_placed (PlacedReport.Refused r) = QuestionAnswer.Refused r
-of_placed PlacedReport.None = QuestionAnswer.NoReport
-of_placed (PlacedReport.At i x) = QuestionAnswer.ReportAt i x
+abbrev pub of_placed : Result (Option PlacedReport) Refusal → QuestionAnswer
+of_placed (Err r) = QuestionAnswer.Refused r
+of_placed (Ok None) = QuestionAnswer.NoReport
+of_placed (Ok (Some p)) = QuestionAnswer.ReportAt p.place p.report
 
 unfoldable pub question_of : Question → World → QuestionAnswer
 question_of SessionStatus w = QuestionAnswer.Status w.session

@@ -9,22 +9,22 @@ use reports::PlacedReport;
 use session::Session;
 use targets::wants::Wanted;
 
-// What a question is answered by.
+// What a question is answered by, one case a tag that C reads, as `Answer`.
 #[derive(Clone, Copy)]
 pub enum QuestionAnswer {
     Refused(Refusal),
     Status(Session),
     NoReport,
     ReportAt(u64, RequestReport),
-    Reading(Wanted),
+    Reading(Option<Wanted>),
 }
 
-pub fn of_placed(report: PlacedReport) -> QuestionAnswer
+pub fn of_placed(report: Result<Option<PlacedReport>, Refusal>) -> QuestionAnswer
     ensures { result ≡ of_placed report }
 {
     match report {
-        PlacedReport::Refused(refusal) => QuestionAnswer::Refused(refusal),
-        PlacedReport::None => QuestionAnswer::NoReport,
-        PlacedReport::At(place, own) => QuestionAnswer::ReportAt(place, own),
+        Err(refusal) => QuestionAnswer::Refused(refusal),
+        Ok(None) => QuestionAnswer::NoReport,
+        Ok(Some(placed)) => QuestionAnswer::ReportAt(placed.place, placed.report),
     }
 }

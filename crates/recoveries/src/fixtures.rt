@@ -1,19 +1,16 @@
 // What every example is made of: the opening, the device of slot 1, ids and requests.
 use models::{
-    DeviceId, DeviceSnapshot, DeviceState, Direction, OptionSetup, PortId, RequestId, RequestSpec,
-    TransferType,
+    DeviceId, DeviceSnapshot, DeviceState, Direction, PortId, RequestId, RequestSpec, TransferType,
 };
 use session::Size;
 use session::lifecycle::Opening;
-use words::OptionU64;
 
 pub(crate) fn opening() -> Opening {
     Opening {
         session: 1,
         first_sequence: 0,
-        recovery_revision: OptionU64::Some(0),
-        has_ports: true,
-        port_count: 1,
+        recovery_revision: Some(0),
+        port_count: Some(1),
         size: Size {
             row_count: 2,
             row_bytes: 8,
@@ -55,6 +52,6 @@ pub(crate) fn bulk() -> RequestSpec {
         transfer_type: TransferType::Bulk,
         direction: Direction::In,
         length: 8,
-        setup: OptionSetup::None,
+        setup: None,
     }
 }

@@ -3,17 +3,15 @@
 #![tactic(auto)]
 
 use crate::fixtures::{bulk, device, id_of, opening};
-use models::{OptionError, PortReading};
-use recovery::{Outcome, Recovered, RecoveryReply, recover, recovery_reply};
+use recovery::{BackendAbort, Recovered, recover, recovery_reply};
 use reports::status;
-use session::lifecycle::{AcquireReply, Opened};
+use session::lifecycle::AcquireFailure;
 use session::{Session, lifecycle, place};
 use std::io;
 use std::io::Write;
-use submissions::{SubmitReply, submit, submit_reply};
+use submissions::{NewRequest, submit, submit_reply};
 use targets::Readings;
 use texts::print;
-use words::OptionU32;
 
 mod fixtures; // fixtures.rt: the opening, the device, ids and requests
 mod show; // show.rt: answers as text
@@ -28,32 +26,36 @@ const BUS: usize = bus::WORDS;
 fn set_device(s: Session, bus: &mut [u64]) {
     let row = bus::PortRow {
         generation: 1,
-        reading: OptionU32::Some(0x403),
+        reading: Some(0x403),
     };
     let one = [0x181u64];
-    place::set_port(s, bus, 1, row);
-    place::set_device(s, bus, device());
-    place::set_endpoints(s, bus, 1, &one);
+    let _ = place::set_port(s, bus, 1, row);
+    let _ = place::set_device(s, bus, device());
+    let _ = place::set_endpoints(s, bus, 1, &one);
 }
 
 // The device placed, and the controller initialized.
 fn prepare(s: Session, bus: &mut [u64]) -> Session {
     set_device(s, bus);
-    let acquired = lifecycle::acquire(s, AcquireReply::Acquired);
-    let ready = lifecycle::initialize(acquired.session, OptionError::None);
+    let acquired = lifecycle::acquire(s, Ok(()));
+    let ready = lifecycle::initialize(acquired.session, None);
     ready.session
 }
 
 // Both halves of a submission.
 fn hold(s: Session, bus: &mut [u64], rows: &mut [u64], area: &mut [u8], token: u64) -> Session {
-    let none = [0u64; 1];
-    let word = PortReading::Word(0x403);
-    let readings = Readings {
-        first: word,
-        second: word,
+    let word = Ok(0x403);
+    let q = NewRequest {
+        spec: bulk(),
+        bytes: b"",
+        packets: None,
+        readings: Readings {
+            first: word,
+            second: word,
+        },
     };
-    let r = submit::submit_request_packets(s, bus, rows, area, bulk(), b"", false, &none, readings);
-    let x = submit_reply::submit_reply(r.session, rows, SubmitReply::Token(token));
+    let r = submit::submit_request_packets(s, bus, rows, area, q);
+    let x = submit_reply::submit_reply(r.session, rows, Ok(token));
     x.session
 }
 
@@ -61,9 +63,9 @@ fn hold(s: Session, bus: &mut [u64], rows: &mut [u64], area: &mut [u8], token: u
 fn abort(s: Session, rows: &mut [u64], area: &mut [u8], restart_ready: bool) -> Recovered {
     let none: [u64; 0] = [];
     let seven = [7u64];
-    let reply = RecoveryReply::Done(Outcome {
+    let reply = Ok(BackendAbort {
         restart_ready,
-        error: OptionError::None,
+        error: None,
     });
     let begun = recover::abort_request(s, rows, id_of(0));
     recovery_reply::recovery_reply(begun.session, rows, area, reply, &none, &none, &seven, b"")
@@ -109,7 +111,7 @@ fn example<W: Write>(out: &mut W, name: &[u8], higher: u64, restart_ready: bool)
     let mut area = [0u8; 16];
     print::text(out, name)?;
     let opened = lifecycle::open(opening(), &mut rows, &area, &mut bus);
-    let Opened::Open(s) = opened else {
+    let Ok(s) = opened else {
         return print::text(out, b"not opened\n");
     };
     let s = prepare(s, &mut bus);

@@ -1,7 +1,6 @@
 // Answers as parts of a line.
-use models::{ControllerState, Refusal, RequestState};
-use recovery::RecoveryAnswer;
-use reports::{HeldAnswer, ReportAnswer};
+use models::{ControllerState, Refusal, RequestReport, RequestState};
+use recovery::AbortReport;
 use std::io;
 use std::io::Write;
 use texts::print::{number, text};
@@ -12,10 +11,10 @@ fn refused<W: Write>(out: &mut W, r: Refusal) -> io::Result<()> {
 }
 
 // The refusal, or how many were aborted.
-pub fn recovered<W: Write>(out: &mut W, a: RecoveryAnswer) -> io::Result<()> {
+pub fn recovered<W: Write>(out: &mut W, a: Result<AbortReport, Refusal>) -> io::Result<()> {
     match a {
-        RecoveryAnswer::Refused(r) => refused(out, r),
-        RecoveryAnswer::Report(x) => {
+        Err(r) => refused(out, r),
+        Ok(x) => {
             text(out, b"aborted")?;
             number(out, x.aborted)
         }
@@ -32,20 +31,20 @@ fn state<W: Write>(out: &mut W, s: RequestState) -> io::Result<()> {
 }
 
 // The letter of a row's state.
-pub fn letter<W: Write>(out: &mut W, a: ReportAnswer) -> io::Result<()> {
+pub fn letter<W: Write>(out: &mut W, a: Result<RequestReport, Refusal>) -> io::Result<()> {
     match a {
-        ReportAnswer::Refused(_) => text(out, b"-"),
-        ReportAnswer::Report(x) => {
+        Err(_) => text(out, b"-"),
+        Ok(x) => {
             let own = x.state;
             state(out, own)
         }
     }
 }
 
-pub fn held<W: Write>(out: &mut W, a: HeldAnswer) -> io::Result<()> {
+pub fn held<W: Write>(out: &mut W, a: Result<u8, Refusal>) -> io::Result<()> {
     match a {
-        HeldAnswer::Refused(_) => text(out, b" -"),
-        HeldAnswer::Count(n) => number(out, n as u64),
+        Err(_) => text(out, b" -"),
+        Ok(n) => number(out, n as u64),
     }
 }
 

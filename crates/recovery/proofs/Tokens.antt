@@ -1,4 +1,5 @@
 -- The rows that tokens mean: their places, and the entries at them. Assumes nothing.
+use Rattle.std.specs.Prelude.{Result, Ok, Err, ⊤}
 use Prim.Native.Nat.{ℕ, ◌+◌, ◌<◌, ◌≤◌}
 use mathlib.Core.Bool.{true}
 use mathlib.Core.List.{List, [], ◌∷◌, ◌++◌, map, map-append}
@@ -11,7 +12,6 @@ use Rattle.chain.specs.Lists.{listed}
 use Rattle.chain.proofs.Listed.{listed-take}
 use Rattle.chain.proofs.Lists.{get_or-any}
 use Rattle.words.proofs.Records.{map-tab, tab_same}
-use Rattle.models.specs.declared.{Verdict.Verdict}
 use Rattle.rows.specs.Table.{read_rows}
 use Rattle.rows.specs.Store.{Store, store_of}
 use Rattle.session.specs.Lent.{Memory, memory}
@@ -23,10 +23,11 @@ use Rattle.recovery.specs.Places.{Below, Places}
 use Rattle.recovery.specs.RecoveryReply.{reply_lists, apply_all, abort_report, concluded_by, settled_of}
 use Rattle.recovery.specs.declared.{AbortReport.AbortReport, Replied.Replied, recovery_reply.Ended.Ended}
 use Rattle.recovery.proofs.entries.Laws.{meant_in}
+use Rattle.models.specs.declared.{Refusal.Refusal}
 
-onward_same : {L : Type 0} (v : Verdict) (o : After Verdict L) (f g : L → After Verdict L) → ((l : L) → f l ≡ g l) → onward_by v o f ≡ onward_by v o g
-onward_same (Verdict.Refused r) o f g h = refl
-onward_same Verdict.Pass o f g h = h o.lent
+onward_same : {L : Type 0} (v : Result ⊤ Refusal) (o : After (Result ⊤ Refusal) L) (f g : L → After (Result ⊤ Refusal) L) → ((l : L) → f l ≡ g l) → onward_by v o f ≡ onward_by v o g
+onward_same (Err r) o f g h = refl
+onward_same (Ok tt) o f g h = h o.lent
 
 module _ (place : ℕ → ℕ) where
   map_at_lem : (l : List ℕ) (k : ℕ) → k < length l → get_or (map place l) k 0 ≡ place (get_or l k 0)
@@ -46,7 +47,7 @@ module _ (place : ℕ → ℕ) where
   completions_meant : (z : Size) (es : List Returned) (bytes : List ℕ) (m : Memory) → complete_all z itself (map row_meant es) bytes m ≡ complete_all z place es bytes m
   completions_meant z [] bytes m = refl
   completions_meant z (e ∷ es) bytes m =
-      let one : After Verdict Memory = complete_one z (place e.token) e.brought.completion (take e.brought.given bytes) m in
+      let one : After (Result ⊤ Refusal) Memory = complete_one z (place e.token) e.brought.completion (take e.brought.given bytes) m in
       onward_same one.result one _ _ (λ left. completions_meant z es (drop e.brought.given bytes) left)
 
   aborts_meant : (ts : List ℕ) (s : Store) → abort_all itself (map place ts) s ≡ abort_all place ts s
@@ -58,9 +59,9 @@ module _ (place : ℕ → ℕ) where
       → apply_all z itself (reply_lists (map place a) words (map place b) bytes) m ≡ apply_all z place (reply_lists a words b bytes) m
   unfolding apply_all
   apply_meant z a words b bytes m =
-      let done : After Verdict Memory = complete_all z place (read_returned a words) bytes m in
+      let done : After (Result ⊤ Refusal) Memory = complete_all z place (read_returned a words) bytes m in
       rw (entries_meant a words, completions_meant z (read_returned a words) bytes m)
-      (onward_same done.result done _ _ (λ left. ap (λ (x : After Verdict Store). after x.result (memory x.lent left.area)) (aborts_meant b left.store)))
+      (onward_same done.result done _ _ (λ left. ap (λ (x : After (Result ⊤ Refusal) Store). after x.result (memory x.lent left.area)) (aborts_meant b left.store)))
 
 -- ---- the places in a fixed list: those of the tokens a, then those of b
 module _ (affected own a b list : List ℕ) (e : list ≡ listed 128 0 (map (meant affected own) (a ++ b))) (few : length a + length b ≤ 128) where
@@ -102,7 +103,7 @@ module _ (affected own a b list : List ℕ) (e : list ≡ listed 128 0 (map (mea
     done_agree words size f = rw (first_is, length-map a (meant affected own)) f
 
     -- the entries at these places, then the session and the report
-    pub settled_is : (x : Ended) (words bytes : List ℕ) (m : Memory) (report : AbortReport) (v : Verdict) (w₁ area₁ : List ℕ) (y : Replied)
+    pub settled_is : (x : Ended) (words bytes : List ℕ) (m : Memory) (report : AbortReport) (v : Result ⊤ Refusal) (w₁ area₁ : List ℕ) (y : Replied)
         → report ≡ abort_report x n (length b)
         → after v (memory (store_of w₁) area₁) ≡ apply_all x.idle.size itself (reply_lists (take n (take end list)) words (drop n (take end list)) bytes) m
         → y ≡ concluded_by v x report list (read_rows w₁)

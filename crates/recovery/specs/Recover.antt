@@ -1,8 +1,7 @@
 -- A recovery's start (document 01, the place poll, recovery start, and "Abort report"). Assumes nothing.
-use Rattle.std.specs.Prelude.{not, List, length, get_or, replicate}
+use Rattle.std.specs.Prelude.{ℕ, not, List, length, get_or, replicate, Option, Some, None, Ok, Err}
 use Rattle.chain.specs.Chain.{◌if◌else◌}
 use Rattle.chain.specs.Lists.{found_in, listed}
-use Rattle.chain.specs.declared.{Found.Found}
 use Rattle.models.specs.Refusals.{refusal_of}
 use Rattle.models.specs.Requests.{device_may_access}
 use Rattle.models.specs.declared.{Refusal.Refusal, RequestId.RequestId}
@@ -15,10 +14,10 @@ use Rattle.session.specs.Start.{guarded}
 use Rattle.session.specs.Session.{may_recover, with_flight}
 use Rattle.session.specs.declared.{InFlight.InFlight, Recovery.Recovery, RecoveryKind.RecoveryKind, Session.Session}
 use Rattle.scope.specs.Affected.{affected_of, tokens_of}
-use Rattle.recovery.specs.declared.{BeginAnswer.BeginAnswer, Begun.Begun}
+use Rattle.recovery.specs.declared.{Begun.Begun}
 
 abbrev pub begin_refused : Session → Refusal → Begun
-begin_refused s r = record { answer = BeginAnswer.Refused r; session = s; tokens = replicate 128 0; count = 0 }
+begin_refused s r = record { answer = Err r; session = s; tokens = replicate 128 0; count = 0 }
 
 abbrev pub recovery_of : RequestId → RecoveryKind → Row → Recovery
 recovery_of id kind r = record { target = id; device = r.metadata.device; endpoint = r.metadata.endpoint; kind = kind }
@@ -26,7 +25,7 @@ recovery_of id kind r = record { target = id; device = r.metadata.device; endpoi
 -- the operation is in flight; the affected tokens by ascending id
 unfoldable pub begun_as : Recovery → Session → List Row → Begun
 begun_as x s rows = record {
-  answer = BeginAnswer.Recover x;
+  answer = Ok x;
   session = with_flight s (InFlight.Recovery x);
   tokens = listed 128 0 (tokens_of rows (affected_of x.device x.endpoint rows));
   count = length (affected_of x.device x.endpoint rows);
@@ -40,9 +39,9 @@ begin_row id kind r s rows =
     begun_as (recovery_of id kind r) s rows
 
 -- refused by 40 if no row has the id
-unfoldable pub recover_by : Found → RequestId → RecoveryKind → Session → List Row → Begun
-recover_by Found.Nothing id kind s rows = begin_refused s (refusal_of 40)
-recover_by (Found.At i) id kind s rows = begin_row id kind (get_or rows i empty_row) s rows
+unfoldable pub recover_by : Option ℕ → RequestId → RecoveryKind → Session → List Row → Begun
+recover_by None id kind s rows = begin_refused s (refusal_of 40)
+recover_by (Some i) id kind s rows = begin_row id kind (get_or rows i empty_row) s rows
 
 -- refused by 1 while an operation is in flight, by 3 if the rows have not the session's size
 unfoldable pub recover_of : RequestId → RecoveryKind → Session → Store → Begun

@@ -1,24 +1,23 @@
 -- The backend's reply to a recovery (document 01, "Abort report", and the place replies). Assumes nothing.
-use Rattle.std.specs.Prelude.{ℕ, Bool, false, not, ◌&&◌, List, ◌++◌, map, eqb, length, replicate}
+use Rattle.std.specs.Prelude.{ℕ, Bool, false, not, ◌&&◌, List, ◌++◌, map, eqb, length, replicate, Option, Some, None, Result, Ok, Err, ⊤}
 use Rattle.chain.specs.After.{After, after}
 use Rattle.chain.specs.Chain.{◌if◌else◌}
 use Rattle.chain.specs.Lists.{any_in, listed}
-use Rattle.words.specs.declared.{OptionU64.OptionU64}
 use Rattle.models.specs.Refusals.{refusal_of, from_backend}
 use Rattle.models.specs.Requests.{same_device}
 use Rattle.models.specs.declared.ControllerState.TheVariants.{Initialized}
-use Rattle.models.specs.declared.{Refusal.Refusal, Verdict.Verdict}
+use Rattle.models.specs.declared.{OperationError.OperationError, Refusal.Refusal}
 use Rattle.rows.specs.Table.{is_uncertain}
 use Rattle.rows.specs.declared.{Row.Row}
 use Rattle.checks.specs.Completion.{has_error}
 use Rattle.session.specs.Lent.{Memory, memory_fits}
 use Rattle.session.specs.Session.{with_controller, with_flight, with_stall, marked}
-use Rattle.session.specs.declared.{InFlight.InFlight, OptionStall.OptionStall, RecoverableStall.RecoverableStall, Recovery.Recovery, RecoveryKind.RecoveryKind, Session.Session, Size.Size}
+use Rattle.session.specs.declared.{InFlight.InFlight, RecoverableStall.RecoverableStall, Recovery.Recovery, RecoveryKind.RecoveryKind, Session.Session, Size.Size}
 use Rattle.scope.specs.Affected.{affected_of, tokens_of}
 use Rattle.scope.specs.Scope.{meant, in_scope}
 use Rattle.scope.specs.Returned.{read_returned, lists_agree}
 use Rattle.recovery.specs.Entries.{onward_by, complete_all, aborts_in}
-use Rattle.recovery.specs.declared.{AbortReport.AbortReport, Outcome.Outcome, RecoveryAnswer.RecoveryAnswer, RecoveryReply.RecoveryReply, Replied.Replied, recovery_reply.Ended.Ended}
+use Rattle.recovery.specs.declared.{AbortReport.AbortReport, BackendAbort.BackendAbort, Replied.Replied, recovery_reply.Ended.Ended}
 
 -- what comes with a reply: the tokens that the backend completed, the words of their completions, those that it aborted, and the data
 pub record ReplyLists : Type 0 where
@@ -31,24 +30,24 @@ abbrev pub reply_lists : List ℕ → List ℕ → List ℕ → List ℕ → Rep
 reply_lists tokens completions aborted bytes = record { tokens = tokens; completions = completions; aborted = aborted; bytes = bytes }
 
 -- completions in order, then aborts; `place` says which row a token means
-unfoldable pub apply_all : Size → (ℕ → ℕ) → ReplyLists → Memory → After Verdict Memory
+unfoldable pub apply_all : Size → (ℕ → ℕ) → ReplyLists → Memory → After (Result ⊤ Refusal) Memory
 apply_all z place l m =
     let done = complete_all z place (read_returned l.tokens l.completions) l.bytes m in
     onward_by done.result done (aborts_in place l.aborted)
 
 -- a recovery whose reply is in: the session without it, the recovery, and what the backend says
-abbrev pub ended : Session → Recovery → Outcome → Ended
+abbrev pub ended : Session → Recovery → BackendAbort → Ended
 ended idle x o = record { idle = idle; recovery = x; outcome = o }
 
 -- ready, and without an error
-abbrev pub is_whole : Outcome → Bool
+abbrev pub is_whole : BackendAbort → Bool
 is_whole o = o.restart_ready && not (has_error o.error)
 
 -- ---- the session after the entries
 
-abbrev pub is_revision : OptionU64 → ℕ → Bool
-is_revision OptionU64.None n = false
-is_revision (OptionU64.Some m) n = eqb m n
+abbrev pub is_revision : Option ℕ → ℕ → Bool
+is_revision None n = false
+is_revision (Some m) n = eqb m n
 
 -- the note is of the recovery's device and endpoint, no row is Failed and not quiescent, and the session's revision is the note's
 abbrev pub matching : RecoverableStall → Recovery → Bool → Session → Bool
@@ -56,11 +55,11 @@ matching note x certain s =
     same_device note.device x.device && eqb note.endpoint x.endpoint && certain && is_revision s.recovery_revision note.revision
 
 -- a reset takes the stall note; where it matches, the controller is Initialized again
-unfoldable pub restored_by : OptionStall → Recovery → Bool → Session → Session
-restored_by OptionStall.None x certain s = with_stall s OptionStall.None
-restored_by (OptionStall.Some note) x certain s =
-    with_controller (with_stall s OptionStall.None) Initialized s.recovery_revision if matching note x certain s else
-    with_stall s OptionStall.None
+unfoldable pub restored_by : Option RecoverableStall → Recovery → Bool → Session → Session
+restored_by None x certain s = with_stall s None
+restored_by (Some note) x certain s =
+    with_controller (with_stall s None) Initialized s.recovery_revision if matching note x certain s else
+    with_stall s None
 
 unfoldable pub reset_by : RecoveryKind → Recovery → List Row → Session → Session
 reset_by RecoveryKind.Abort x rows s = s
@@ -89,11 +88,11 @@ abort_report e n m = record {
 }
 
 abbrev pub recovery_refused : Session → Refusal → Replied
-recovery_refused s r = record { answer = RecoveryAnswer.Refused r; session = s; places = replicate 128 0 }
+recovery_refused s r = record { answer = Err r; session = s; places = replicate 128 0 }
 
-unfoldable pub concluded_by : Verdict → Ended → AbortReport → List ℕ → List Row → Replied
-concluded_by (Verdict.Refused r) e report places rows = recovery_refused (refused_after r e.idle) r
-concluded_by Verdict.Pass e report places rows = record { answer = RecoveryAnswer.Report report; session = session_after e rows; places = places }
+unfoldable pub concluded_by : Result ⊤ Refusal → Ended → AbortReport → List ℕ → List Row → Replied
+concluded_by (Err r) e report places rows = recovery_refused (refused_after r e.idle) r
+concluded_by (Ok tt) e report places rows = record { answer = Ok report; session = session_after e rows; places = places }
 
 -- ---- the stages
 
@@ -112,25 +111,25 @@ done_of e affected own l m =
     settled_of e (meant affected own) l m
 
 -- refused by 45, always with a mark, if the backend failed
-unfoldable pub reply_by : RecoveryReply → Recovery → ReplyLists → Session → Memory → After Replied Memory
-reply_by (RecoveryReply.Error e) x l idle m = after (recovery_refused (marked idle) (from_backend 45 e)) m
-reply_by (RecoveryReply.Done o) x l idle m =
+unfoldable pub reply_by : Result BackendAbort OperationError → Recovery → ReplyLists → Session → Memory → After Replied Memory
+reply_by (Err e) x l idle m = after (recovery_refused (marked idle) (from_backend 45 e)) m
+reply_by (Ok o) x l idle m =
     let affected = affected_of x.device x.endpoint m.store.rows in
     done_of (ended idle x o) affected (tokens_of m.store.rows affected) l m
 
 -- refused by 3 if a slice has not the session's size, by 49 if the lists disagree; the operation stays in flight
-unfoldable pub reply_sized : RecoveryReply → Recovery → ReplyLists → Session → Memory → After Replied Memory
+unfoldable pub reply_sized : Result BackendAbort OperationError → Recovery → ReplyLists → Session → Memory → After Replied Memory
 reply_sized r x l s m =
     after (recovery_refused s (refusal_of 3)) m if not (memory_fits s.size m) else
     after (recovery_refused s (refusal_of 49)) m if not (lists_agree (length l.tokens) l.completions (length l.bytes)) else
     reply_by r x l (with_flight s InFlight.Nothing) m
 
 -- refused by 2 if no recovery is in flight
-unfoldable pub reply_in : InFlight → RecoveryReply → ReplyLists → Session → Memory → After Replied Memory
+unfoldable pub reply_in : InFlight → Result BackendAbort OperationError → ReplyLists → Session → Memory → After Replied Memory
 reply_in InFlight.Nothing r l s m = after (recovery_refused s (refusal_of 2)) m
 reply_in (InFlight.Submission id) r l s m = after (recovery_refused s (refusal_of 2)) m
 reply_in (InFlight.Poll id) r l s m = after (recovery_refused s (refusal_of 2)) m
 reply_in (InFlight.Recovery x) r l s m = reply_sized r x l s m
 
-unfoldable pub recovery_reply_of : RecoveryReply → ReplyLists → Session → Memory → After Replied Memory
+unfoldable pub recovery_reply_of : Result BackendAbort OperationError → ReplyLists → Session → Memory → After Replied Memory
 recovery_reply_of r l s m = reply_in s.in_flight r l s m

@@ -1,20 +1,20 @@
 -- What a recovery's start and its reply answer, and the numbers that they are refused by, in the table's order. Their lists stand beside
 -- the answer. Assumes nothing.
-use Rattle.std.specs.Prelude.{ℕ, List, [], ◌∷◌, ◌++◌}
+use Rattle.std.specs.Prelude.{ℕ, List, [], ◌∷◌, ◌++◌, Result, Ok, Err}
 use Rattle.words.specs.Words.{flag_word}
-use Rattle.models.specs.Said.{Said, says, refused}
+use Rattle.models.specs.Said.{Said, said_by}
 use Rattle.models.specs.Values.{request_id_words, device_id_words, option_error_words}
 use Rattle.session.specs.Said.{recovery_word}
 use Rattle.session.specs.declared.{Recovery.Recovery}
-use Rattle.recovery.specs.declared.{AbortReport.AbortReport, BeginAnswer.BeginAnswer, RecoveryAnswer.RecoveryAnswer}
+use Rattle.recovery.specs.declared.{AbortReport.AbortReport}
+use Rattle.models.specs.declared.{Refusal.Refusal}
 
 -- target, device, endpoint, and what the backend is to do
 abbrev pub recovering_values : Recovery → List ℕ
 recovering_values x = request_id_words x.target ++ device_id_words x.device ++ x.endpoint ∷ recovery_word x.kind ∷ []
 
-abbrev pub begin_said : BeginAnswer → Said
-begin_said (BeginAnswer.Refused r) = refused r
-begin_said (BeginAnswer.Recover x) = says (recovering_values x)
+abbrev pub begin_said : Result Recovery Refusal → Said
+begin_said = said_by recovering_values
 
 -- target, device, endpoint, how many completed, how many aborted, ready, error
 abbrev pub recovered_values : AbortReport → List ℕ
@@ -22,9 +22,8 @@ recovered_values x =
     request_id_words x.target ++ device_id_words x.device
     ++ x.endpoint ∷ x.completed ∷ x.aborted ∷ flag_word x.restart_ready ∷ option_error_words x.error
 
-abbrev pub recovery_said : RecoveryAnswer → Said
-recovery_said (RecoveryAnswer.Refused r) = refused r
-recovery_said (RecoveryAnswer.Report x) = says (recovered_values x)
+abbrev pub recovery_said : Result AbortReport Refusal → Said
+recovery_said = said_by recovered_values
 
 abbrev pub recover_numbers : List ℕ
 recover_numbers = 1 ∷ 3 ∷ 40 ∷ 43 ∷ 44 ∷ []

@@ -13,9 +13,8 @@ ghost use Rattle.recovery.specs.Places.{Below, Fit, Places, Agree};
 ghost use Rattle.rows.specs.Store.{store_of};
 
 use checks::completion;
-use checks::completion::CompletionTest;
-use ledger::Applied;
-use models::{BackendCompletion, Verdict};
+use checks::completion::CompletionFault;
+use models::{BackendCompletion, Cause, Refusal};
 use rules::Change;
 use scope::returned::Brought;
 use scope::{returned, tokens};
@@ -30,19 +29,14 @@ fn complete_row(
     actual: u64,
     code: u32,
     bytes: &[u8],
-) -> Verdict
+) -> Result<(), Refusal>
     requires { Fit size rows.old area.old × (i < length (read_rows rows.old)) }
     ensures { after result (memory_of rows.new area.new)
         ≡ row_completed_by (changed_at i (Change.Complete actual code) (store_of rows.old)) size i bytes.now area.old }
 {
-    let applied = ledger::change_at(rows, i, Change::Complete(actual, code));
-    match applied {
-        Applied::Refused(refusal) => Verdict::Refused(refusal),
-        Applied::Done(_) => {
-            sizes::put_data(area, size, i, bytes);
-            Verdict::Pass
-        }
-    }
+    ledger::change_at(rows, i, Change::Complete(actual, code))?;
+    sizes::put_data(area, size, i, bytes);
+    Ok(())
 }
 
 // Refuses by 47 if the completion has no length, by 48 if it is not valid, by 41 if the row is Failed.
@@ -53,7 +47,7 @@ fn complete_one(
     i: usize,
     completion: BackendCompletion,
     bytes: &[u8],
-) -> Verdict
+) -> Result<(), Refusal>
     requires { Fit size rows.old area.old × (i < length (read_rows rows.old)) }
     ensures { after result (memory_of rows.new area.new)
         ≡ complete_one size i completion bytes.now (memory_of rows.old area.old) }
@@ -67,9 +61,17 @@ fn complete_one(
         metadata.requested_length,
     );
     match test {
-        CompletionTest::MissingLength => Verdict::Refused(models::refuse(47)),
-        CompletionTest::Invalid => Verdict::Refused(models::refuse_completion(code)),
-        CompletionTest::Valid(actual, n) => { complete_row(rows, area, size, i, actual, n, bytes) }
+        Err(CompletionFault::MissingLength) => Err(models::refuse(Cause::MissingLength)),
+        Err(CompletionFault::Invalid) => Err(models::refuse_completion(code)),
+        Ok(valid) => complete_row(
+            rows,
+            area,
+            size,
+            i,
+            valid.actual_length,
+            valid.completion_code,
+            bytes,
+        ),
     }
 }
 
@@ -79,10 +81,7 @@ fn place_of(affected: &[usize], own: &[u64], rising: bool, near: usize, token: u
     ensures { result ≡ meant affected.now own.now token }
 {
     let j = tokens::slot_near(own, rising, near, token);
-    if j < affected.len() {
-        return affected[j];
-    }
-    0
+    affected.get(j).copied().unwrap_or(0)
 }
 
 // The places of the rows that the tokens mean: the completed ones, then the aborted ones; what is left is 0.
@@ -97,13 +96,10 @@ pub(crate) fn places_of(
         (tokens.now ++ aborted.now)) }
 {
     let rising = tokens::rises(own);
-    let n = tokens.len() + aborted.len();
     let mut places = [0usize; 128];
-    let mut k = 0;
-    while k < n {
+    for k in 0..tokens.len() + aborted.len() {
         let token = tokens::returned_at(tokens, aborted, k);
         places[k] = place_of(affected, own, rising, k, token);
-        k += 1;
     }
     places
 }
@@ -116,7 +112,7 @@ fn complete_next(
     i: usize,
     brought: Brought,
     left: &[u8],
-) -> Verdict
+) -> Result<(), Refusal>
     requires { Fit size rows.old area.old × (i < length (read_rows rows.old))
         × (brought.given ≤ length left.now) }
     ensures { after result (memory_of rows.new area.new)
@@ -135,52 +131,37 @@ pub(crate) fn complete_all(
     places: &[usize],
     completions: &[u64],
     bytes: &[u8],
-) -> Verdict
+) -> Result<(), Refusal>
     requires { Places size rows.old area.old places.now × Agree places.now completions.now bytes.now }
     ensures { after result (memory_of rows.new area.new)
         ≡ complete_all size itself (read_returned places.now completions.now) bytes.now
         (memory_of rows.old area.old) }
 {
-    let n = places.len();
     let mut at = 0;
-    let mut k = 0;
-    while k < n {
+    for k in 0..places.len() {
         let brought = returned::brought_at(completions, k);
         let end = at + brought.given as usize;
-        let verdict = complete_next(rows, area, size, places[k], brought, &bytes[at..]);
-        let Verdict::Pass = verdict else {
-            return verdict;
-        };
+        complete_next(rows, area, size, places[k], brought, &bytes[at..])?;
         at = end;
-        k += 1;
     }
-    Verdict::Pass
+    Ok(())
 }
 
-fn abort_one(rows: &mut [u64], i: usize) -> Verdict
+fn abort_one(rows: &mut [u64], i: usize) -> Result<(), Refusal>
     requires { i < length (read_rows rows.old) }
     ensures { after result (store_of rows.new) ≡ abort_one i (store_of rows.old) }
 {
-    let applied = ledger::change_at(rows, i, Change::ConfirmAbort);
-    match applied {
-        Applied::Refused(refusal) => Verdict::Refused(refusal),
-        Applied::Done(_) => Verdict::Pass,
-    }
+    ledger::change_at(rows, i, Change::ConfirmAbort)?;
+    Ok(())
 }
 
 // The aborts of the rows at the places, in order.
-pub(crate) fn abort_all(rows: &mut [u64], places: &[usize]) -> Verdict
+pub(crate) fn abort_all(rows: &mut [u64], places: &[usize]) -> Result<(), Refusal>
     requires { Below rows.old places.now }
     ensures { after result (store_of rows.new) ≡ abort_all itself places.now (store_of rows.old) }
 {
-    let n = places.len();
-    let mut j = 0;
-    while j < n {
-        let verdict = abort_one(rows, places[j]);
-        let Verdict::Pass = verdict else {
-            return verdict;
-        };
-        j += 1;
+    for i in places {
+        abort_one(rows, *i)?;
     }
-    Verdict::Pass
+    Ok(())
 }

@@ -1,23 +1,18 @@
 // Endpoint recovery: the Rust's services/recovery.rs. A recovery is two calls: one says what the backend is to do, one brings its reply.
 #![tactic(auto)]
 
-use models::{DeviceId, OperationError, OptionError, Refusal, RequestId};
+use models::{DeviceId, OperationError, Refusal, RequestId};
 use session::{Recovery, Session};
 
 mod entries; // entries.rt: a reply's entries, applied in order
 pub mod recover; // recover.rt: the start: abort, or reset of an endpoint
 pub mod recovery_reply; // recovery_reply.rt: the backend's reply, by row indices and by request ids
 
-#[derive(Clone, Copy)]
-pub enum BeginAnswer {
-    Refused(Refusal),
-    Recover(Recovery),
-}
-
-// A recovery's start; beside its answer the tokens of the affected requests by ascending id, and how many they are.
+// A recovery's start; beside its answer the tokens of the affected requests by ascending id, and how many they are: an array and a
+// count, since the library has no heap.
 #[derive(Clone, Copy)]
 pub struct Begun {
-    pub answer: BeginAnswer,
+    pub answer: Result<Recovery, Refusal>,
     pub session: Session,
     pub tokens: [u64; 128],
     pub count: u64,
@@ -25,16 +20,9 @@ pub struct Begun {
 
 // What the backend says of a recovery beside its lists: whether the endpoint may be used again, and what went wrong on the way.
 #[derive(Clone, Copy)]
-pub struct Outcome {
+pub struct BackendAbort {
     pub restart_ready: bool,
-    pub error: OptionError,
-}
-
-// The backend's reply to a recovery. What it completed and aborted is lent beside it.
-#[derive(Clone, Copy)]
-pub enum RecoveryReply {
-    Error(OperationError),
-    Done(Outcome),
+    pub error: Option<OperationError>,
 }
 
 // How many requests were completed and aborted; their ids stand beside the answer.
@@ -46,13 +34,7 @@ pub struct AbortReport {
     pub completed: u64,
     pub aborted: u64,
     pub restart_ready: bool,
-    pub error: OptionError,
-}
-
-#[derive(Clone, Copy)]
-pub enum RecoveryAnswer {
-    Refused(Refusal),
-    Report(AbortReport),
+    pub error: Option<OperationError>,
 }
 
 // The ids of completed and of aborted requests, in the order of the reply; places past their number are 0.
@@ -64,7 +46,7 @@ pub struct Ids {
 
 #[derive(Clone, Copy)]
 pub struct Recovered {
-    pub answer: RecoveryAnswer,
+    pub answer: Result<AbortReport, Refusal>,
     pub session: Session,
     pub ids: Ids,
 }
@@ -72,7 +54,7 @@ pub struct Recovered {
 // A recovery's result by row index: completed rows first, then aborted ones; the rest, and all of a refusal's, are 0.
 #[derive(Clone, Copy)]
 pub struct Replied {
-    pub answer: RecoveryAnswer,
+    pub answer: Result<AbortReport, Refusal>,
     pub session: Session,
     pub places: [usize; 128],
 }

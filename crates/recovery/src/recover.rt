@@ -1,5 +1,6 @@
 // A recovery's start: abort, or reset of an endpoint.
 ghost use Rattle.std.specs.Prelude.{◌≡◌};
+ghost use Rattle.models.specs.Causes.{number_of};
 ghost use Rattle.models.specs.Refusals.{refusal_of};
 ghost use Rattle.models.specs.Said.{Tabled};
 ghost use Rattle.session.specs.declared.RecoveryKind.TheVariants as RecoveryKind;
@@ -8,10 +9,9 @@ ghost use Rattle.recovery.specs.Said.{begin_said, recover_numbers};
 ghost use Rattle.rows.specs.Store.{store_of};
 ghost use Rattle.rows.specs.Table.{read_rows};
 
-use crate::{BeginAnswer, Begun};
-use chain::Found;
+use crate::Begun;
 use ledger::search;
-use models::{Refusal, RequestId, Verdict};
+use models::{Cause, Refusal, RequestId};
 use rows::Row;
 use scope::affected;
 use session::{InFlight, Recovery, RecoveryKind, Session, start};
@@ -20,17 +20,17 @@ fn refused(session: Session, refusal: Refusal) -> Begun
     ensures { result ≡ begin_refused session refusal }
 {
     Begun {
-        answer: BeginAnswer::Refused(refusal),
+        answer: Err(refusal),
         session,
         tokens: [0; 128],
         count: 0,
     }
 }
 
-fn refused_by(session: Session, number: u16) -> Begun
-    ensures { result ≡ begin_refused session (refusal_of number) }
+fn refused_by(session: Session, cause: Cause) -> Begun
+    ensures { result ≡ begin_refused session (refusal_of (number_of cause)) }
 {
-    refused(session, models::refuse(number))
+    refused(session, models::refuse(cause))
 }
 
 fn recovery_of(id: RequestId, kind: RecoveryKind, row: Row) -> Recovery
@@ -54,7 +54,7 @@ fn begin(session: Session, rows: &[u64], recovery: Recovery) -> Begun
     let mut list = [0usize; 128];
     let count = affected::collect(rows, &mut list, device, recovery.endpoint);
     Begun {
-        answer: BeginAnswer::Recover(recovery),
+        answer: Ok(recovery),
         session: session::with_flight(session, InFlight::Recovery(recovery)),
         tokens: affected::tokens_of(rows, &list[..count]),
         count: count as u64,
@@ -68,10 +68,10 @@ fn begin_row(session: Session, rows: &[u64], row: Row, id: RequestId, kind: Reco
     let state = row.state;
     let controller = session.state;
     if !models::device_may_access(state) {
-        return refused_by(session, 43);
+        return refused_by(session, Cause::NotHeld);
     }
     if !session::may_recover(controller) {
-        return refused_by(session, 44);
+        return refused_by(session, Cause::NotRecoverable);
     }
     let recovery = recovery_of(id, kind, row);
     begin(session, rows, recovery)
@@ -84,11 +84,11 @@ fn begin_recovery(session: Session, rows: &[u64], id: RequestId, kind: RecoveryK
 {
     let verdict = start::rows_ready(session, rows.len());
     match verdict {
-        Verdict::Refused(refusal) => refused(session, refusal),
-        Verdict::Pass => {
+        Err(refusal) => refused(session, refusal),
+        Ok(()) => {
             let found = search::find(rows, id);
-            let Found::At(i) = found else {
-                return refused_by(session, 40);
+            let Some(i) = found else {
+                return refused_by(session, Cause::UnknownRequest);
             };
             let row = rows::read_row(rows, i);
             begin_row(session, rows, row, id, kind)

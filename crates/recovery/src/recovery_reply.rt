@@ -1,7 +1,8 @@
 // The backend's reply to a recovery.
-ghost use Rattle.std.specs.Prelude.{◌≡◌, ◌+◌, ◌≤◌, length, take, drop};
+ghost use Rattle.std.specs.Prelude.{◌≡◌, ◌+◌, ◌≤◌, length, take, drop, Ok};
 ghost use Rattle.chain.specs.After.{after};
 ghost use Rattle.chain.specs.Lists.{listed};
+ghost use Rattle.models.specs.Causes.{number_of};
 ghost use Rattle.models.specs.Refusals.{refusal_of};
 ghost use Rattle.models.specs.Requests.{no_id};
 ghost use Rattle.models.specs.Said.{Tabled};
@@ -9,91 +10,73 @@ ghost use Rattle.scope.specs.Scope.{meant};
 ghost use Rattle.session.specs.Lent.{memory_of};
 ghost use Rattle.recovery.specs.Entries.{itself};
 ghost use Rattle.recovery.specs.Places.{Below, Fit, Places, Agree};
-ghost use Rattle.recovery.specs.declared.RecoveryReply.TheVariants as RecoveryReply;
 ghost use Rattle.recovery.specs.Reports.{ids_of, id_lists, many_in, filled, with_ids};
-ghost use Rattle.recovery.specs.RecoveryReply.{reply_lists, apply_all, is_whole, is_revision, matching, restored_by, reset_by, session_after, refused_after, abort_report, recovery_refused, concluded_by, settled_of, done_of, reply_by, reply_sized, recovery_reply_of};
+ghost use Rattle.recovery.specs.RecoveryReply.{reply_lists, apply_all, is_whole, matching, restored_by, reset_by, session_after, refused_after, abort_report, recovery_refused, concluded_by, settled_of, done_of, reply_by, reply_sized, recovery_reply_of};
 ghost use Rattle.recovery.specs.Said.{recovery_said, recovery_reply_numbers};
 ghost use Rattle.rows.specs.Table.{read_rows};
 
-use crate::{
-    AbortReport, Ids, Outcome, Recovered, RecoveryAnswer, RecoveryReply, Replied, entries,
-};
-use checks::completion;
+use crate::{AbortReport, BackendAbort, Ids, Recovered, Replied, entries};
 use ledger::search;
-use models::{ControllerState, Refusal, RequestId, Verdict};
+use models::{Cause, ControllerState, OperationError, Refusal, RequestId};
 use rows::columns;
 use scope::{affected, returned, tokens};
-use session::{
-    InFlight, OptionStall, RecoverableStall, Recovery, RecoveryKind, Session, Size, sizes,
-};
-use words::{OptionU64, slices};
+use session::{InFlight, RecoverableStall, Recovery, RecoveryKind, Session, Size, sizes};
 
 // A recovery whose reply is in: the session without it, the recovery, and what the backend says.
 #[derive(Clone, Copy)]
 pub struct Ended {
     pub idle: Session,
     pub recovery: Recovery,
-    pub outcome: Outcome,
+    pub outcome: BackendAbort,
 }
 
 fn refused(session: Session, refusal: Refusal) -> Replied
     ensures { result ≡ recovery_refused session refusal }
 {
     Replied {
-        answer: RecoveryAnswer::Refused(refusal),
+        answer: Err(refusal),
         session,
         places: [0; 128],
     }
 }
 
-fn refused_by(session: Session, number: u16) -> Replied
-    ensures { result ≡ recovery_refused session (refusal_of number) }
+fn refused_by(session: Session, cause: Cause) -> Replied
+    ensures { result ≡ recovery_refused session (refusal_of (number_of cause)) }
 {
-    refused(session, models::refuse(number))
+    refused(session, models::refuse(cause))
 }
 
 // Ready, and without an error.
-fn is_whole(o: Outcome) -> bool
+fn is_whole(o: BackendAbort) -> bool
     ensures { result ≡ is_whole o }
 {
-    let error = o.error;
-    let failed = completion::has_error(error);
-    o.restart_ready & !failed
-}
-
-fn is_revision(revision: OptionU64, n: u64) -> bool
-    ensures { result ≡ is_revision revision n }
-{
-    let OptionU64::Some(m) = revision else {
-        return false;
-    };
-    m == n
+    o.restart_ready & o.error.is_none()
 }
 
 // The stall is that of the recovery's device and endpoint, no row is in doubt, and the revision is the stall's.
 fn matches(note: RecoverableStall, recovery: Recovery, certain: bool, session: Session) -> bool
     ensures { result ≡ matching note recovery certain session }
 {
-    let own = note.device;
-    let device = recovery.device;
-    let revision = session.recovery_revision;
-    let same = models::same_device(own, device);
-    let current = is_revision(revision, note.revision);
-    same & (note.endpoint == recovery.endpoint) & certain & current
+    note.device == recovery.device
+        && note.endpoint == recovery.endpoint
+        && certain
+        && session.recovery_revision == Some(note.revision)
 }
 
 // A reset takes the stall; where it matches, the controller is Initialized again.
 fn restore(recovery: Recovery, certain: bool, session: Session) -> Session
     ensures { result ≡ restored_by session.recoverable_stall recovery certain session }
 {
-    let stall = session.recoverable_stall;
-    let revision = session.recovery_revision;
-    let taken = session::with_stall(session, OptionStall::None);
-    let OptionStall::Some(note) = stall else {
+    let taken = session::with_stall(session, None);
+    let Some(note) = session.recoverable_stall else {
         return taken;
     };
     if matches(note, recovery, certain, session) {
-        return session::with_state(taken, ControllerState::Initialized, revision);
+        return session::with_state(
+            taken,
+            ControllerState::Initialized,
+            session.recovery_revision,
+        );
     }
     taken
 }
@@ -124,7 +107,7 @@ fn session_after(ended: Ended, rows: &[u64]) -> Session
     reset(recovery, rows, idle)
 }
 
-// A refusal by 48 marks recovery; those by 47 and 41 do not.
+// A refusal by 48 marks recovery; those by 47 and 41 do not. By its number, as `refused_after` has it: a refusal may come from any caller.
 fn refused_after(refusal: Refusal, idle: Session) -> Session
     ensures { result ≡ refused_after refusal idle }
 {
@@ -156,13 +139,9 @@ fn report_of(ended: Ended, completed: u64, aborted: u64) -> AbortReport
 fn ids_of(rows: &[u64], places: &[usize]) -> [RequestId; 128]
     ensures { result ≡ listed 128 no_id (ids_of (read_rows rows.now) places.now) }
 {
-    let n = slices::least(places.len(), 128);
-    let none = models::no_id();
-    let mut ids = [none; 128];
-    let mut k = 0;
-    while k < n {
+    let mut ids = [RequestId::default(); 128];
+    for k in 0..places.len().min(128) {
         ids[k] = columns::id_in(rows, places[k]);
-        k += 1;
     }
     ids
 }
@@ -176,22 +155,19 @@ fn apply_all(
     n: usize,
     completions: &[u64],
     bytes: &[u8],
-) -> Verdict
+) -> Result<(), Refusal>
     requires { (n ≤ length places.now) × Places size rows.old area.old (take n places.now)
         × Below rows.old (drop n places.now) × Agree (take n places.now) completions.now bytes.now }
     ensures { after result (memory_of rows.new area.new) ≡ apply_all size itself (reply_lists (take n places.now)
         completions.now (drop n places.now) bytes.now) (memory_of rows.old area.old) }
 {
-    let verdict = entries::complete_all(rows, area, size, &places[..n], completions, bytes);
-    let Verdict::Pass = verdict else {
-        return verdict;
-    };
+    entries::complete_all(rows, area, size, &places[..n], completions, bytes)?;
     entries::abort_all(rows, &places[n..])
 }
 
 // The refusal of an entry, or the report with the places of its rows.
 fn conclude(
-    verdict: Verdict,
+    verdict: Result<(), Refusal>,
     ended: Ended,
     rows: &[u64],
     report: AbortReport,
@@ -201,9 +177,9 @@ fn conclude(
 {
     let idle = ended.idle;
     match verdict {
-        Verdict::Refused(refusal) => refused(refused_after(refusal, idle), refusal),
-        Verdict::Pass => Replied {
-            answer: RecoveryAnswer::Report(report),
+        Err(refusal) => refused(refused_after(refusal, idle), refusal),
+        Ok(()) => Replied {
+            answer: Ok(report),
             session: session_after(ended, rows),
             places,
         },
@@ -262,7 +238,7 @@ fn reply_affected(
     let outcome = ended.outcome;
     let whole = is_whole(outcome);
     if !tokens::in_scope(whole, own, tokens, aborted) {
-        return refused_by(session::mark(idle), 46);
+        return refused_by(session::mark(idle), Cause::WrongTokens);
     }
     settle(
         ended,
@@ -289,7 +265,7 @@ fn reply_done(
 ) -> Replied
     requires { Fit ended.idle.size rows.old area.old × Agree tokens.now completions.now bytes.now }
     ensures { after result (memory_of rows.new area.new)
-        ≡ reply_by (RecoveryReply.Done ended.outcome) ended.recovery (reply_lists tokens.now completions.now aborted.now bytes.now)
+        ≡ reply_by (Ok ended.outcome) ended.recovery (reply_lists tokens.now completions.now aborted.now bytes.now)
         ended.idle (memory_of rows.old area.old) }
 {
     let recovery = ended.recovery;
@@ -316,7 +292,7 @@ fn reply_to(
     rows: &mut [u64],
     area: &mut [u8],
     recovery: Recovery,
-    reply: RecoveryReply,
+    reply: Result<BackendAbort, OperationError>,
     tokens: &[u64],
     completions: &[u64],
     aborted: &[u64],
@@ -327,10 +303,13 @@ fn reply_to(
         ≡ reply_by reply recovery (reply_lists tokens.now completions.now aborted.now bytes.now) idle (memory_of rows.old area.old) }
 {
     match reply {
-        RecoveryReply::Error(error) => {
-            refused(session::mark(idle), models::refuse_backend(45, error))
+        Err(error) => {
+            refused(
+                session::mark(idle),
+                models::refuse_backend(Cause::BackendError, error),
+            )
         }
-        RecoveryReply::Done(outcome) => {
+        Ok(outcome) => {
             let ended = Ended {
                 idle,
                 recovery,
@@ -347,7 +326,7 @@ fn reply_sized(
     rows: &mut [u64],
     area: &mut [u8],
     recovery: Recovery,
-    reply: RecoveryReply,
+    reply: Result<BackendAbort, OperationError>,
     tokens: &[u64],
     completions: &[u64],
     aborted: &[u64],
@@ -358,10 +337,10 @@ fn reply_sized(
 {
     let size = session.size;
     if !sizes::memory_fits(size, rows.len(), area.len()) {
-        return refused_by(session, 3);
+        return refused_by(session, Cause::WrongSize);
     }
     if !returned::lists_agree(tokens, completions, bytes.len()) {
-        return refused_by(session, 49);
+        return refused_by(session, Cause::ListsDisagree);
     }
     let idle = session::with_flight(session, InFlight::Nothing);
     reply_to(
@@ -382,7 +361,7 @@ pub fn reply_by_places(
     session: Session,
     rows: &mut [u64],
     area: &mut [u8],
-    reply: RecoveryReply,
+    reply: Result<BackendAbort, OperationError>,
     tokens: &[u64],
     completions: &[u64],
     aborted: &[u64],
@@ -394,9 +373,9 @@ pub fn reply_by_places(
 {
     let flight = session.in_flight;
     match flight {
-        InFlight::Nothing => refused_by(session, 2),
-        InFlight::Submission(_) => refused_by(session, 2),
-        InFlight::Poll(_) => refused_by(session, 2),
+        InFlight::Nothing => refused_by(session, Cause::NothingWaits),
+        InFlight::Submission(_) => refused_by(session, Cause::NothingWaits),
+        InFlight::Poll(_) => refused_by(session, Cause::NothingWaits),
         InFlight::Recovery(recovery) => reply_sized(
             session,
             rows,
@@ -431,12 +410,12 @@ fn fill(rows: &[u64], replied: Replied) -> Recovered
     let session = replied.session;
     let places = replied.places;
     match answer {
-        RecoveryAnswer::Refused(_) => Recovered {
+        Err(_) => Recovered {
             answer,
             session,
             ids: ids_at(rows, places, 0, 0),
         },
-        RecoveryAnswer::Report(report) => {
+        Ok(report) => {
             let ids = ids_at(
                 rows,
                 places,
@@ -444,7 +423,7 @@ fn fill(rows: &[u64], replied: Replied) -> Recovered
                 report.aborted as usize,
             );
             Recovered {
-                answer: RecoveryAnswer::Report(report),
+                answer: Ok(report),
                 session,
                 ids,
             }
@@ -457,7 +436,7 @@ pub fn recovery_reply(
     session: Session,
     rows: &mut [u64],
     area: &mut [u8],
-    reply: RecoveryReply,
+    reply: Result<BackendAbort, OperationError>,
     tokens: &[u64],
     completions: &[u64],
     aborted: &[u64],

@@ -6,7 +6,6 @@
 
 use std::io;
 use std::io::{Read, Write};
-use texts::parse::Count;
 use texts::{answers, input, parse, print};
 use words::slices::word_at;
 
@@ -54,11 +53,8 @@ fn replay<W: Write>(
     rows: &mut [u64],
     area: &mut [u8],
 ) -> io::Result<()> {
-    let mut at = 0;
-    while at < text.len() {
-        let end = parse::find(text, at, b'\n');
-        run_line(out, &text[at..end], session, bus, rows, area)?;
-        at = end + 1;
+    for line in text.split(|b| *b == b'\n') {
+        run_line(out, line, session, bus, rows, area)?;
     }
     Ok(())
 }
@@ -71,16 +67,11 @@ fn run_line<W: Write>(
     rows: &mut [u64],
     area: &mut [u8],
 ) -> io::Result<()> {
-    if line.len() == 0 {
-        return Ok(());
+    match line.first() {
+        None | Some(b'#') => Ok(()),
+        Some(b'=') => show_state(out, session, bus, rows, area),
+        _ => run_call(out, line, session, bus, rows, area),
     }
-    if line[0] == b'#' {
-        return Ok(());
-    }
-    if line[0] == b'=' {
-        return show_state(out, session, bus, rows, area);
-    }
-    run_call(out, line, session, bus, rows, area)
 }
 
 fn bad_line<W: Write>(out: &mut W) -> io::Result<()> {
@@ -97,10 +88,10 @@ fn run_call<W: Write>(
 ) -> io::Result<()> {
     let mut call = [0u64; 2048];
     let mut bytes = [0u8; 4096];
-    let Count::Of(words) = parse::words(line, &mut call) else {
+    let Some(words) = parse::words(line, &mut call) else {
         return bad_line(out);
     };
-    let Count::Of(given) = parse::bytes(line, &mut bytes) else {
+    let Some(given) = parse::bytes(line, &mut bytes) else {
         return bad_line(out);
     };
     answer(

@@ -1,72 +1,66 @@
 -- What reports, tallies and changes refuse is of the table. Assumes nothing.
+use Rattle.std.specs.Prelude.{Option, Some, None, Result, Ok, Err}
 use Prim.Native.Nat.{ℕ}
 use mathlib.Core.Bool.{true}
-use mathlib.Core.List.{List, [], ◌∷◌}
+use mathlib.Core.List.{List, ◌∷◌}
 use mathlib.Core.Path.{◌≡◌, refl}
 use Rattle.chain.specs.After.{After, after}
-use Rattle.chain.specs.declared.{Found.Found}
 use Rattle.chain.specs.Lists.{is_among, all_in}
 use Rattle.chain.proofs.Chain.{both, if_all}
 use Rattle.models.specs.Said.{Tabled}
-use Rattle.models.specs.declared.{RequestId.RequestId}
+use Rattle.models.specs.declared.{Refusal.Refusal, RequestId.RequestId, RequestReport.RequestReport}
 use Rattle.models.proofs.Said.{tabled_says, tabled_own, tabled_in, said_of}
 use Rattle.rows.specs.Store.{Store}
 use Rattle.rows.specs.declared.{Row.Row}
 use Rattle.rules.specs.declared.{Change.Change}
 use Rattle.ledger.specs.Apply.{apply_of}
 use Rattle.ledger.specs.Said.{applied_said, apply_numbers}
-use Rattle.ledger.specs.declared.{Applied.Applied}
 use Rattle.ledger.proofs.Said.{apply_tabled}
-use Rattle.session.specs.declared.{InFlight.InFlight, Session.Session}
+use Rattle.session.specs.declared.{Called.Called, Session.Session}
 use Rattle.session.proofs.Said.{guarded_all}
 use Rattle.reports.specs.Change.{reported_by, change_of}
 use Rattle.reports.specs.Said.{report_said, next_said, tally_said, part_said, status_numbers, tally_numbers}
-use Rattle.reports.specs.Status.{shown_at, status_by, status_of, better, best_from, next_of, shown_count, part_by, completed_part, held_count_of, tally_of, held_bytes_of}
-use Rattle.reports.specs.declared.{HeldAnswer.HeldAnswer, NextReport.NextReport, OptionId.OptionId, PartAnswer.PartAnswer, ReportAnswer.ReportAnswer, Reported.Reported, Tally.Tally}
+use Rattle.reports.specs.Status.{shown_at, status_by, status_of, next_of, shown_count, part_by, completed_part, held_count_of, tally_of, held_bytes_of}
+use Rattle.reports.specs.declared.{Part.Part}
 
 -- ---- a report by id
-abbrev Shows : ReportAnswer → Type 0
+abbrev Shows : Result RequestReport Refusal → Type 0
 Shows x = Tabled status_numbers (report_said x)
 
-status_by_lem : (f : Found) (rows : List Row) → Shows (status_by f rows)
+status_by_lem : (f : Option ℕ) (rows : List Row) → Shows (status_by f rows)
 unfolding status_by
-status_by_lem Found.Nothing rows = tabled_own _ 40 refl
-status_by_lem (Found.At i) rows = tabled_says _ _
+status_by_lem None rows = tabled_own _ 40 refl
+status_by_lem (Some i) rows = tabled_says _ _
 
 module _ (id : RequestId) (s : Session) (store : Store) where
   pub status_tabled : Tabled status_numbers (report_said (status_of id s store))
   unfolding status_of
   status_tabled = if_all Shows _ _ _ (tabled_own _ 3 refl) (status_by_lem (shown_at s.in_flight id store.rows) store.rows)
 
-  pub status_said : (x : ReportAnswer) → x ≡ status_of id s store → (x ≡ status_of id s store) × Tabled status_numbers (report_said x)
+  pub status_said : (x : Result RequestReport Refusal) → x ≡ status_of id s store → (x ≡ status_of id s store) × Tabled status_numbers (report_said x)
   status_said x e = said_of Shows _ _ e status_tabled
 
 -- ---- the next one
-abbrev Nexts : NextReport → Type 0
+abbrev Nexts : Result (Option RequestReport) Refusal → Type 0
 Nexts x = Tabled tally_numbers (next_said x)
 
-module _ (f : InFlight) (o : OptionId) where
-  better_tabled : (best : NextReport) (row : Row) → Nexts best → Nexts (better f o best row)
-  unfolding better
-  better_tabled best row h = if_all Nexts _ _ _ (tabled_says _ _) h
+best_tabled : (best : Option RequestReport) → Nexts (Ok best)
+best_tabled None = tabled_says _ _
+best_tabled (Some x) = tabled_says _ _
 
-  best_tabled : (rows : List Row) (best : NextReport) → Nexts best → Nexts (best_from f o best rows)
-  best_tabled [] best h = h
-  best_tabled (row ∷ rows) best h = best_tabled rows (better f o best row) (better_tabled best row h)
-
-module _ (o : OptionId) (s : Session) (store : Store) where
+module _ (o : Option RequestId) (s : Session) (store : Store) where
   pub next_tabled : Tabled tally_numbers (next_said (next_of o s store))
   unfolding next_of
-  next_tabled = if_all Nexts _ _ _ (tabled_own _ 3 refl) (best_tabled s.in_flight o store.rows NextReport.None (tabled_says _ _))
+  next_tabled = if_all Nexts _ _ _ (tabled_own _ 3 refl) (best_tabled _)
 
-  pub next_said_lem : (x : NextReport) → x ≡ next_of o s store → (x ≡ next_of o s store) × Tabled tally_numbers (next_said x)
+  pub next_said_lem : (x : Result (Option RequestReport) Refusal) → x ≡ next_of o s store → (x ≡ next_of o s store) × Tabled tally_numbers (next_said x)
   next_said_lem x e = said_of Nexts _ _ e next_tabled
 
 -- ---- the tallies
-abbrev Tallies : Tally → Type 0
+abbrev Tallies : Result ℕ Refusal → Type 0
 Tallies x = Tabled tally_numbers (tally_said x)
 
-abbrev Counts : HeldAnswer → Type 0
+abbrev Counts : Result ℕ Refusal → Type 0
 Counts x = Tallies (tally_of x)
 
 module _ (s : Session) (store : Store) where
@@ -82,38 +76,38 @@ module _ (s : Session) (store : Store) where
   unfolding held_bytes_of
   held_bytes_tabled = if_all Tallies _ _ _ (tabled_own _ 3 refl) (tabled_says _ _)
 
-  pub shown_said : (x : Tally) → x ≡ shown_count s store → (x ≡ shown_count s store) × Tabled tally_numbers (tally_said x)
+  pub shown_said : (x : Result ℕ Refusal) → x ≡ shown_count s store → (x ≡ shown_count s store) × Tabled tally_numbers (tally_said x)
   shown_said x e = said_of Tallies _ _ e shown_tabled
 
-  pub held_count_said : (x : HeldAnswer) → x ≡ held_count_of s store → (x ≡ held_count_of s store) × Tabled tally_numbers (tally_said (tally_of x))
+  pub held_count_said : (x : Result ℕ Refusal) → x ≡ held_count_of s store → (x ≡ held_count_of s store) × Tabled tally_numbers (tally_said (tally_of x))
   held_count_said x e = said_of Counts _ _ e held_count_tabled
 
-  pub held_bytes_said : (x : Tally) → x ≡ held_bytes_of s store → (x ≡ held_bytes_of s store) × Tabled tally_numbers (tally_said x)
+  pub held_bytes_said : (x : Result ℕ Refusal) → x ≡ held_bytes_of s store → (x ≡ held_bytes_of s store) × Tabled tally_numbers (tally_said x)
   held_bytes_said x e = said_of Tallies _ _ e held_bytes_tabled
 
 -- ---- completed bytes
-abbrev Parts : PartAnswer → Type 0
+abbrev Parts : Result Part Refusal → Type 0
 Parts x = Tabled status_numbers (part_said x)
 
-part_by_lem : (f : Found) (room : ℕ) (rows : List Row) → Parts (part_by f room rows)
+part_by_lem : (f : Option ℕ) (room : ℕ) (rows : List Row) → Parts (part_by f room rows)
 unfolding part_by
-part_by_lem Found.Nothing room rows = tabled_own _ 40 refl
-part_by_lem (Found.At i) room rows = tabled_says _ _
+part_by_lem None room rows = tabled_own _ 40 refl
+part_by_lem (Some i) room rows = tabled_says _ _
 
 module _ (id : RequestId) (size : ℕ) (s : Session) (store : Store) where
   pub part_tabled : Tabled status_numbers (part_said (completed_part id size s store))
   unfolding completed_part
   part_tabled = if_all Parts _ _ _ (tabled_own _ 3 refl) (part_by_lem (shown_at s.in_flight id store.rows) s.size.row_bytes store.rows)
 
-  pub part_said_lem : (x : PartAnswer) → x ≡ completed_part id size s store → (x ≡ completed_part id size s store) × Tabled status_numbers (part_said x)
+  pub part_said_lem : (x : Result Part Refusal) → x ≡ completed_part id size s store → (x ≡ completed_part id size s store) × Tabled status_numbers (part_said x)
   part_said_lem x e = said_of Parts _ _ e part_tabled
 
 -- ---- cancel, its withdrawal, timeout and reclaim: 1, 3, and the ledger's numbers of the change, all in ns
 module _ (ns : List ℕ) (c : Change) (all : all_in (1 ∷ 3 ∷ apply_numbers c) ns ≡ true) where
-  reported_by_lem : (x : Applied) → Tabled ns (applied_said x) → (s : Session) → Tabled ns (report_said (reported_by x s).answer)
+  reported_by_lem : (x : Result RequestReport Refusal) → Tabled ns (applied_said x) → (s : Session) → Tabled ns (report_said (reported_by x s).answer)
   unfolding reported_by
-  reported_by_lem (Applied.Refused r) h s = h
-  reported_by_lem (Applied.Done x) h s = h
+  reported_by_lem (Err r) h s = h
+  reported_by_lem (Ok x) h s = h
 
   module _ (id : RequestId) (s : Session) (store : Store) where
     pub change_tabled : Tabled ns (report_said (change_of id c s store).result.answer)
@@ -121,9 +115,9 @@ module _ (ns : List ℕ) (c : Change) (all : all_in (1 ∷ 3 ∷ apply_numbers c
     change_tabled =
         let one = both (is_among 1 ns) _ all in
         let three = both (is_among 3 ns) _ one.1 in
-        guarded_all (λ (o : After Reported Store). Tabled ns (report_said o.result.answer)) s _ _ _ (tabled_own ns 1 one.0) (tabled_own ns 3 three.0)
+        guarded_all (λ (o : After (Called RequestReport) Store). Tabled ns (report_said o.result.answer)) s _ _ _ (tabled_own ns 1 one.0) (tabled_own ns 3 three.0)
         (reported_by_lem (apply_of id c store).result (tabled_in ns (apply_numbers c) three.1 _ (apply_tabled c store id)) s)
 
-    pub change_said : (x : Reported) (left : Store) → after x left ≡ change_of id c s store
+    pub change_said : (x : Called RequestReport) (left : Store) → after x left ≡ change_of id c s store
         → (after x left ≡ change_of id c s store) × Tabled ns (report_said x.answer)
-    change_said x left e = said_of (λ (o : After Reported Store). Tabled ns (report_said o.result.answer)) _ _ e change_tabled
+    change_said x left e = said_of (λ (o : After (Called RequestReport) Store). Tabled ns (report_said o.result.answer)) _ _ e change_tabled

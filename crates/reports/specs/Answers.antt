@@ -1,10 +1,9 @@
 -- What several calls answer, and what a backend's error does (document 01, "Request row"). Assumes nothing.
-use Rattle.std.specs.Prelude.{Bool, true, false}
+use Rattle.std.specs.Prelude.{Bool, true, false, Err}
 use Rattle.chain.specs.Chain.{◌if◌else◌}
-use Rattle.models.specs.declared.{ErrorCategory.ErrorCategory, OperationError.OperationError, Refusal.Refusal}
+use Rattle.models.specs.declared.{ErrorCategory.ErrorCategory, OperationError.OperationError, Refusal.Refusal, RequestReport.RequestReport}
 use Rattle.session.specs.Session.{marked}
-use Rattle.session.specs.declared.{Session.Session}
-use Rattle.reports.specs.declared.{ReportAnswer.ReportAnswer, Reported.Reported}
+use Rattle.session.specs.declared.{Called.Called, Session.Session}
 
 -- a backend's error of a category other than Validation or Unsupported marks recovery
 abbrev pub is_mild : ErrorCategory → Bool
@@ -18,6 +17,3 @@ is_mild ErrorCategory.RecoveryRequired = false
 
 unfoldable pub effect : OperationError → Session → Session
 effect e s = s if is_mild e.category else marked s
-
-abbrev pub report_refused : Session → Refusal → Reported
-report_refused s r = record { answer = ReportAnswer.Refused r; session = s }

@@ -1,33 +1,29 @@
 -- What reports, tallies and changes answer, and the numbers that they are refused by. Assumes nothing.
-use Rattle.std.specs.Prelude.{ℕ, List, [], ◌∷◌}
-use Rattle.models.specs.Said.{Said, says, refused}
+use Rattle.std.specs.Prelude.{ℕ, List, [], ◌∷◌, Result, Ok, Err, Option, Some, None}
+use Rattle.models.specs.Said.{Said, says, said_by}
 use Rattle.rows.specs.Values.{report_values}
-use Rattle.reports.specs.declared.{NextReport.NextReport, Part.Part, PartAnswer.PartAnswer, ReportAnswer.ReportAnswer, Tally.Tally}
+use Rattle.reports.specs.declared.{Part.Part}
+use Rattle.models.specs.declared.{Refusal.Refusal, RequestReport.RequestReport}
 
-abbrev pub report_said : ReportAnswer → Said
-report_said (ReportAnswer.Refused r) = refused r
-report_said (ReportAnswer.Report x) = says (report_values x)
+abbrev pub report_said : Result RequestReport Refusal → Said
+report_said = said_by report_values
 
 -- where the reports end there is no value
-abbrev pub next_said : NextReport → Said
-next_said (NextReport.Refused r) = refused r
-next_said NextReport.None = says []
-next_said (NextReport.Report x) = says (report_values x)
+abbrev pub next_values : Option RequestReport → List ℕ
+next_values None = []
+next_values (Some x) = report_values x
 
-abbrev pub tally_said : Tally → Said
-tally_said (Tally.Refused r) = refused r
-tally_said (Tally.Number n) = says (n ∷ [])
+abbrev pub next_said : Result (Option RequestReport) Refusal → Said
+next_said = said_by next_values
+
+abbrev pub tally_said : Result ℕ Refusal → Said
+tally_said = said_by (λ n. n ∷ [])
 
 abbrev pub part_values : Part → List ℕ
 part_values p = p.start ∷ p.length ∷ []
 
-abbrev pub part_said : PartAnswer → Said
-part_said (PartAnswer.Refused r) = refused r
-part_said (PartAnswer.Part p) = says (part_values p)
-
--- the lent form has the number alone
-abbrev pub part_number : PartAnswer → ℕ
-part_number a = (part_said a).number
+abbrev pub part_said : Result Part Refusal → Said
+part_said = said_by part_values
 
 -- a report by id, and completed bytes
 abbrev pub status_numbers : List ℕ

@@ -1,9 +1,7 @@
 // What several calls answer, and what a backend's error does.
 ghost use Rattle.std.specs.Prelude.{◌≡◌};
-ghost use Rattle.models.specs.Refusals.{refusal_of};
-ghost use Rattle.reports.specs.Answers.{is_mild, effect, report_refused};
+ghost use Rattle.reports.specs.Answers.{is_mild, effect};
 
-use crate::{ReportAnswer, Reported};
 use models::{ErrorCategory, OperationError, Refusal};
 use session::Session;
 
@@ -11,15 +9,7 @@ use session::Session;
 pub fn is_mild(c: ErrorCategory) -> bool
     ensures { result ≡ is_mild c }
 {
-    match c {
-        ErrorCategory::Validation => true,
-        ErrorCategory::Unsupported => true,
-        ErrorCategory::OperatingSystem => false,
-        ErrorCategory::Controller => false,
-        ErrorCategory::Timeout => false,
-        ErrorCategory::Disconnect => false,
-        ErrorCategory::RecoveryRequired => false,
-    }
+    matches!(c, ErrorCategory::Validation | ErrorCategory::Unsupported)
 }
 
 // A backend's error of a category other than Validation or Unsupported marks recovery.
@@ -31,19 +21,4 @@ pub fn take_effect(session: Session, error: OperationError) -> Session
         return session;
     }
     session::mark(session)
-}
-
-pub fn refused(session: Session, refusal: Refusal) -> Reported
-    ensures { result ≡ report_refused session refusal }
-{
-    Reported {
-        answer: ReportAnswer::Refused(refusal),
-        session,
-    }
-}
-
-pub fn refused_by(session: Session, number: u16) -> Reported
-    ensures { result ≡ report_refused session (refusal_of number) }
-{
-    refused(session, models::refuse(number))
 }

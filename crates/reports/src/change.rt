@@ -8,38 +8,46 @@ ghost use Rattle.reports.specs.Change.{reported_by, change_of};
 ghost use Rattle.reports.specs.Said.{report_said, cancel_numbers, withdraw_numbers, reclaim_numbers};
 ghost use Rattle.rows.specs.Store.{store_of};
 
-use crate::{ReportAnswer, Reported, answers};
-use ledger::Applied;
-use models::{RequestId, Verdict};
+use crate::answers;
+use models::{Refusal, RequestId, RequestReport};
 use rules::Change;
-use session::{Session, start};
+use session::{Called, Session, start};
 
-fn reported(applied: Applied, session: Session) -> Reported
+fn reported(applied: Result<RequestReport, Refusal>, session: Session) -> Called<RequestReport>
     ensures { result ≡ reported_by applied session }
 {
     match applied {
-        Applied::Refused(refusal) => answers::refused(session, refusal),
-        Applied::Done(report) => Reported {
-            answer: ReportAnswer::Report(report),
+        Err(refusal) => Called::refused(session, refusal),
+        Ok(report) => Called {
+            answer: Ok(report),
             session,
         },
     }
 }
 
-fn change_request(session: Session, rows: &mut [u64], id: RequestId, change: Change) -> Reported
+fn change_request(
+    session: Session,
+    rows: &mut [u64],
+    id: RequestId,
+    change: Change,
+) -> Called<RequestReport>
     ensures { after result (store_of rows.new) ≡ change_of id change session (store_of rows.old) }
 {
     let verdict = start::rows_ready(session, rows.len());
     match verdict {
-        Verdict::Refused(refusal) => answers::refused(session, refusal),
-        Verdict::Pass => {
+        Err(refusal) => Called::refused(session, refusal),
+        Ok(()) => {
             let applied = ledger::apply(rows, id, change);
             reported(applied, session)
         }
     }
 }
 
-pub fn logical_cancel_request(session: Session, rows: &mut [u64], id: RequestId) -> Reported
+pub fn logical_cancel_request(
+    session: Session,
+    rows: &mut [u64],
+    id: RequestId,
+) -> Called<RequestReport>
     ensures step { after result (store_of rows.new) ≡ change_of id Change.LogicalCancel session (store_of rows.old) }
     ensures table { Tabled cancel_numbers (report_said result.answer) }
 {
@@ -47,14 +55,18 @@ pub fn logical_cancel_request(session: Session, rows: &mut [u64], id: RequestId)
 }
 
 // Takes back a cancel of a request that is Pending. It looks at no controller state.
-pub fn withdraw_cancel_request(session: Session, rows: &mut [u64], id: RequestId) -> Reported
+pub fn withdraw_cancel_request(
+    session: Session,
+    rows: &mut [u64],
+    id: RequestId,
+) -> Called<RequestReport>
     ensures step { after result (store_of rows.new) ≡ change_of id Change.WithdrawCancel session (store_of rows.old) }
     ensures table { Tabled withdraw_numbers (report_said result.answer) }
 {
     change_request(session, rows, id, Change::WithdrawCancel)
 }
 
-pub fn timeout_request(session: Session, rows: &mut [u64], id: RequestId) -> Reported
+pub fn timeout_request(session: Session, rows: &mut [u64], id: RequestId) -> Called<RequestReport>
     ensures step { after result (store_of rows.new) ≡ change_of id Change.Timeout session (store_of rows.old) }
     ensures table { Tabled cancel_numbers (report_said result.answer) }
 {
@@ -62,7 +74,7 @@ pub fn timeout_request(session: Session, rows: &mut [u64], id: RequestId) -> Rep
 }
 
 // The report is of the request as it was; its row is free.
-pub fn reclaim_request(session: Session, rows: &mut [u64], id: RequestId) -> Reported
+pub fn reclaim_request(session: Session, rows: &mut [u64], id: RequestId) -> Called<RequestReport>
     ensures step { after result (store_of rows.new) ≡ change_of id Change.Reclaim session (store_of rows.old) }
     ensures table { Tabled reclaim_numbers (report_said result.answer) }
 {

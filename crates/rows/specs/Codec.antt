@@ -1,19 +1,18 @@
 -- Encoding of rows as words. Decoding is total: any words give some row. Assumes nothing.
-use Rattle.std.specs.Prelude.{ℕ, ◌%◌, ◌^◌, List, [], ◌∷◌, Bool, true, false, cond, get_or, take, drop, eqb, ltb}
+use Rattle.std.specs.Prelude.{ℕ, ◌%◌, ◌^◌, List, [], ◌∷◌, Bool, true, false, cond, get_or, take, drop, eqb, ltb, Option, Some, None}
 use Rattle.words.specs.Words.{read_flag, flag_word, read_option_u32, option_u32_word, option_i32_word}
-use Rattle.words.specs.declared.{OptionU32.OptionU32}
 use Rattle.models.specs.Codes.{category_word, read_transfer, read_direction}
 use Rattle.models.specs.Values.{metadata_tail, read_error_words}
-use Rattle.models.specs.declared.{OperationError.OperationError, OptionSetup.OptionSetup, RequestMetadata.RequestMetadata, RequestState.RequestState, SetupWords.SetupWords}
+use Rattle.models.specs.declared.{OperationError.OperationError, RequestMetadata.RequestMetadata, RequestState.RequestState, SetupPacket.SetupPacket, SetupWords.SetupWords}
 use Rattle.models.specs.declared.RequestState.TheVariants.{Pending, Completed, Failed, Aborted}
 use Rattle.rows.specs.declared.{Row.Row, codec.StateWords.StateWords, codec.StatusWords.StatusWords}
 
-abbrev pub read_setup_words : ℕ → ℕ → ℕ → ℕ → ℕ → ℕ → OptionSetup
+abbrev pub read_setup_words : ℕ → ℕ → ℕ → ℕ → ℕ → ℕ → Option SetupPacket
 read_setup_words present type request value index length =
-    cond (eqb present 0) OptionSetup.None
-    (OptionSetup.Some (record { request_type = type % 2 ^ 8; request = request % 2 ^ 8; value = value % 2 ^ 16; index = index % 2 ^ 16; length = length % 2 ^ 16 }))
+    cond (eqb present 0) None
+    (Some (record { request_type = type % 2 ^ 8; request = request % 2 ^ 8; value = value % 2 ^ 16; index = index % 2 ^ 16; length = length % 2 ^ 16 }))
 
-abbrev pub setup_in : SetupWords → OptionSetup
+abbrev pub setup_in : SetupWords → Option SetupPacket
 setup_in p = read_setup_words p.present p.request_type p.request p.value p.index p.length
 
 unfoldable pub read_metadata : List ℕ → RequestMetadata
@@ -38,7 +37,7 @@ read_state_words w =
 abbrev pub short_words : ℕ → ℕ → ℕ → ℕ → StateWords
 short_words tag a b c = record { tag = tag; a = a; b = b; c = c; d = 0; e = 0; f = 0 }
 
-abbrev pub failed_words : OperationError → OptionU32 → Bool → StateWords
+abbrev pub failed_words : OperationError → Option ℕ → Bool → StateWords
 failed_words x code quiescent = record {
   tag = 2;
   a = category_word x.category;

@@ -1,13 +1,13 @@
 -- What a record says by its words, and what the changes of a Pending row in place leave. Assumes nothing.
-use Rattle.std.specs.Prelude.{ℕ, List, ◌∷◌, Bool, true, false}
-use Rattle.models.specs.declared.{OptionSetup.OptionSetup, RequestState.RequestState}
+use Rattle.std.specs.Prelude.{ℕ, List, ◌∷◌, Bool, true, false, Option}
+use Rattle.models.specs.declared.{RequestState.RequestState, SetupPacket.SetupPacket}
 use Rattle.models.specs.declared.RequestState.TheVariants.{Pending, Completed, Failed, Aborted}
 use Rattle.rows.specs.Codec.{read_row}
 use Rattle.rows.specs.Table.{with_state, flagged}
 use Rattle.rows.specs.declared.{Row.Row}
 
 -- the SETUP packet and the state of a row with the record w
-abbrev pub setup_at : List ℕ → OptionSetup
+abbrev pub setup_at : List ℕ → Option SetupPacket
 setup_at w = (read_row (0 ∷ 0 ∷ w)).metadata.setup
 
 abbrev pub state_at : ℕ → List ℕ → RequestState

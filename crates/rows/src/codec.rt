@@ -8,10 +8,9 @@ ghost use Rattle.models.specs.declared.RequestState.TheVariants as RequestState;
 
 use crate::{RECORD_WORDS, Row};
 use models::{
-    DeviceId, OperationError, OptionSetup, RequestId, RequestMetadata, RequestState, SetupPacket,
-    SetupWords, codes, values,
+    DeviceId, Direction, OperationError, RequestId, RequestMetadata, RequestState, SetupPacket,
+    SetupWords, TransferType, values,
 };
-use words::OptionU32;
 
 // The kinds of a row's state: odd, where the row is held.
 pub(crate) const PENDING: u64 = 1;
@@ -49,11 +48,11 @@ pub struct StatusWords {
     pub f: u64,
 }
 
-pub fn setup_words(o: OptionSetup) -> SetupWords
+pub fn setup_words(o: Option<SetupPacket>) -> SetupWords
     ensures { (setup_in result ≡ o) × (result ≡ setup_words o) }
 {
     match o {
-        OptionSetup::None => SetupWords {
+        None => SetupWords {
             present: 0,
             request_type: 0,
             request: 0,
@@ -61,7 +60,7 @@ pub fn setup_words(o: OptionSetup) -> SetupWords
             index: 0,
             length: 0,
         },
-        OptionSetup::Some(p) => SetupWords {
+        Some(p) => SetupWords {
             present: 1,
             request_type: p.request_type as u64,
             request: p.request as u64,
@@ -79,13 +78,13 @@ pub fn to_setup(
     value: u64,
     index: u64,
     length: u64,
-) -> OptionSetup
+) -> Option<SetupPacket>
     ensures { result ≡ read_setup_words present request_type request value index length }
 {
     if present == 0 {
-        return OptionSetup::None;
+        return None;
     }
-    OptionSetup::Some(SetupPacket {
+    Some(SetupPacket {
         request_type: (request_type % 256) as u8,
         request: (request % 256) as u8,
         value: (value % 65536) as u16,
@@ -108,8 +107,8 @@ fn to_metadata(w: &[u64]) -> RequestMetadata
     RequestMetadata {
         device,
         endpoint: (w[3] % 256) as u8,
-        transfer_type: codes::to_transfer(w[4]),
-        direction: codes::to_direction(w[5]),
+        transfer_type: TransferType::from(w[4]),
+        direction: Direction::from(w[5]),
         requested_length: w[6],
         setup,
     }
@@ -130,7 +129,7 @@ fn short_words(tag: u64, a: u64, b: u64, c: u64) -> StateWords
     }
 }
 
-fn failed_words(error: OperationError, code: OptionU32, quiescent: bool) -> StateWords
+fn failed_words(error: OperationError, code: Option<u32>, quiescent: bool) -> StateWords
     ensures { (read_state_words result ≡ RequestState.Failed error code quiescent)
         × (result ≡ failed_words error code quiescent) }
 {
@@ -139,7 +138,7 @@ fn failed_words(error: OperationError, code: OptionU32, quiescent: bool) -> Stat
     let inner = error.completion_code;
     StateWords {
         tag: 2,
-        a: codes::category_word(category),
+        a: u64::from(category),
         b: error.message as u64,
         c: words::flag_word(quiescent),
         d: words::option_i32_word(os_code),
@@ -346,8 +345,8 @@ pub(crate) fn encode(r: Row, p: SetupWords, s: StatusWords) -> [u64; RECORD_WORD
         m.device.generation,
         m.device.slot as u64,
         m.endpoint as u64,
-        codes::transfer_word(transfer_type),
-        codes::direction_word(direction),
+        u64::from(transfer_type),
+        u64::from(direction),
         m.requested_length,
         p.present,
         p.request_type,

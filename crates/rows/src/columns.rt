@@ -79,7 +79,7 @@ pub fn id_in(rows: &[u64], i: usize) -> RequestId
     if i < crate::count(rows) {
         return id_at(rows, i);
     }
-    models::no_id()
+    RequestId::default()
 }
 
 pub fn device_at(rows: &[u64], i: usize) -> DeviceId

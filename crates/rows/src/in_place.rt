@@ -12,7 +12,7 @@ ghost use Rattle.rows.specs.InPlace.{setup_at, state_at, cancelled, timed_out, c
 
 use crate::codec::StateWords;
 use crate::{RECORD_WORDS, ROW_WORDS, SEQUENCE, STATUS, codec, columns};
-use models::{RequestState, SetupWords, codes};
+use models::{Direction, RequestState, SetupWords, TransferType};
 use words::slices;
 
 // The word of a record that has the cancel flag of a Pending state.
@@ -31,13 +31,13 @@ fn renewed_flag(w: u64) -> u64
 fn renewed_transfer(w: u64) -> u64
     ensures { result ≡ transfer_word (read_transfer w) }
 {
-    codes::transfer_word(codes::to_transfer(w))
+    u64::from(TransferType::from(w))
 }
 
 fn renewed_direction(w: u64) -> u64
     ensures { result ≡ direction_word (read_direction w) }
 {
-    codes::direction_word(codes::to_direction(w))
+    u64::from(Direction::from(w))
 }
 
 // Canonical words of the record's SETUP packet.
@@ -199,7 +199,7 @@ pub fn cancel_row(rows: &mut [u64], i: usize)
     let at = columns::record_at(rows, i);
     let end = at + RECORD_WORDS;
     let w = cancelled_record(&rows[at..end]);
-    slices::copy_words(rows, at, &w, RECORD_WORDS);
+    slices::copy(rows, at, &w, RECORD_WORDS);
 }
 
 // Row i, which is Pending, is timed out; its column words stay.
@@ -211,7 +211,7 @@ pub fn time_out_row(rows: &mut [u64], i: usize)
     let at = columns::record_at(rows, i);
     let end = at + RECORD_WORDS;
     let w = timed_out_record(&rows[at..end]);
-    slices::copy_words(rows, at, &w, RECORD_WORDS);
+    slices::copy(rows, at, &w, RECORD_WORDS);
 }
 
 // Row i, which is Pending, has the backend's token; its column words stay.
@@ -223,7 +223,7 @@ pub fn accept_row(rows: &mut [u64], i: usize, token: u64)
     let at = columns::record_at(rows, i);
     let end = at + RECORD_WORDS;
     let w = accepted_record(&rows[at..end], token);
-    slices::copy_words(rows, at, &w, RECORD_WORDS);
+    slices::copy(rows, at, &w, RECORD_WORDS);
 }
 
 // Row i, which is Pending, has another state.
@@ -239,7 +239,7 @@ pub fn end_row(rows: &mut [u64], i: usize, state: RequestState)
     let s = codec::status_words(true, state);
     let sequence = columns::column(rows, i, SEQUENCE);
     crate::put_columns(rows, n, i, sequence, s.status);
-    slices::copy_words(rows, at, &w, RECORD_WORDS);
+    slices::copy(rows, at, &w, RECORD_WORDS);
 }
 
 // Row i, which is Pending, is completed.
@@ -265,5 +265,5 @@ pub fn free_row(rows: &mut [u64], i: usize)
     let n = rows.len() / ROW_WORDS;
     let at = columns::record_at(rows, i);
     crate::put_columns(rows, n, i, 0, 0);
-    slices::clear_words(rows, at, RECORD_WORDS);
+    slices::fill(rows, at, RECORD_WORDS, 0);
 }

@@ -85,7 +85,7 @@ pub fn write_row(rows: &mut [u64], i: usize, r: Row)
     let s = codec::status_words(r.used, state);
     let w = codec::encode(r, p, s);
     put_columns(rows, n, i, id.sequence, s.status);
-    slices::copy_words(rows, at, &w, RECORD_WORDS);
+    slices::copy(rows, at, &w, RECORD_WORDS);
 }
 
 // Every row is free.
@@ -93,5 +93,5 @@ pub fn clear_rows(rows: &mut [u64])
     ensures { store_of rows.new ≡ emptied (store_of rows.old) }
 {
     let n = rows.len();
-    slices::clear_words(rows, 0, n);
+    slices::fill(rows, 0, n, 0);
 }

@@ -1,17 +1,16 @@
 -- What the rules of a row answer, and the numbers that each change is refused by. Assumes nothing.
-use Rattle.std.specs.Prelude.{ℕ, List, [], ◌∷◌}
-use Rattle.models.specs.Said.{Said, says, refused}
+use Rattle.std.specs.Prelude.{ℕ, List, [], ◌∷◌, Result, Ok, Err}
+use Rattle.models.specs.Said.{Said, said_by}
 use Rattle.rows.specs.Values.{report_values}
-use Rattle.rules.specs.declared.{Change.Change, Spent.Spent, Step.Step}
+use Rattle.rules.specs.declared.{Change.Change, Step.Step}
+use Rattle.models.specs.declared.{Refusal.Refusal}
 
 -- the new row goes to the store; the answer is its report
-abbrev pub step_said : Step → Said
-step_said (Step.Refused r) = refused r
-step_said (Step.To next x) = says (report_values x)
+abbrev pub step_said : Result Step Refusal → Said
+step_said = said_by (λ n. report_values n.report)
 
-abbrev pub spent_said : Spent → Said
-spent_said (Spent.Refused r) = refused r
-spent_said (Spent.Next n) = says (n ∷ [])
+abbrev pub spent_said : Result ℕ Refusal → Said
+spent_said = said_by (λ n. n ∷ [])
 
 abbrev pub spend_numbers : List ℕ
 spend_numbers = 39 ∷ []

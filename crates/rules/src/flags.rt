@@ -3,81 +3,61 @@ ghost use Rattle.std.specs.Prelude.{◌≡◌};
 ghost use Rattle.rules.specs.Rules.{logical_cancel, cancel_withdrawn, time_out};
 
 use crate::{Step, moved_to, refused};
-use models::RequestState;
+use models::{Cause, Refusal, RequestState};
 use rows::Row;
 
-pub(crate) fn logical_cancel(row: Row) -> Step
+pub(crate) fn logical_cancel(row: Row) -> Result<Step, Refusal>
     ensures { result ≡ logical_cancel row }
 {
-    let state = row.state;
-    let RequestState::Pending {
-        logical_cancel: _,
-        timed_out,
-    } = state
-    else {
-        return refused(41);
+    let RequestState::Pending { timed_out, .. } = row.state else {
+        return refused(Cause::NotPending);
     };
-    let logical_cancel = true;
-    let state = RequestState::Pending {
-        logical_cancel,
-        timed_out,
-    };
-    let cancelled = Row {
-        logical_cancel,
-        state,
+    moved_to(Row {
+        logical_cancel: true,
+        state: RequestState::Pending {
+            logical_cancel: true,
+            timed_out,
+        },
         ..row
-    };
-    moved_to(cancelled)
+    })
 }
 
 // Takes back a cancel. A timeout stays.
-pub(crate) fn withdraw_cancel(row: Row) -> Step
+pub(crate) fn withdraw_cancel(row: Row) -> Result<Step, Refusal>
     ensures { result ≡ cancel_withdrawn row }
 {
-    let state = row.state;
     let RequestState::Pending {
         logical_cancel,
         timed_out,
-    } = state
+    } = row.state
     else {
-        return refused(41);
+        return refused(Cause::NotPending);
     };
     if !logical_cancel {
-        return refused(59);
+        return refused(Cause::NotCancelled);
     }
-    let logical_cancel = false;
-    let state = RequestState::Pending {
-        logical_cancel,
-        timed_out,
-    };
-    let withdrawn = Row {
-        logical_cancel,
-        state,
+    moved_to(Row {
+        logical_cancel: false,
+        state: RequestState::Pending {
+            logical_cancel: false,
+            timed_out,
+        },
         ..row
-    };
-    moved_to(withdrawn)
+    })
 }
 
-pub(crate) fn timeout(row: Row) -> Step
+pub(crate) fn timeout(row: Row) -> Result<Step, Refusal>
     ensures { result ≡ time_out row }
 {
-    let state = row.state;
-    let RequestState::Pending {
-        logical_cancel,
-        timed_out: _,
-    } = state
-    else {
-        return refused(41);
+    let RequestState::Pending { logical_cancel, .. } = row.state else {
+        return refused(Cause::NotPending);
     };
-    let timed_out = true;
-    let state = RequestState::Pending {
-        logical_cancel,
-        timed_out,
-    };
-    let late = Row {
-        timed_out,
-        state,
+    moved_to(Row {
+        timed_out: true,
+        state: RequestState::Pending {
+            logical_cancel,
+            timed_out: true,
+        },
         ..row
-    };
-    moved_to(late)
+    })
 }

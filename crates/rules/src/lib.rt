@@ -2,21 +2,23 @@
 #![tactic(auto)]
 
 ghost use Rattle.std.specs.Prelude.{◌≡◌};
+ghost use Rattle.models.specs.Causes.{number_of};
 ghost use Rattle.models.specs.Said.{Tabled};
 ghost use Rattle.rules.specs.Rules.{report_of, pending_row, spend_sequence, refused_by, moved, freed, accepted, completed, failed, abort_confirmed, reclaimed, change_row};
 ghost use Rattle.rules.specs.Said.{step_said, spent_said, spend_numbers, change_numbers};
 
-use models::{OperationError, Refusal, RequestId, RequestMetadata, RequestReport, RequestState};
+use models::{
+    Cause, OperationError, Refusal, RequestId, RequestMetadata, RequestReport, RequestState,
+};
 use rows::Row;
-use words::OptionU32;
 
 mod flags; // flags.rt: cancel, its withdrawal and timeout
 
 // What a change of a row leaves: the next row, and what is reported of the request.
 #[derive(Clone, Copy)]
-pub enum Step {
-    Refused(Refusal),
-    To(Row, RequestReport),
+pub struct Step {
+    pub row: Row,
+    pub report: RequestReport,
 }
 
 // A change of one row. Accept and Discard end a submission, with the backend's token or with its error.
@@ -27,32 +29,19 @@ pub enum Change {
     LogicalCancel,
     Timeout,
     Complete(u64, u32),
-    Fail(OperationError, OptionU32, bool),
+    Fail(OperationError, Option<u32>, bool),
     ConfirmAbort,
     Reclaim,
     WithdrawCancel,
 }
 
-// The next sequence number once one is spent.
-#[derive(Clone, Copy)]
-pub enum Spent {
-    Refused(Refusal),
-    Next(u64),
-}
-
-// The greatest sequence number, 2^64 - 1.
-const LAST_SEQUENCE: u64 = 18446744073709551615;
-
 pub fn report_of(row: Row) -> RequestReport
     ensures { result ≡ report_of row }
 {
-    let id = row.id;
-    let metadata = row.metadata;
-    let state = row.state;
     RequestReport {
-        id,
-        metadata,
-        state,
+        id: row.id,
+        metadata: row.metadata,
+        state: row.state,
         logical_cancel: row.logical_cancel,
         timed_out: row.timed_out,
     }
@@ -77,89 +66,91 @@ pub fn pending_row(id: RequestId, metadata: RequestMetadata) -> Row
 }
 
 // Spends the sequence number `next`: the greatest is never given.
-pub fn spend_sequence(next: u64) -> Spent
+pub fn spend_sequence(next: u64) -> Result<u64, Refusal>
     ensures step { result ≡ spend_sequence next }
     ensures table { Tabled spend_numbers (spent_said result) }
 {
-    if next == LAST_SEQUENCE {
-        return Spent::Refused(models::refuse(39));
-    }
-    Spent::Next(next + 1)
+    next.checked_add(1)
+        .ok_or(models::refuse(Cause::SequencesSpent))
 }
 
-pub(crate) fn refused(number: u16) -> Step
-    ensures { result ≡ refused_by number }
+pub(crate) fn refused(cause: Cause) -> Result<Step, Refusal>
+    ensures { result ≡ refused_by (number_of cause) }
 {
-    Step::Refused(models::refuse(number))
+    Err(models::refuse(cause))
 }
 
 // The step to a row that is reported as it then is.
-pub(crate) fn moved_to(next: Row) -> Step
+pub(crate) fn moved_to(next: Row) -> Result<Step, Refusal>
     ensures { result ≡ moved next }
 {
-    Step::To(next, report_of(next))
+    Ok(Step {
+        row: next,
+        report: report_of(next),
+    })
 }
 
 // The step to a free row; the request is reported as it was.
-fn free(row: Row) -> Step
+fn free(row: Row) -> Result<Step, Refusal>
     ensures { result ≡ freed row }
 {
-    Step::To(rows::empty_row(), report_of(row))
+    Ok(Step {
+        row: rows::empty_row(),
+        report: report_of(row),
+    })
 }
 
 // The backend took the submission.
-fn accept(row: Row, token: u64) -> Step
+fn accept(row: Row, token: u64) -> Result<Step, Refusal>
     ensures { result ≡ accepted row token }
 {
     moved_to(Row { token, ..row })
 }
 
 // A completion that was found valid.
-fn complete(row: Row, actual_length: u64, completion_code: u32) -> Step
+fn complete(row: Row, actual_length: u64, completion_code: u32) -> Result<Step, Refusal>
     ensures { result ≡ completed row actual_length completion_code }
 {
-    let state = row.state;
-    let RequestState::Pending {
-        logical_cancel,
-        timed_out: _,
-    } = state
-    else {
-        return refused(41);
+    let RequestState::Pending { logical_cancel, .. } = row.state else {
+        return refused(Cause::NotPending);
     };
-    let state = RequestState::Completed {
-        actual_length,
-        completion_code,
-        logical_cancel,
-    };
-    moved_to(Row { state, ..row })
+    moved_to(Row {
+        state: RequestState::Completed {
+            actual_length,
+            completion_code,
+            logical_cancel,
+        },
+        ..row
+    })
 }
 
-fn fail(row: Row, error: OperationError, completion_code: OptionU32, quiescent: bool) -> Step
+fn fail(
+    row: Row,
+    error: OperationError,
+    completion_code: Option<u32>,
+    quiescent: bool,
+) -> Result<Step, Refusal>
     ensures { result ≡ failed row error completion_code quiescent }
 {
-    let state = row.state;
-    let RequestState::Pending {
-        logical_cancel: _,
-        timed_out: _,
-    } = state
-    else {
-        return refused(41);
+    let RequestState::Pending { .. } = row.state else {
+        return refused(Cause::NotPending);
     };
-    let state = RequestState::Failed {
-        error,
-        completion_code,
-        quiescent,
-    };
-    moved_to(Row { state, ..row })
+    moved_to(Row {
+        state: RequestState::Failed {
+            error,
+            completion_code,
+            quiescent,
+        },
+        ..row
+    })
 }
 
 // The backend stopped the request before it was done.
-fn confirm_abort(row: Row) -> Step
+fn confirm_abort(row: Row) -> Result<Step, Refusal>
     ensures { result ≡ abort_confirmed row }
 {
-    let state = row.state;
-    if !models::device_may_access(state) {
-        return refused(43);
+    if !models::device_may_access(row.state) {
+        return refused(Cause::NotHeld);
     }
     moved_to(Row {
         state: RequestState::Aborted,
@@ -167,17 +158,16 @@ fn confirm_abort(row: Row) -> Step
     })
 }
 
-fn reclaim(row: Row) -> Step
+fn reclaim(row: Row) -> Result<Step, Refusal>
     ensures { result ≡ reclaimed row }
 {
-    let state = row.state;
-    if models::device_may_access(state) {
-        return refused(42);
+    if models::device_may_access(row.state) {
+        return refused(Cause::StillHeld);
     }
     free(row)
 }
 
-pub fn change_row(row: Row, change: Change) -> Step
+pub fn change_row(row: Row, change: Change) -> Result<Step, Refusal>
     ensures step { result ≡ change_row row change }
     ensures table { Tabled (change_numbers change) (step_said result) }
 {

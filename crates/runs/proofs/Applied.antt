@@ -1,4 +1,5 @@
 -- What the entries of a recovery's reply, all applied, leave of each row. Assumes nothing.
+use Rattle.std.specs.Prelude.{Result, Ok, Err, ⊤}
 use Prim.Native.Nat.{ℕ, ◌<◌}
 use mathlib.Core.Path.{◌≡◌, refl, sym, ap, ◌∙◌, subst}
 use mathlib.Core.Bool.{true, false, cond, not}
@@ -13,15 +14,13 @@ use Rattle.chain.specs.After.{After}
 use Rattle.chain.proofs.Chain.{caseB, if_by, or_false}
 use Rattle.chain.proofs.Lists.{in_cons}
 use Rattle.models.specs.Requests.{device_may_access}
-use Rattle.models.specs.declared.{DeviceId.DeviceId, RequestState.RequestState, Verdict.Verdict}
+use Rattle.models.specs.declared.{DeviceId.DeviceId, Refusal.Refusal, RequestReport.RequestReport, RequestState.RequestState}
 use Rattle.models.specs.declared.RequestState.TheVariants.{Pending, Completed, Failed, Aborted}
 use Rattle.rows.specs.Store.{Store, put_in}
 use Rattle.rows.specs.InPlace.{completed_row}
 use Rattle.rows.specs.Table.{empty_row, row_in, token_in}
 use Rattle.rows.specs.declared.{Row.Row}
 use Rattle.rules.specs.Rules.{change_row, completed, while_pending, abort_confirmed, moved, with_state, refused_by}
-use Rattle.rules.specs.declared.{Step.Step}
-use Rattle.checks.specs.declared.{completion.CompletionTest.CompletionTest}
 use Rattle.session.specs.Lent.{Memory, memory}
 use Rattle.session.specs.declared.{Size.Size}
 use Rattle.scope.specs.Returned.{Returned}
@@ -33,14 +32,16 @@ use Rattle.runs.proofs.Affected.{meant_below, own_token, own_tokens, place_meant
 use Rattle.runs.proofs.Finish.{TestSound, test_sound}
 use Rattle.runs.proofs.Entries.{Onward, entries_all}
 use Rattle.runs.proofs.Tokens.{tokens_in, Each, Distinct, returned_in, reply_tokens}
+use Rattle.rules.specs.declared.{Step.Step}
+use Rattle.checks.specs.declared.{completion.CompletionFault.CompletionFault, completion.ValidCompletion.ValidCompletion}
 
 -- ---- one entry
-abbrev SetBy : Verdict → List Row → List Row → Type 0
-SetBy (Verdict.Refused r) l m = Unit {0}
-SetBy Verdict.Pass l m = m ≡ l
+abbrev SetBy : Result ⊤ Refusal → List Row → List Row → Type 0
+SetBy (Err r) l m = Unit {0}
+SetBy (Ok tt) l m = m ≡ l
 
 module _ (store : Store) (i : ℕ) where
-  abbrev Sets : After Verdict Memory → Row → Type 0
+  abbrev Sets : After (Result ⊤ Refusal) Memory → Row → Type 0
   Sets o r = SetBy o.result (set store.rows i r) o.lent.store.rows
 
   module _ (z : Size) (bytes area : List ℕ) where
@@ -51,15 +52,15 @@ module _ (store : Store) (i : ℕ) where
     row_set (Failed a b c) q = tt
     row_set Aborted q = tt
 
-    test_set : (e : Returned) (requested : ℕ) (p : CompletionTest) → TestSound e.brought.completion requested p
+    test_set : (e : Returned) (requested : ℕ) (p : Result ValidCompletion CompletionFault) → TestSound e.brought.completion requested p
         → Sets (tested_by p e.brought.completion.completion_code z i bytes (memory store area)) (completed_as e (row_in store.rows i))
     unfolding tested_by changed_at change_row completed
-    test_set e requested CompletionTest.MissingLength s = tt
-    test_set e requested CompletionTest.Invalid s = tt
-    test_set e requested (CompletionTest.Valid a n) s =
+    test_set e requested (Err CompletionFault.MissingLength) s = tt
+    test_set e requested (Err CompletionFault.Invalid) s = tt
+    test_set e requested (Ok v) s =
         let ea = s.0 in
         let en = s.1 in
-        rw (sym ea, sym en) (row_set (row_in store.rows i).state (completed_row (row_in store.rows i) a n))
+        rw (sym ea, sym en) (row_set (row_in store.rows i).state (completed_row (row_in store.rows i) v.actual_length v.completion_code))
 
     complete_set : (e : Returned) → Sets (complete_one z i e.brought.completion bytes (memory store area)) (completed_as e (row_in store.rows i))
     unfolding complete_one
@@ -68,7 +69,7 @@ module _ (store : Store) (i : ℕ) where
   abort_set : SetBy (abort_one i store).result (set store.rows i (with_state (row_in store.rows i) Aborted)) (abort_one i store).lent.rows
   unfolding abort_one changed_at aborted_by apply_by change_row abort_confirmed moved put_in
   abort_set =
-      if_by (λ (m : Step). SetBy (aborted_by (apply_by m i store)).result (set store.rows i (with_state (row_in store.rows i) Aborted)) (aborted_by (apply_by m i store)).lent.rows)
+      if_by (λ (m : Result Step Refusal). SetBy (aborted_by (apply_by m i store)).result (set store.rows i (with_state (row_in store.rows i) Aborted)) (aborted_by (apply_by m i store)).lent.rows)
       (refused_by 43) (not (device_may_access (row_in store.rows i).state)) _ (λ e. tt) (λ e. refl)
 
 -- ---- all of them: each row by the tokens that mean it
@@ -181,13 +182,13 @@ module _ (place : ℕ → ℕ) where
         record { each = λ i. one i ∙ k.each i; size = same_size old p h Aborted new q ∙ k.size; named = here; distinct = k.distinct.1 }
 
   pub applied_rows : (z : Size) (l : ReplyLists) (m : Memory) → Each (Named m.store.rows) (reply_tokens l)
-      → Distinct (reply_tokens l) → (apply_all z place l m).result ≡ Verdict.Pass
+      → Distinct (reply_tokens l) → (apply_all z place l m).result ≡ (Ok tt)
       → Applied m.store.rows (apply_all z place l m).lent.store.rows (returned_in l) l.aborted
   applied_rows z l m a d =
       entries_all place z J P (λ bytes n k e. record { each = k.each; size = k.size })
       (λ e rest ts bytes n k.
       let p : ℕ = place e.token in
-      let one : After Verdict Memory = complete_one z p e.brought.completion (take e.brought.given bytes) n in
+      let one : After (Result ⊤ Refusal) Memory = complete_one z p e.brought.completion (take e.brought.given bytes) n in
       on one.result rest ts (drop e.brought.given bytes) (set n.store.rows p (completed_as e (row_in n.store.rows p))) one.lent
       (complete_set n.store p z (take e.brought.given bytes) n.area e) (completed_left m.store.rows es l.aborted e rest ts n.store.rows one.lent.store.rows k))
       (λ t ts bytes n k.
@@ -201,13 +202,13 @@ module _ (place : ℕ → ℕ) where
       J : List Returned → List ℕ → List ℕ → Memory → Type 0
       J rest ts bytes n = Left m.store.rows es l.aborted rest ts n.store.rows
 
-      P : Verdict → Memory → Type 0
-      P v n = v ≡ Verdict.Pass → Applied m.store.rows n.store.rows es l.aborted
+      P : Result ⊤ Refusal → Memory → Type 0
+      P v n = v ≡ (Ok tt) → Applied m.store.rows n.store.rows es l.aborted
 
-      on : (v : Verdict) (rest : List Returned) (ts bytes : List ℕ) (rows : List Row) (n : Memory) → SetBy v rows n.store.rows
+      on : (v : Result ⊤ Refusal) (rest : List Returned) (ts bytes : List ℕ) (rows : List Row) (n : Memory) → SetBy v rows n.store.rows
           → (n.store.rows ≡ rows → Left m.store.rows es l.aborted rest ts n.store.rows) → Onward place z J P v rest ts bytes n
-      on (Verdict.Refused r) rest ts bytes rows n q k = λ e. let z : ◌≡◌ {A = ℕ} 0 1 = cc in absurd (omega arith)
-      on Verdict.Pass rest ts bytes rows n q k = k q
+      on (Err r) rest ts bytes rows n q k = λ e. let z : ◌≡◌ {A = ℕ} 0 1 = cc in absurd (omega arith)
+      on (Ok tt) rest ts bytes rows n q k = k q
 
 -- a token of an affected row means that row
 pub named_row : (d : DeviceId) (endpoint : ℕ) (rows : List Row) (t : ℕ) → is_among t (own_tokens d endpoint rows) ≡ true → Named (place_meant d endpoint rows) rows t

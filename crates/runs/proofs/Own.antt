@@ -1,11 +1,11 @@
 -- Calls that are each handed what the one before left. Assumes nothing.
+use Rattle.std.specs.Prelude.{None}
 use Prim.Native.Nat.{ℕ}
 use mathlib.Core.Bool.{false}
 use mathlib.Core.List.{List, [], ◌∷◌, ◌++◌, map}
 use mathlib.Core.Path.{◌≡◌, refl}
 use native.Mathlib.Omega.{arith}
 use Rattle.chain.specs.After.{After}
-use Rattle.words.specs.declared.{OptionU64.OptionU64}
 use Rattle.session.specs.Lent.{Lent}
 use Rattle.calls.specs.Calls.{Call, Open, Place, Move, Begin, Reply, Change, Read}
 use Rattle.calls.specs.Step.{World, step_of, next, made_after, made_on}
@@ -26,14 +26,14 @@ end_made (c ∷ cs) w = end_after cs (step_of c w)
 
 abbrev pub Unnumbered : List Call → Type 0
 Unnumbered [] = Unit {0}
-Unnumbered (c ∷ cs) = (number_of c ≡ OptionU64.None) × Unnumbered cs
+Unnumbered (c ∷ cs) = (number_of c ≡ None) × Unnumbered cs
 
 pub unnumbered_append : (cs ds : List Call) → Unnumbered cs → Unnumbered ds → Unnumbered (cs ++ ds)
 unnumbered_append [] ds u v = v
 unnumbered_append (c ∷ cs) ds u v = (u.0, unnumbered_append cs ds u.1 v)
 
 -- none of them opens
-no_opening : (c : Call) → number_of c ≡ OptionU64.None → is_opening c ≡ false
+no_opening : (c : Call) → number_of c ≡ None → is_opening c ≡ false
 no_opening (Open o) e = let z : ◌≡◌ {A = ℕ} 0 1 = cc in absurd (omega arith)
 no_opening (Place p) e = refl
 no_opening (Move m) e = refl

@@ -1,4 +1,5 @@
 -- A recovery's two calls keep the session sound. Assumes nothing.
+use Rattle.std.specs.Prelude.{Option, Some, None, Result, Ok, Err, ⊤}
 use Prim.Native.Nat.{ℕ, ◌<◌, ◌≤◌}
 use mathlib.Core.Bool.{true, false, not, ◌&&◌, false≢true}
 use mathlib.Core.List.{List, [], ◌∷◌, ◌++◌}
@@ -11,26 +12,24 @@ use lib.Seq.{get_or-set_same, get_or-set_other}
 use Rattle.chain.specs.Lists.{count, any_in, is_among}
 use Rattle.chain.specs.After.{After}
 use Rattle.chain.proofs.Chain.{caseB, if_by, and3}
-use Rattle.words.specs.declared.{OptionU64.OptionU64}
 use Rattle.models.specs.Requests.{same_device}
-use Rattle.models.specs.declared.{BackendCompletion.BackendCompletion, DeviceId.DeviceId, RequestId.RequestId, Verdict.Verdict}
+use Rattle.models.specs.declared.{BackendCompletion.BackendCompletion, DeviceId.DeviceId, OperationError.OperationError, Refusal.Refusal, RequestId.RequestId}
 use Rattle.models.specs.declared.ControllerState.TheVariants.{Initialized}
 use Rattle.rows.specs.Store.{Store, put_in}
 use Rattle.rows.specs.Table.{empty_row, is_uncertain, row_in}
 use Rattle.rows.specs.declared.{Row.Row}
 use Rattle.rules.specs.Rules.{change_row}
 use Rattle.rules.specs.declared.{Change.Change, Step.Step}
-use Rattle.checks.specs.declared.{completion.CompletionTest.CompletionTest}
 use Rattle.session.specs.Session.{with_controller, with_flight, with_stall, marked}
 use Rattle.session.specs.Lent.{Memory, memory}
-use Rattle.session.specs.declared.{InFlight.InFlight, OptionStall.OptionStall, Recovery.Recovery, RecoveryKind.RecoveryKind, Session.Session, Size.Size}
+use Rattle.session.specs.declared.{InFlight.InFlight, RecoverableStall.RecoverableStall, Recovery.Recovery, RecoveryKind.RecoveryKind, Session.Session, Size.Size}
 use Rattle.scope.specs.Scope.{in_scope}
 use Rattle.scope.specs.Returned.{Returned}
 use Rattle.ledger.specs.Apply.{apply_by, changed_at}
 use Rattle.recovery.specs.Entries.{row_completed_by, tested_by, complete_one, aborted_by, abort_one}
 use Rattle.recovery.specs.Recover.{recover_of, begun_as, recovery_of}
 use Rattle.recovery.specs.RecoveryReply.{ReplyLists, apply_all, ended, is_whole, is_revision, restored_by, reset_by, session_after, refused_after, concluded_by, settled_of, recovery_reply_of}
-use Rattle.recovery.specs.declared.{AbortReport.AbortReport, Outcome.Outcome, RecoveryReply.RecoveryReply, Replied.Replied}
+use Rattle.recovery.specs.declared.{AbortReport.AbortReport, BackendAbort.BackendAbort, Replied.Replied}
 use Rattle.runs.specs.Sound.{FlightReady, Sound}
 use Rattle.runs.proofs.Tokens.{tokens_in, Each, scope_each, reply_tokens}
 use Rattle.runs.proofs.Moves.{Idle, stays, marked_moves, marked_idle}
@@ -42,6 +41,7 @@ use Rattle.runs.proofs.Held.{any_count, held_used}
 use Rattle.runs.proofs.Ids.{access_held, at_own}
 use Rattle.runs.proofs.Ways.{begin_all, recovery_all}
 use Rattle.runs.proofs.Entries.{Onward, entries_all}
+use Rattle.checks.specs.declared.{completion.CompletionFault.CompletionFault, completion.ValidCompletion.ValidCompletion}
 
 module _ {s t u : Session} {a b c : Store} where
   leads_then : Leads s a t b → Leads t b u c → Leads s a u c
@@ -104,28 +104,28 @@ module _ (place : ℕ → ℕ) where
       }
 
       module _ (z : Size) (bytes area : List ℕ) where
-        stepped : (m : Step) → StepCertain (row_in store.rows i) m → StepUsed (row_in store.rows i) m
+        stepped : (m : Result Step Refusal) → StepCertain (row_in store.rows i) m → StepUsed (row_in store.rows i) m
             → Walked store (row_completed_by (apply_by m i store) z i bytes area).lent.store us
         unfolding row_completed_by apply_by
-        stepped (Step.Refused x) c e = stays_so
-        stepped (Step.To q x) c e = put_so q c.0 c.1 e
+        stepped (Err x) c e = stays_so
+        stepped (Ok xs) c e = put_so xs.row c.0 c.1 e
 
-        tested : (c : BackendCompletion) (p : CompletionTest) → TestSound c (row_in store.rows i).metadata.requested_length p
+        tested : (c : BackendCompletion) (p : Result ValidCompletion CompletionFault) → TestSound c (row_in store.rows i).metadata.requested_length p
             → Walked store (tested_by p c.completion_code z i bytes (memory store area)).lent.store us
         unfolding tested_by changed_at
-        tested c CompletionTest.MissingLength t = stays_so
-        tested c CompletionTest.Invalid t = stays_so
-        tested c (CompletionTest.Valid actual n) t =
-            stepped (change_row (row_in store.rows i) (Change.Complete actual n)) (complete_step (row_in store.rows i) actual n t.2 t.3) (complete_used (row_in store.rows i) actual n)
+        tested c (Err CompletionFault.MissingLength) t = stays_so
+        tested c (Err CompletionFault.Invalid) t = stays_so
+        tested c (Ok v) t =
+            stepped (change_row (row_in store.rows i) (Change.Complete v.actual_length v.completion_code)) (complete_step (row_in store.rows i) v.actual_length v.completion_code t.2 t.3) (complete_used (row_in store.rows i) v.actual_length v.completion_code)
 
         completed_one : (c : BackendCompletion) → Walked store (complete_one z i c bytes (memory store area)).lent.store us
         unfolding complete_one
         completed_one c = tested c _ (test_sound c (length bytes) (row_in store.rows i).metadata.requested_length)
 
-      aborted_by_lem : (m : Step) → StepCertain (row_in store.rows i) m → StepUsed (row_in store.rows i) m → Walked store (aborted_by (apply_by m i store)).lent us
+      aborted_by_lem : (m : Result Step Refusal) → StepCertain (row_in store.rows i) m → StepUsed (row_in store.rows i) m → Walked store (aborted_by (apply_by m i store)).lent us
       unfolding aborted_by apply_by
-      aborted_by_lem (Step.Refused x) c e = stays_so
-      aborted_by_lem (Step.To q x) c e = put_so q c.0 c.1 e
+      aborted_by_lem (Err x) c e = stays_so
+      aborted_by_lem (Ok n) c e = put_so n.row c.0 c.1 e
 
       aborted_one : Walked store (abort_one i store).lent us
       unfolding abort_one changed_at
@@ -136,7 +136,7 @@ module _ (place : ℕ → ℕ) where
     applied_all z l m k a =
         entries_all place z J P (λ bytes n h. h.leads)
         (λ e es ts bytes n h.
-        let one : After Verdict Memory = complete_one z (place e.token) e.brought.completion (take e.brought.given bytes) n in
+        let one : After (Result ⊤ Refusal) Memory = complete_one z (place e.token) e.brought.completion (take e.brought.given bytes) n in
         on one.result es ts (drop e.brought.given bytes) n one.lent h (completed_one h.leads.sound (place e.token) h.used.0.0 h.used.0.1 (tokens_in es ++ ts) h.used.1 z
         (take e.brought.given bytes) n.area e.brought.completion))
         (λ t ts bytes n h.
@@ -146,13 +146,13 @@ module _ (place : ℕ → ℕ) where
         J : List Returned → List ℕ → List ℕ → Memory → Type 0
         J es ts bytes n = Walked m.store n.store (tokens_in es ++ ts)
 
-        P : Verdict → Memory → Type 0
+        P : Result ⊤ Refusal → Memory → Type 0
         P x n = Leads s m.store s n.store
 
-        on : (x : Verdict) (es : List Returned) (ts bytes : List ℕ) (n n' : Memory) {us : List ℕ} → Walked m.store n.store us
+        on : (x : Result ⊤ Refusal) (es : List Returned) (ts bytes : List ℕ) (n n' : Memory) {us : List ℕ} → Walked m.store n.store us
             → Walked n.store n'.store (tokens_in es ++ ts) → Onward place z J P x es ts bytes n'
-        on (Verdict.Refused r) es ts bytes n n' h o = leads_then h.leads o.leads
-        on Verdict.Pass es ts bytes n n' h o = record { leads = leads_then h.leads o.leads; used = o.used }
+        on (Err r) es ts bytes n n' h o = leads_then h.leads o.leads
+        on (Ok tt) es ts bytes n n' h o = record { leads = leads_then h.leads o.leads; used = o.used }
 
 -- ---- the session after the entries
 module _ {s : Session} {store : Store} (k : Sound s store) (idle : Idle s) where
@@ -163,7 +163,7 @@ module _ {s : Session} {store : Store} (k : Sound s store) (idle : Idle s) where
   marked_after = moved_idle k (marked s) (marked_moves s) (marked_idle s idle)
 
   -- Initialized again: no row is Failed and not quiescent
-  restored_after : count is_uncertain store.rows ≡ 0 → (revision : OptionU64) → To (with_controller (with_stall s OptionStall.None) Initialized revision)
+  restored_after : count is_uncertain store.rows ≡ 0 → (revision : Option ℕ) → To (with_controller (with_stall s None) Initialized revision)
   restored_after z revision = record {
     sound = record {
       sizes = k.sizes;
@@ -190,23 +190,23 @@ module _ {s : Session} {store : Store} (k : Sound s store) (idle : Idle s) where
       let a : ltb 0 (count is_uncertain store.rows) ≡ false = sym (any_count is_uncertain store.rows empty_row) ∙ not-true (any_in is_uncertain store.rows) e in
       omega (arith, ltb-false 0 (count is_uncertain store.rows) a)
 
-  restored_by_lem : (q : OptionStall) (x : Recovery) → To (restored_by q x (not (any_in is_uncertain store.rows)) s)
+  restored_by_lem : (q : Option RecoverableStall) (x : Recovery) → To (restored_by q x (not (any_in is_uncertain store.rows)) s)
   unfolding restored_by
-  restored_by_lem OptionStall.None x = moved_idle k (with_stall s OptionStall.None) (stays s) idle
-  restored_by_lem (OptionStall.Some note) x =
+  restored_by_lem None x = moved_idle k (with_stall s None) (stays s) idle
+  restored_by_lem (Some note) x =
       if_by To _ _ _
       (λ e. restored_after (none_uncertain (and3 (same_device note.device x.device && eqb note.endpoint x.endpoint) (not (any_in is_uncertain store.rows)) (is_revision s.recovery_revision note.revision) e).1) s.recovery_revision)
-      (λ e. moved_idle k (with_stall s OptionStall.None) (stays s) idle)
+      (λ e. moved_idle k (with_stall s None) (stays s) idle)
 
   reset_after : (q : RecoveryKind) (x : Recovery) → To (reset_by q x store.rows s)
   unfolding reset_by
   reset_after RecoveryKind.Abort x = kept k
   reset_after (RecoveryKind.Reset preserve) x = restored_by_lem s.recoverable_stall x
 
-  concluded_after : (y : Verdict) (x : Recovery) (o : Outcome) (report : AbortReport) (places : List ℕ) → To (concluded_by y (ended s x o) report places store.rows).session
+  concluded_after : (y : Result ⊤ Refusal) (x : Recovery) (o : BackendAbort) (report : AbortReport) (places : List ℕ) → To (concluded_by y (ended s x o) report places store.rows).session
   unfolding concluded_by refused_after session_after
-  concluded_after (Verdict.Refused r) x o report places = if_by To _ _ _ (λ e. marked_after) (λ e. kept k)
-  concluded_after Verdict.Pass x o report places = if_by To _ _ _ (λ e. marked_after) (λ e. reset_after x.kind x)
+  concluded_after (Err r) x o report places = if_by To _ _ _ (λ e. marked_after) (λ e. kept k)
+  concluded_after (Ok tt) x o report places = if_by To _ _ _ (λ e. marked_after) (λ e. reset_after x.kind x)
 
 -- ---- the reply
 meant_used : (d : DeviceId) (endpoint : ℕ) (rows : List Row) (t : ℕ) → is_among t (own_tokens d endpoint rows) ≡ true → Used (place_meant d endpoint rows) rows t
@@ -228,16 +228,16 @@ module _ {s : Session} (m : Memory) (k : Sound s m.store) (l : ReplyLists) where
   marks : Leads s m.store (marked quiet) m.store
   marks = leads_then stilled (marked_after stilled.sound refl)
 
-  settled_sound : (x : Recovery) (o : Outcome) → in_scope (is_whole o) (own_tokens x.device x.endpoint m.store.rows) (l.tokens ++ l.aborted) ≡ true
+  settled_sound : (x : Recovery) (o : BackendAbort) → in_scope (is_whole o) (own_tokens x.device x.endpoint m.store.rows) (l.tokens ++ l.aborted) ≡ true
       → RecoveredSound (settled_of (ended quiet x o) (place_meant x.device x.endpoint m.store.rows) l m)
   unfolding settled_of
   settled_sound x o n =
       let place : ℕ → ℕ = place_meant x.device x.endpoint m.store.rows in
       let used = scope_each (own_tokens x.device x.endpoint m.store.rows) (is_whole o) l n (Used place m.store.rows) (meant_used x.device x.endpoint m.store.rows) in
       let a = applied_all place quiet refl quiet.size l m stilled.sound used in
-      let done : After Verdict Memory = apply_all quiet.size place l m in
+      let done : After (Result ⊤ Refusal) Memory = apply_all quiet.size place l m in
       leads_then stilled (leads_then a (concluded_after a.sound refl done.result x o _ _))
 
-  pub recovery_sound : (r : RecoveryReply) → RecoveredSound (recovery_reply_of r l s m)
+  pub recovery_sound : (r : Result BackendAbort OperationError) → RecoveredSound (recovery_reply_of r l s m)
   recovery_sound r =
       recovery_all l s m RecoveredSound (kept k) (kept k) (kept k) (λ e. marks) marks (λ x own o n. settled_sound x o n) r

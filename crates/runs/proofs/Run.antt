@@ -1,4 +1,5 @@
 -- Every list of calls after an opening that passed leads to a sound session. Assumes nothing.
+use Rattle.std.specs.Prelude.{Result}
 use Prim.Native.Nat.{ℕ}
 use mathlib.Core.Bool.{true, false, true≢false}
 use mathlib.Core.List.{List, [], ◌∷◌}
@@ -15,7 +16,7 @@ use Rattle.bus.specs.Tables.{cleared}
 use Rattle.session.specs.Lifecycle.{new_session, open_of}
 use Rattle.session.specs.Sizes.{sized, rows_fit}
 use Rattle.session.specs.Lent.{Lent, lent, memory, store_fits}
-use Rattle.session.specs.declared.{Size.Size, lifecycle.Opened.Opened, lifecycle.Opening.Opening}
+use Rattle.session.specs.declared.{Session.Session, Size.Size, lifecycle.Opening.Opening}
 use Rattle.session.proofs.sizes.Laws.{rows_words}
 use Rattle.calls.specs.Calls.{Call, Open, Place, Move, Acquire, Initialize, Close, Begin, Submit, SubmitPlan, Poll, Recover, Reply, ToSubmit, ToPoll, ToRecovery, Change, Read}
 use Rattle.calls.specs.Step.{World, world, opens, moved_of, begun_of, replied_of, change_by, step_of, world_store, next}
@@ -32,6 +33,7 @@ use Rattle.runs.proofs.Finish.{finish_sound}
 use Rattle.runs.proofs.Submit.{submit_sound, plan_sound}
 use Rattle.runs.proofs.Recover.{begin_sound, recovery_sound}
 use Rattle.runs.proofs.Lifecycle.{acquire_sound, initialize_sound, close_sound}
+use Rattle.models.specs.declared.{Refusal.Refusal}
 
 -- an opening that passes, for whatever is claimed of it
 by_opening : (o : Opening) (w : World) (P : World → Type 0)
@@ -39,7 +41,7 @@ by_opening : (o : Opening) (w : World) (P : World → Type 0)
     → (step_of (Open o) w).result.answer ≡ Answer.Pass → P (next (step_of (Open o) w))
 unfolding step_of open_of
 by_opening o w P go =
-    if_by (λ (x : After Opened Lent). (opens x w).result.answer ≡ Answer.Pass → P (next (opens x w))) _ _ _
+    if_by (λ (x : After (Result Session Refusal) Lent). (opens x w).result.answer ≡ Answer.Pass → P (next (opens x w))) _ _ _
     (λ t e. let z : ◌≡◌ {A = ℕ} 0 1 = cc in absurd (omega arith))
     (λ t e. go (both _ _ (both _ _ (not-false _ t)).0).0)
 

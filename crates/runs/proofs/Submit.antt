@@ -1,4 +1,5 @@
 -- Submissions keep the session sound. Assumes nothing.
+use Rattle.std.specs.Prelude.{Result}
 use Prim.Native.Nat.{ℕ, ◌<◌, ◌≤◌}
 use mathlib.Core.Bool.{true, false, false≢true}
 use mathlib.Core.List.{List}
@@ -8,7 +9,7 @@ use lib.ListN.{length, set, length-set}
 use lib.Seq.{get_or-set_same}
 use Rattle.chain.specs.Lists.{count}
 use Rattle.chain.proofs.Lists.{sum_set}
-use Rattle.models.specs.declared.{ControlPlan.ControlPlan, ControllerState.ControllerState, PortReading.PortReading, RequestId.RequestId, RequestMetadata.RequestMetadata}
+use Rattle.models.specs.declared.{ControlPlan.ControlPlan, ControllerState.ControllerState, OperationError.OperationError, RequestId.RequestId, RequestMetadata.RequestMetadata}
 use Rattle.models.specs.declared.ControllerState.TheVariants.{Closed, AcquiredUnknown, Initialized, Closing, RecoveryRequired}
 use Rattle.rows.specs.Store.{put_in, Store}
 use Rattle.rows.specs.Table.{empty_row, is_held, is_uncertain, row_in}
@@ -102,7 +103,7 @@ module _ {s : Session} (l : Lent) (k : Sound s l.memory.store) where
       (λ ready next later b. begun_sound k i room.below room.few (metadata_of q.spec) size.0 ready next later) q.readings l.bus)
       packets
 
-  pub plan_sound : (q : ControlPlan) (bytes : List ℕ) (first : PortReading) → To (submit_plan_of q bytes first s l).result.session (submit_plan_of q bytes first s l).lent
+  pub plan_sound : (q : ControlPlan) (bytes : List ℕ) (first : Result ℕ OperationError) → To (submit_plan_of q bytes first s l).result.session (submit_plan_of q bytes first s l).lent
   unfolding plan_started
   plan_sound q bytes first =
       plan_all q bytes first s l (λ o. To o.result.session o.lent) (λ x early. kept k)

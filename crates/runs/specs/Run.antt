@@ -1,8 +1,7 @@
 -- Lists of calls, what they leave, and the history: the calls with their answers. Assumes nothing.
-use Rattle.std.specs.Prelude.{ℕ, Bool, true, false, not, ◌≡◌, List, [], ◌∷◌}
+use Rattle.std.specs.Prelude.{ℕ, Bool, true, false, not, ◌≡◌, List, [], ◌∷◌, Option, Some, None}
 use Rattle.chain.specs.After.{After}
 use Rattle.chain.specs.Lists.{is_among}
-use Rattle.words.specs.declared.{OptionU64.OptionU64}
 use Rattle.models.specs.Refusals.{refusal_of}
 use Rattle.bus.specs.Tables.{Bus}
 use Rattle.session.specs.Lent.{Lent, memory, lent}
@@ -102,24 +101,24 @@ abbrev pub Follows : List Event → Type 0
 Follows es = FollowsBy step_of es
 
 -- the session number that a call hands over
-abbrev pub number_of : Call → OptionU64
-number_of (Open o) = OptionU64.Some o.session
-number_of (Place p) = OptionU64.None
-number_of (Move (Acquire reply)) = OptionU64.None
-number_of (Move (Initialize reply)) = OptionU64.None
+abbrev pub number_of : Call → Option ℕ
+number_of (Open o) = Some o.session
+number_of (Place p) = None
+number_of (Move (Acquire reply)) = None
+number_of (Move (Initialize reply)) = None
 number_of (Move (Close fresh reply)) = fresh
-number_of (Begin b) = OptionU64.None
-number_of (Reply r) = OptionU64.None
-number_of (Change id c) = OptionU64.None
-number_of (Read r) = OptionU64.None
+number_of (Begin b) = None
+number_of (Reply r) = None
+number_of (Change id c) = None
+number_of (Read r) = None
 
-abbrev pub is_new : OptionU64 → List ℕ → Bool
-is_new OptionU64.None seen = true
-is_new (OptionU64.Some n) seen = not (is_among n seen)
+abbrev pub is_new : Option ℕ → List ℕ → Bool
+is_new None seen = true
+is_new (Some n) seen = not (is_among n seen)
 
-abbrev pub noted : OptionU64 → List ℕ → List ℕ
-noted OptionU64.None seen = seen
-noted (OptionU64.Some n) seen = n ∷ seen
+abbrev pub noted : Option ℕ → List ℕ → List ℕ
+noted None seen = seen
+noted (Some n) seen = n ∷ seen
 
 -- no session number is handed twice, to the opening or to a close, whatever the call is handed beside it
 abbrev pub Fresh : List ℕ → List Event → Type 0

@@ -53,14 +53,12 @@ fn sums_to(words: &[u64], n: usize, size: u64) -> bool
     ensures { result ≡ eqb (sum_by given_of (tab (brought_at words.now) n)) size }
 {
     let mut sum: u64 = 0;
-    let mut k = 0;
-    while k < n {
+    for k in 0..n {
         let next = words[k * WORDS + 10];
         if next > size - sum {
             return false;
         }
         sum += next;
-        k += 1;
     }
     sum == size
 }

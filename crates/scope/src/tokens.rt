@@ -7,30 +7,15 @@ ghost use Rattle.scope.specs.Scope.{slot_of, Rises, each_once, in_scope};
 pub fn slot_of(own: &[u64], token: u64) -> usize
     ensures { result ≡ slot_of own.now token }
 {
-    let n = own.len();
-    let mut k = 0;
-    while k < n {
-        if token == own[k] {
-            return k;
-        }
-        k += 1;
-    }
-    k
+    let slot = own.iter().position(|t| *t == token);
+    slot.unwrap_or(own.len())
 }
 
 // Each token is greater than the one before it.
 pub fn rises(own: &[u64]) -> bool
     ensures { Rises result own.now }
 {
-    let n = own.len();
-    let mut k = 1;
-    while k < n {
-        if own[k - 1] >= own[k] {
-            return false;
-        }
-        k += 1;
-    }
-    true
+    own.is_sorted_by(|a, b| a < b)
 }
 
 // `slot_of`, trying index `near` first; correct as rising tokens are distinct.
@@ -38,18 +23,10 @@ pub fn slot_near(own: &[u64], rising: bool, near: usize, token: u64) -> usize
     requires { Rises rising own.now }
     ensures { result ≡ slot_of own.now token }
 {
-    if near < own.len() {
-        if rising & (token == own[near]) {
-            return near;
-        }
+    if rising && own.get(near) == Some(&token) {
+        return near;
     }
     slot_of(own, token)
-}
-
-fn contains(list: &[u64], token: u64) -> bool
-    ensures { result ≡ is_among token list.now }
-{
-    slot_of(list, token) < list.len()
 }
 
 // The k-th of the tokens that came back: the completed ones, then the aborted ones.
@@ -72,8 +49,7 @@ fn each_once(own: &[u64], tokens: &[u64], aborted: &[u64]) -> bool
     let n = tokens.len() + aborted.len();
     let rising = rises(own);
     let mut marks = [false; 128];
-    let mut k = 0;
-    while k < n {
+    for k in 0..n {
         let token = returned_at(tokens, aborted, k);
         let j = slot_near(own, rising, k, token);
         if j >= own.len() {
@@ -83,7 +59,6 @@ fn each_once(own: &[u64], tokens: &[u64], aborted: &[u64]) -> bool
             return false;
         }
         marks[j] = true;
-        k += 1;
     }
     true
 }
@@ -91,26 +66,14 @@ fn each_once(own: &[u64], tokens: &[u64], aborted: &[u64]) -> bool
 fn came_back(tokens: &[u64], aborted: &[u64], token: u64) -> bool
     ensures { result ≡ is_among token (tokens.now ++ aborted.now) }
 {
-    let completed = contains(tokens, token);
-    if completed {
-        return true;
-    }
-    contains(aborted, token)
+    tokens.contains(&token) || aborted.contains(&token)
 }
 
 // Every affected token came back.
 fn all_in(own: &[u64], tokens: &[u64], aborted: &[u64]) -> bool
     ensures { result ≡ all_in own.now (tokens.now ++ aborted.now) }
 {
-    let n = own.len();
-    let mut k = 0;
-    while k < n {
-        if !came_back(tokens, aborted, own[k]) {
-            return false;
-        }
-        k += 1;
-    }
-    true
+    own.iter().all(|t| came_back(tokens, aborted, *t))
 }
 
 // Distinct, all expected, and, where the whole is asked for, all of them: as many as there are, since they are distinct, or each one.

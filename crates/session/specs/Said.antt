@@ -1,14 +1,14 @@
 -- What an opening answers, the word of a recovery's kind, and the numbers that the session's calls are refused by, each in the table's
 -- order. Assumes nothing.
-use Rattle.std.specs.Prelude.{ℕ, ◌+◌, List, [], ◌∷◌}
+use Rattle.std.specs.Prelude.{ℕ, ◌+◌, List, [], ◌∷◌, Result, Ok, Err}
 use Rattle.words.specs.Words.{flag_word}
-use Rattle.models.specs.Said.{Said, says, refused}
-use Rattle.session.specs.declared.{RecoveryKind.RecoveryKind, lifecycle.Opened.Opened}
+use Rattle.models.specs.Said.{Said, said_by}
+use Rattle.session.specs.declared.{RecoveryKind.RecoveryKind, Session.Session}
+use Rattle.models.specs.declared.{Refusal.Refusal}
 
 -- an opening that passes has no value: the session comes out as it does of every call
-abbrev pub opened_said : Opened → Said
-opened_said (Opened.Refused r) = refused r
-opened_said (Opened.Open s) = says []
+abbrev pub opened_said : Result Session Refusal → Said
+opened_said = said_by (λ x. [])
 
 -- 0 abort, 1 reset, 2 a reset that preserves the data toggle
 abbrev pub recovery_word : RecoveryKind → ℕ

@@ -1,10 +1,9 @@
 -- The session's own definitions (document 01, "Session"). Assumes nothing.
-use Rattle.std.specs.Prelude.{ℕ, ◌+◌, ◌-◌, ◌^◌, Bool, true, false, eqb}
+use Rattle.std.specs.Prelude.{ℕ, ◌+◌, ◌-◌, ◌^◌, Bool, true, false, eqb, Option, Some, None}
 use Rattle.chain.specs.Chain.{◌if◌else◌}
-use Rattle.words.specs.declared.{OptionU64.OptionU64}
 use Rattle.models.specs.declared.{ControllerState.ControllerState, RequestId.RequestId}
 use Rattle.models.specs.declared.ControllerState.TheVariants.{Closed, AcquiredUnknown, Initialized, Closing, RecoveryRequired}
-use Rattle.session.specs.declared.{InFlight.InFlight, OptionStall.OptionStall, Session.Session}
+use Rattle.session.specs.declared.{InFlight.InFlight, RecoverableStall.RecoverableStall, Session.Session}
 
 abbrev pub is_closed : ControllerState → Bool
 is_closed Closed = true
@@ -42,11 +41,11 @@ is_busy (InFlight.Poll id) = true
 is_busy (InFlight.Recovery x) = true
 
 -- past the 64-bit maximum the revision is none for ever
-unfoldable pub raised : OptionU64 → OptionU64
-raised OptionU64.None = OptionU64.None
-raised (OptionU64.Some n) = OptionU64.None if eqb n (2 ^ 64 - 1) else OptionU64.Some (n + 1)
+unfoldable pub raised : Option ℕ → Option ℕ
+raised None = None
+raised (Some n) = None if eqb n (2 ^ 64 - 1) else Some (n + 1)
 
-abbrev pub with_controller : Session → ControllerState → OptionU64 → Session
+abbrev pub with_controller : Session → ControllerState → Option ℕ → Session
 with_controller s state revision = record {
   number = s.number;
   generation = s.generation;
@@ -72,7 +71,7 @@ with_flight s f = record {
   size = s.size;
 }
 
-abbrev pub with_stall : Session → OptionStall → Session
+abbrev pub with_stall : Session → Option RecoverableStall → Session
 with_stall s stall = record {
   number = s.number;
   generation = s.generation;

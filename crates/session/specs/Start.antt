@@ -1,8 +1,8 @@
 -- The place start of document 01's table, for a call that is neither a reply nor a report. Assumes nothing.
-use Rattle.std.specs.Prelude.{Bool, not}
+use Rattle.std.specs.Prelude.{Bool, not, Result, Ok, Err, ⊤}
 use Rattle.chain.specs.Chain.{◌if◌else◌}
 use Rattle.models.specs.Refusals.{refusal_of}
-use Rattle.models.specs.declared.{Refusal.Refusal, Verdict.Verdict}
+use Rattle.models.specs.declared.{Refusal.Refusal}
 use Rattle.session.specs.Session.{is_busy}
 use Rattle.session.specs.declared.{Session.Session}
 
@@ -13,5 +13,9 @@ guarded s fits refused done =
     refused (refusal_of 3) if not fits else
     done
 
-unfoldable pub ready_of : Session → Bool → Verdict
-ready_of s fits = guarded s fits Verdict.Refused Verdict.Pass
+-- the second alone, for a report
+unfoldable pub sized_of : Bool → Result ⊤ Refusal
+sized_of fits = Err (refusal_of 3) if not fits else Ok tt
+
+unfoldable pub ready_of : Session → Bool → Result ⊤ Refusal
+ready_of s fits = guarded s fits Err (Ok tt)

@@ -2,18 +2,17 @@
 #![tactic(auto)]
 
 ghost use Rattle.std.specs.Prelude.{◌≡◌};
+ghost use Rattle.models.specs.Causes.{number_of};
+ghost use Rattle.models.specs.Refusals.{refusal_of};
+ghost use Rattle.session.specs.Called.{call_refused};
 ghost use Rattle.session.specs.Session.{is_closed, is_acquired, is_initialized, may_recover, is_busy, raised, with_controller, with_flight, with_stall, spent, marked};
 
-use models::{ControllerState, DeviceId, OptionPorts, RequestId, Verdict};
-use words::OptionU64;
+use models::{Cause, ControllerState, DeviceId, Ports, Refusal, RequestId};
 
 pub mod lifecycle; // lifecycle.rt: open, acquire, initialise, close
 pub mod place; // place.rt: the placing calls
 pub mod sizes; // sizes.rt: the sizes of the lent slices, and where a row's bytes lie
 pub mod start; // start.rt: 1 and 3, at the start of a call
-
-// The greatest revision, 2^64 - 1.
-const LAST_REVISION: u64 = 18446744073709551615;
 
 // What a poll found that a reset of the same endpoint may undo: document 01's stall note.
 #[derive(Clone, Copy)]
@@ -21,12 +20,6 @@ pub struct RecoverableStall {
     pub revision: u64,
     pub device: DeviceId,
     pub endpoint: u8,
-}
-
-#[derive(Clone, Copy)]
-pub enum OptionStall {
-    None,
-    Some(RecoverableStall),
 }
 
 // What a recovery asks of the backend; a reset may preserve the data toggle.
@@ -45,7 +38,7 @@ pub struct Recovery {
     pub kind: RecoveryKind,
 }
 
-// The operation that waits for the backend's reply: document 01's errand.
+// The operation that waits for the backend's reply. Each match names all four cases, and C has one tag for them: an Option round three would be no plainer.
 #[derive(Clone, Copy)]
 pub enum InFlight {
     Nothing,
@@ -66,95 +59,84 @@ pub struct Session {
     pub number: u64,
     pub generation: u64,
     pub next_sequence: u64,
-    pub ports: OptionPorts,
+    pub ports: Option<Ports>,
     pub state: ControllerState,
-    pub recovery_revision: OptionU64,
-    pub recoverable_stall: OptionStall,
+    pub recovery_revision: Option<u64>,
+    pub recoverable_stall: Option<RecoverableStall>,
     pub in_flight: InFlight,
     pub size: Size,
 }
 
-// The result of a call: its verdict and the session it leaves.
+// The result of a call: its answer or the refusal, and the session it leaves.
 #[derive(Clone, Copy)]
-pub struct Called {
-    pub answer: Verdict,
+pub struct Called<T> {
+    pub answer: Result<T, Refusal>,
     pub session: Session,
+}
+
+impl<T: Copy> Called<T> {
+    pub fn refused(session: Session, refusal: Refusal) -> Self
+        ensures { result ≡ call_refused session refusal }
+    {
+        Called {
+            answer: Err(refusal),
+            session,
+        }
+    }
+
+    pub fn refused_by(session: Session, cause: Cause) -> Self
+        ensures { result ≡ call_refused session (refusal_of (number_of cause)) }
+    {
+        Self::refused(session, models::refuse(cause))
+    }
 }
 
 pub(crate) fn is_closed(s: ControllerState) -> bool
     ensures { result ≡ is_closed s }
 {
-    match s {
-        ControllerState::Closed => true,
-        ControllerState::AcquiredUnknown => false,
-        ControllerState::Initialized => false,
-        ControllerState::Closing => false,
-        ControllerState::RecoveryRequired => false,
-    }
+    s == ControllerState::Closed
 }
 
 pub(crate) fn is_acquired(s: ControllerState) -> bool
     ensures { result ≡ is_acquired s }
 {
-    match s {
-        ControllerState::Closed => false,
-        ControllerState::AcquiredUnknown => true,
-        ControllerState::Initialized => false,
-        ControllerState::Closing => false,
-        ControllerState::RecoveryRequired => false,
-    }
+    s == ControllerState::AcquiredUnknown
 }
 
 pub fn is_initialized(s: ControllerState) -> bool
     ensures { result ≡ is_initialized s }
 {
-    match s {
-        ControllerState::Closed => false,
-        ControllerState::AcquiredUnknown => false,
-        ControllerState::Initialized => true,
-        ControllerState::Closing => false,
-        ControllerState::RecoveryRequired => false,
-    }
+    s == ControllerState::Initialized
 }
 
 // Initialized or RecoveryRequired.
 pub fn may_recover(s: ControllerState) -> bool
     ensures { result ≡ may_recover s }
 {
-    match s {
-        ControllerState::Closed => false,
-        ControllerState::AcquiredUnknown => false,
-        ControllerState::Initialized => true,
-        ControllerState::Closing => false,
-        ControllerState::RecoveryRequired => true,
-    }
+    matches!(
+        s,
+        ControllerState::Initialized | ControllerState::RecoveryRequired
+    )
 }
 
 pub(crate) fn is_busy(f: InFlight) -> bool
     ensures { result ≡ is_busy f }
 {
-    match f {
-        InFlight::Nothing => false,
-        InFlight::Submission(_) => true,
-        InFlight::Poll(_) => true,
-        InFlight::Recovery(_) => true,
-    }
+    !matches!(f, InFlight::Nothing)
 }
 
 // Increments; None once the counter is exhausted, and from then on.
-fn raise(revision: OptionU64) -> OptionU64
+fn raise(revision: Option<u64>) -> Option<u64>
     ensures { result ≡ raised revision }
 {
-    let OptionU64::Some(n) = revision else {
-        return OptionU64::None;
-    };
-    if n == LAST_REVISION {
-        return OptionU64::None;
-    }
-    OptionU64::Some(n + 1)
+    revision?.checked_add(1)
 }
 
-pub fn with_state(session: Session, state: ControllerState, recovery_revision: OptionU64) -> Session
+pub fn with_state(
+    session: Session,
+    state: ControllerState,
+    recovery_revision: Option<u64>,
+) -> Session
     ensures { result ≡ with_controller session state recovery_revision }
 {
     Session {
@@ -173,7 +155,7 @@ pub fn with_flight(session: Session, in_flight: InFlight) -> Session
     }
 }
 
-pub fn with_stall(session: Session, recoverable_stall: OptionStall) -> Session
+pub fn with_stall(session: Session, recoverable_stall: Option<RecoverableStall>) -> Session
     ensures { result ≡ with_stall session recoverable_stall }
 {
     Session {

@@ -18,29 +18,20 @@ pub struct Place {
 fn is_sized(size: Size) -> bool
     ensures { result ≡ sized size }
 {
-    (size.row_count >= 1)
-        & (size.row_count <= 1024)
-        & (size.row_bytes >= 1)
-        & (size.row_bytes <= 65536)
+    (1..=1024).contains(&size.row_count) && (1..=65536).contains(&size.row_bytes)
 }
 
 // The rows' words are as many as the size asks for.
 pub fn rows_fit(size: Size, words: usize) -> bool
     ensures { result ≡ rows_fit size words }
 {
-    if !is_sized(size) {
-        return false;
-    }
-    words as u64 == size.row_count * ROW_WORDS
+    is_sized(size) && words as u64 == size.row_count * ROW_WORDS
 }
 
 fn area_fits(size: Size, bytes: usize) -> bool
     ensures { result ≡ area_fits size bytes }
 {
-    if !is_sized(size) {
-        return false;
-    }
-    bytes as u64 == size.row_count * size.row_bytes
+    is_sized(size) && bytes as u64 == size.row_count * size.row_bytes
 }
 
 pub(crate) fn bus_fits(words: usize) -> bool
@@ -53,18 +44,14 @@ pub(crate) fn bus_fits(words: usize) -> bool
 pub fn memory_fits(size: Size, words: usize, bytes: usize) -> bool
     ensures { result ≡ memory_sizes size words bytes }
 {
-    let rows_fit = rows_fit(size, words);
-    let area_fits = area_fits(size, bytes);
-    rows_fit & area_fits
+    rows_fit(size, words) && area_fits(size, bytes)
 }
 
 // The rows, the area and the bus.
 pub(crate) fn lent_fits(size: Size, words: usize, bytes: usize, bus_words: usize) -> bool
     ensures { result ≡ lent_sizes size words bytes bus_words }
 {
-    let memory_fits = memory_fits(size, words, bytes);
-    let bus_fits = bus_fits(bus_words);
-    memory_fits & bus_fits
+    memory_fits(size, words, bytes) && bus_fits(bus_words)
 }
 
 pub fn place_of(size: Size, i: usize) -> Place

@@ -1,33 +1,33 @@
 -- The session as words. Every list of words says a session. Assumes nothing.
-use Rattle.std.specs.Prelude.{ℕ, ◌+◌, ◌-◌, ◌%◌, ◌^◌, Bool, true, cond, not, ◌&&◌, List, [], ◌∷◌, get_or, length, eqb}
+use Rattle.std.specs.Prelude.{ℕ, ◌+◌, ◌-◌, ◌%◌, ◌^◌, Bool, true, cond, not, ◌&&◌, List, [], ◌∷◌, get_or, length, eqb, Option, Some, None}
 use Rattle.chain.specs.Chain.{◌if◌else◌}
 use Rattle.words.specs.Words.{read_flag, read_option_u64, option_u64_words}
-use Rattle.words.specs.declared.{OptionU64.OptionU64, OptionWords.OptionWords}
+use Rattle.words.specs.declared.{OptionWords.OptionWords}
 use Rattle.models.specs.Codes.{read_controller, controller_word}
 use Rattle.models.specs.Values.{read_request_words, read_request_id, read_device_id}
-use Rattle.models.specs.declared.{DeviceId.DeviceId, OptionPorts.OptionPorts, RequestId.RequestId}
+use Rattle.models.specs.declared.{DeviceId.DeviceId, Ports.Ports, RequestId.RequestId}
 use Rattle.session.specs.Said.{recovery_word}
-use Rattle.session.specs.declared.{InFlight.InFlight, OptionStall.OptionStall, Recovery.Recovery, RecoveryKind.RecoveryKind, Session.Session}
+use Rattle.session.specs.declared.{InFlight.InFlight, RecoverableStall.RecoverableStall, Recovery.Recovery, RecoveryKind.RecoveryKind, Session.Session}
 use Rattle.session_words.specs.declared.{state.FlightWords.FlightWords, state.PortsWords.PortsWords, state.StallWords.StallWords}
 
 -- how many words a session has
 abbrev pub session_size : ℕ
 session_size = 26
 
-abbrev pub read_ports : ℕ → ℕ → ℕ → OptionPorts
-read_ports present session count = cond (eqb present 0) OptionPorts.None (OptionPorts.Some (record { session = session; count = count % 2 ^ 8 }))
+abbrev pub read_ports : ℕ → ℕ → ℕ → Option Ports
+read_ports present session count = cond (eqb present 0) None (Some (record { session = session; count = count % 2 ^ 8 }))
 
-abbrev pub ports_words : OptionPorts → PortsWords
-ports_words OptionPorts.None = record { present = 0; session = 0; count = 0 }
-ports_words (OptionPorts.Some p) = record { present = 1; session = p.session; count = p.count }
+abbrev pub ports_words : Option Ports → PortsWords
+ports_words None = record { present = 0; session = 0; count = 0 }
+ports_words (Some p) = record { present = 1; session = p.session; count = p.count }
 
-abbrev pub read_stall : ℕ → ℕ → DeviceId → ℕ → OptionStall
+abbrev pub read_stall : ℕ → ℕ → DeviceId → ℕ → Option RecoverableStall
 read_stall present revision device endpoint =
-    cond (eqb present 0) OptionStall.None (OptionStall.Some (record { revision = revision; device = device; endpoint = endpoint % 2 ^ 8 }))
+    cond (eqb present 0) None (Some (record { revision = revision; device = device; endpoint = endpoint % 2 ^ 8 }))
 
-abbrev pub stall_words : OptionStall → StallWords
-stall_words OptionStall.None = record { present = 0; revision = 0; session = 0; generation = 0; slot = 0; endpoint = 0 }
-stall_words (OptionStall.Some x) = record {
+abbrev pub stall_words : Option RecoverableStall → StallWords
+stall_words None = record { present = 0; revision = 0; session = 0; generation = 0; slot = 0; endpoint = 0 }
+stall_words (Some x) = record {
   present = 1;
   revision = x.revision;
   session = x.device.session;
@@ -81,13 +81,13 @@ flight_words (InFlight.Poll id) = id_flight 2 id
 flight_words (InFlight.Recovery x) = recovery_flight x
 
 -- the ports, the revision, the stall and what is in flight of a session's words
-abbrev pub ports_in : List ℕ → OptionPorts
+abbrev pub ports_in : List ℕ → Option Ports
 ports_in w = read_ports (get_or w 3 0) (get_or w 4 0) (get_or w 5 0)
 
-abbrev pub revision_in : List ℕ → OptionU64
+abbrev pub revision_in : List ℕ → Option ℕ
 revision_in w = read_option_u64 (get_or w 7 0) (get_or w 8 0)
 
-abbrev pub stall_in : List ℕ → OptionStall
+abbrev pub stall_in : List ℕ → Option RecoverableStall
 stall_in w = read_stall (get_or w 9 0) (get_or w 10 0) (read_device_id w 11) (get_or w 14 0)
 
 abbrev pub flight_in : List ℕ → InFlight

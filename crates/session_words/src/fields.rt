@@ -7,7 +7,7 @@ ghost use Rattle.session_words.specs.State.{read_session, is_session, kept_of, k
 
 use crate::state::{FLIGHT, REQUEST};
 use models::values::id_at;
-use models::{RequestId, codes};
+use models::{ControllerState, RequestId};
 use session::Size;
 use words::slices;
 use words::slices::word_at;
@@ -54,7 +54,7 @@ pub fn flight_id(w: &[u64]) -> RequestId
 pub fn is_initialized(w: &[u64]) -> bool
     ensures { result ≡ is_initialized (read_session w.now).state }
 {
-    let controller = codes::to_controller(word_at(w, 6));
+    let controller = ControllerState::from(word_at(w, 6));
     session::is_initialized(controller)
 }
 
@@ -65,7 +65,7 @@ pub fn begin_poll(w: &mut [u64], id: RequestId)
         ≡ kept_as w.old (with_flight (read_session w.old) (InFlight.Poll id)) }
 {
     let flight = [2, id.session, id.generation, id.sequence];
-    slices::copy_words(w, FLIGHT, &flight, 4);
+    slices::copy(w, FLIGHT, &flight, 4);
 }
 
 // Ends what is in flight.
@@ -74,5 +74,5 @@ pub fn end_flight(w: &mut [u64])
     ensures { kept_of w.new
         ≡ kept_as w.old (with_flight (read_session w.old) InFlight.Nothing) }
 {
-    slices::clear_words(w, FLIGHT, 9);
+    slices::fill(w, FLIGHT, 9, 0);
 }

@@ -6,8 +6,8 @@ ghost use Rattle.session.specs.Said.{recovery_word};
 ghost use Rattle.session_words.specs.State.{read_ports, ports_in, ports_words, revision_in, read_stall, stall_in, stall_words, read_kind, read_flight, flight_in, id_flight, recovery_flight, flight_words, read_session, session_words, ports_tail, revision_tail, stall_tail, flight_tail, stands_at, is_session, kept_of, kept_as};
 
 use models::values::{device_at, id_at};
-use models::{OptionPorts, Ports, RequestId, codes};
-use session::{InFlight, OptionStall, RecoverableStall, Recovery, RecoveryKind, Session, Size};
+use models::{ControllerState, Ports, RequestId};
+use session::{InFlight, RecoverableStall, Recovery, RecoveryKind, Session, Size};
 use words::slices;
 use words::slices::word_at;
 
@@ -21,7 +21,7 @@ pub(crate) const REQUEST: u8 = 16;
 
 const DEVICE: u8 = 19;
 
-// The words of optional ports, of an optional stall and of what is in flight.
+// The words of optional ports, of an optional stall and of what is in flight, as C has them: a flag or a tag, and zeros where there is none.
 #[derive(Clone, Copy)]
 pub struct PortsWords {
     pub present: u64,
@@ -52,29 +52,29 @@ pub struct FlightWords {
     pub kind: u64,
 }
 
-fn to_ports(w: &[u64]) -> OptionPorts
+fn to_ports(w: &[u64]) -> Option<Ports>
     ensures { result ≡ ports_in w.now }
 {
     let present = word_at(w, 3);
     if present == 0 {
-        return OptionPorts::None;
+        return None;
     }
-    OptionPorts::Some(Ports {
+    Some(Ports {
         session: word_at(w, 4),
         count: (word_at(w, 5) % 256) as u8,
     })
 }
 
-fn ports_words(ports: OptionPorts) -> PortsWords
+fn ports_words(ports: Option<Ports>) -> PortsWords
     ensures { (read_ports result.present result.session result.count ≡ ports) × (result ≡ ports_words ports) }
 {
     match ports {
-        OptionPorts::None => PortsWords {
+        None => PortsWords {
             present: 0,
             session: 0,
             count: 0,
         },
-        OptionPorts::Some(p) => PortsWords {
+        Some(p) => PortsWords {
             present: 1,
             session: p.session,
             count: p.count as u64,
@@ -82,26 +82,26 @@ fn ports_words(ports: OptionPorts) -> PortsWords
     }
 }
 
-fn to_stall(w: &[u64]) -> OptionStall
+fn to_stall(w: &[u64]) -> Option<RecoverableStall>
     ensures { result ≡ stall_in w.now }
 {
     let present = word_at(w, 9);
     if present == 0 {
-        return OptionStall::None;
+        return None;
     }
-    OptionStall::Some(RecoverableStall {
+    Some(RecoverableStall {
         revision: word_at(w, 10),
         device: device_at(w, 11),
         endpoint: (word_at(w, 14) % 256) as u8,
     })
 }
 
-fn stall_words(stall: OptionStall) -> StallWords
+fn stall_words(stall: Option<RecoverableStall>) -> StallWords
     ensures { (read_stall result.present result.revision (read_device_words result.session result.generation result.slot)
         result.endpoint ≡ stall) × (result ≡ stall_words stall) }
 {
     match stall {
-        OptionStall::None => StallWords {
+        None => StallWords {
             present: 0,
             revision: 0,
             session: 0,
@@ -109,7 +109,7 @@ fn stall_words(stall: OptionStall) -> StallWords
             slot: 0,
             endpoint: 0,
         },
-        OptionStall::Some(s) => StallWords {
+        Some(s) => StallWords {
             present: 1,
             revision: s.revision,
             session: s.device.session,
@@ -230,7 +230,7 @@ pub fn to_session(w: &[u64]) -> Session
         generation: word_at(w, 1),
         next_sequence: word_at(w, 2),
         ports: to_ports(w),
-        state: codes::to_controller(word_at(w, 6)),
+        state: ControllerState::from(word_at(w, 6)),
         recovery_revision: words::to_option_u64(word_at(w, 7), word_at(w, 8)),
         recoverable_stall: to_stall(w),
         in_flight: to_flight(w),
@@ -262,7 +262,7 @@ pub fn session_words(session: Session) -> [u64; 26]
         p.present,
         p.session,
         p.count,
-        codes::controller_word(state),
+        u64::from(state),
         r.present,
         r.value,
         x.present,
@@ -371,5 +371,5 @@ pub fn write_session(w: &mut [u64], session: Session)
         return;
     }
     let next = session_words(session);
-    slices::copy_words(w, 0, &next, 26);
+    slices::copy(w, 0, &next, 26);
 }

@@ -5,12 +5,10 @@ use mathlib.Core.List.{List, [], ◌∷◌}
 use mathlib.Core.Path.{◌≡◌, refl, ap, ap₂, sym, ◌∙◌}
 use native.Mathlib.Omega.{arith}
 use native.Mathlib.Nat.{add_comm, div-one}
-use native.Mathlib.Numerals.{add-one}
 use lib.Dec.{eqb}
 use lib.Pow.{recompose}
-use lib.ListN.{length, drop, get_or}
-use lib.Seq.{drop-cons, drop-length}
-use borrow.Author.Tests.{eq-eqb, ne_eqb, eqb-true}
+use lib.ListN.{length}
+use borrow.Author.Tests.{eq-eqb, eqb-true}
 use Rattle.chain.proofs.Chain.{caseB}
 use Rattle.models.specs.declared.{SetupPacket.SetupPacket}
 use Rattle.standards.specs.Fields.{field}
@@ -67,15 +65,3 @@ same_told [] (y ∷ b) = never
 same_told (x ∷ a) [] = never
 same_told (x ∷ a) (y ∷ b) =
     caseB (eqb x y) (λ t. rw t λ e. ap₂ ◌∷◌ (eqb-true x y t) (same_told a b e)) (λ t. rw t λ e. never e)
-
--- what is left from index i on is decided by the two bytes there, or has the same answer without them
-module _ (a b : List ℕ) (i : ℕ) (ha : i < length a) (hb : i < length b) where
-  pub same_stops : (get_or a i 0 ≡ get_or b i 0 → ⊥) → same_bytes (drop i a) (drop i b) ≡ false
-  same_stops h = rw (drop-cons a i 0 ha, drop-cons b i 0 hb, ne_eqb (get_or a i 0) (get_or b i 0) h)
-
-  pub same_goes : get_or a i 0 ≡ get_or b i 0 → same_bytes (drop i a) (drop i b) ≡ same_bytes (drop (i + 1) a) (drop (i + 1) b)
-  same_goes h = rw (add-one i, drop-cons a i 0 ha, drop-cons b i 0 hb, eq-eqb (get_or a i 0) (get_or b i 0) h)
-
--- at the end nothing is left
-pub same_ends : (a b : List ℕ) (i : ℕ) → length a ≡ i → length b ≡ i → same_bytes (drop i a) (drop i b) ≡ true
-same_ends a b i ha hb = rw (← ha, drop-length a, ha ∙ sym hb, drop-length b)

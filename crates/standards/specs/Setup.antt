@@ -1,13 +1,13 @@
 -- The SETUP packet, USB 2.0, 9.3, and the endpoint address, 9.6.6. Assumes nothing.
-use Rattle.std.specs.Prelude.{ℕ, ◌+◌, ◌*◌, ◌^◌, Bool, true, false, cond, ◌&&◌, List, [], ◌∷◌, eqb, get_or}
-use Rattle.models.specs.declared.{Direction.Direction, OptionSetup.OptionSetup, SetupPacket.SetupPacket}
+use Rattle.std.specs.Prelude.{ℕ, ◌+◌, ◌*◌, ◌^◌, Bool, true, false, cond, ◌&&◌, List, [], ◌∷◌, eqb, get_or, Option, Some, None}
+use Rattle.models.specs.declared.{Direction.Direction, SetupPacket.SetupPacket}
 use Rattle.models.specs.declared.Direction.TheVariants.{In, Out}
 use Rattle.standards.specs.Fields.{field, bit}
 
 -- the packet, or one of zeros
-abbrev pub packet_of : OptionSetup → SetupPacket
-packet_of OptionSetup.None = record { request_type = 0; request = 0; value = 0; index = 0; length = 0 }
-packet_of (OptionSetup.Some p) = p
+abbrev pub packet_of : Option SetupPacket → SetupPacket
+packet_of None = record { request_type = 0; request = 0; value = 0; index = 0; length = 0 }
+packet_of (Some p) = p
 
 -- table 9-2: bmRequestType, bRequest, then wValue, wIndex and wLength; 8.1: of two bytes the low one comes first
 unfoldable pub setup_bytes : SetupPacket → List ℕ

@@ -13,7 +13,7 @@ const SHORT_PACKET: u32 = 13;
 pub fn is_finished(code: u32) -> bool
     ensures { result ≡ is_finished code }
 {
-    (code == SUCCESS) | (code == SHORT_PACKET)
+    matches!(code, SUCCESS | SHORT_PACKET)
 }
 
 pub fn is_stall(code: u32) -> bool

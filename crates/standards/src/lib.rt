@@ -6,7 +6,7 @@ pub mod ports; // ports.rt: the port status word
 pub mod setup; // setup.rt: the SETUP packet and the endpoint address
 
 // The parts of a port's status word that the Rust's `PortSnapshot` has.
-#[derive(Clone, Copy)]
+#[derive(Clone, Copy, Debug, PartialEq, Eq)]
 pub struct PortStatus {
     pub connected: bool,
     pub enabled: bool,

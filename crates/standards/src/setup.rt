@@ -3,22 +3,13 @@ ghost use Rattle.std.specs.Prelude.{◌≡◌};
 ghost use Rattle.standards.specs.Fields.{field, bit};
 ghost use Rattle.standards.specs.Setup.{packet_of, setup_bytes, same_bytes, in_if, request_direction, request_kind, recipient_of, endpoint_number, endpoint_reserved, endpoint_direction};
 
-use models::{Direction, OptionSetup, SetupPacket};
+use models::{Direction, SetupPacket};
 
 // The packet, or one of zeros.
-pub fn packet_of(s: OptionSetup) -> SetupPacket
+pub fn packet_of(s: Option<SetupPacket>) -> SetupPacket
     ensures { result ≡ packet_of s }
 {
-    match s {
-        OptionSetup::None => SetupPacket {
-            request_type: 0,
-            request: 0,
-            value: 0,
-            index: 0,
-            length: 0,
-        },
-        OptionSetup::Some(p) => p,
-    }
+    s.unwrap_or_default()
 }
 
 fn low_byte(x: u16) -> u8
@@ -49,25 +40,11 @@ pub fn setup_bytes(packet: SetupPacket) -> [u8; 8]
     ]
 }
 
-// By value: a contract does not know the length of a list behind a `&[u8; 8]`.
-fn same_bytes(a: [u8; 8], b: [u8; 8]) -> bool
-    ensures { result ≡ same_bytes a b }
-{
-    let mut i = 0;
-    while i < 8 {
-        if a[i] != b[i] {
-            return false;
-        }
-        i += 1;
-    }
-    true
-}
-
 // Whether the two are the same bytes.
 pub fn same_setup(a: &[u8; 8], b: &[u8; 8]) -> bool
     ensures { result ≡ same_bytes a.now b.now }
 {
-    same_bytes(*a, *b)
+    a == b
 }
 
 // Bit 7 is the direction, of a request and of an endpoint alike.

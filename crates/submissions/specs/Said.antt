@@ -1,31 +1,29 @@
 -- What a submission answers, and the numbers that it and its reply are refused by, in the table's order. Assumes nothing.
-use Rattle.std.specs.Prelude.{ℕ, List, [], ◌∷◌, ◌++◌}
+use Rattle.std.specs.Prelude.{ℕ, List, [], ◌∷◌, ◌++◌, Result, Ok, Err}
 use Rattle.words.specs.Words.{flag_word}
-use Rattle.models.specs.Said.{Said, says, refused}
+use Rattle.models.specs.Said.{Said, said_by}
 use Rattle.models.specs.Values.{request_id_words, metadata_tail}
 use Rattle.checks.specs.Said.{validated_words, packets_numbers, prepare_numbers, plan_numbers}
 use Rattle.targets.specs.Said.{device_numbers, target_numbers}
-use Rattle.submissions.specs.declared.{PlanAnswer.PlanAnswer, PlanSubmission.PlanSubmission, Submission.Submission, SubmitAnswer.SubmitAnswer, begin.Start.Start}
+use Rattle.submissions.specs.declared.{PlanSubmission.PlanSubmission, Submission.Submission, begin.Start.Start}
+use Rattle.models.specs.declared.{Refusal.Refusal}
 
-abbrev pub start_said : Start → Said
-start_said (Start.Refused r) = refused r
-start_said (Start.At id row) = says (request_id_words id ++ row ∷ [])
+abbrev pub start_said : Result Start Refusal → Said
+start_said = said_by (λ x. request_id_words x.id ++ x.row ∷ [])
 
 -- id, row, metadata, whether packets were given
 abbrev pub begun_values : Submission → List ℕ
 begun_values x = request_id_words x.id ++ x.row ∷ metadata_tail x.metadata (flag_word x.has_packets ∷ [])
 
-abbrev pub submit_said : SubmitAnswer → Said
-submit_said (SubmitAnswer.Refused r) = refused r
-submit_said (SubmitAnswer.Begun x) = says (begun_values x)
+abbrev pub submit_said : Result Submission Refusal → Said
+submit_said = said_by begun_values
 
 -- id, row, the validated plan
 abbrev pub plan_values : PlanSubmission → List ℕ
 plan_values x = request_id_words x.id ++ x.row ∷ validated_words x.plan
 
-abbrev pub plan_said : PlanAnswer → Said
-plan_said (PlanAnswer.Refused r) = refused r
-plan_said (PlanAnswer.Begun x) = says (plan_values x)
+abbrev pub plan_said : Result PlanSubmission Refusal → Said
+plan_said = said_by plan_values
 
 -- of an admission
 abbrev pub admit_numbers : List ℕ

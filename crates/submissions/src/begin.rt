@@ -4,49 +4,31 @@ ghost use Rattle.std.specs.Prelude.{◌≡◌, ◌+◌, ◌<◌, ◌≤◌, leng
 ghost use Rattle.chain.specs.After.{after};
 ghost use Rattle.rows.specs.Table.{read_rows};
 ghost use Rattle.session.specs.Lent.{lent_of, memory_of};
-ghost use Rattle.submissions.specs.Begin.{room_in, new_id, start_refused, write_of, draft, Placed, begin_of, target_of};
+ghost use Rattle.submissions.specs.Begin.{room_in, new_id, write_of, draft, Placed, begin_of, target_of};
 
-use chain::Found;
 use ledger::{search, tally};
-use models::{Refusal, RequestId, RequestMetadata, Verdict, kinds};
-use rules::Spent;
-use session::Session;
+use models::{Refusal, RequestId, RequestMetadata, kinds};
 use session::sizes::Place;
+use session::{Called, Session};
 use targets::{Readings, target};
 use words::slices;
 
 // How many requests may be held, as wide as their count.
 const HELD_MOST: u8 = models::HELD_MOST as u8;
 
-// A submission in flight, with its id and row, or the refusal.
+// A submission in flight: its id and its row.
 #[derive(Clone, Copy)]
-pub enum Start {
-    Refused(Refusal),
-    At(RequestId, u64),
-}
-
-// The answer and the session it leaves.
-#[derive(Clone, Copy)]
-pub struct Started {
-    pub answer: Start,
-    pub session: Session,
-}
-
-pub(crate) fn start_refused(session: Session, refusal: Refusal) -> Started
-    ensures { result ≡ start_refused session refusal }
-{
-    Started {
-        answer: Start::Refused(refusal),
-        session,
-    }
+pub struct Start {
+    pub id: RequestId,
+    pub row: u64,
 }
 
 // The first row without a request; Nothing if there is none or 128 are held.
-pub(crate) fn find_room(rows: &[u64]) -> Found
+pub(crate) fn find_room(rows: &[u64]) -> Option<usize>
     ensures { result ≡ room_in (read_rows rows.now) }
 {
     if tally::held_count(rows) >= HELD_MOST {
-        return Found::Nothing;
+        return None;
     }
     search::first_free(rows)
 }
@@ -70,10 +52,10 @@ fn write_buffer(area: &mut [u8], start: usize, metadata: RequestMetadata, bytes:
     let direction = metadata.direction;
     let n = metadata.requested_length;
     if kinds::is_in(direction) {
-        slices::clear_bytes(area, start, n as usize);
+        slices::fill(area, start, n as usize, 0);
         return;
     }
-    slices::copy_bytes(area, start, bytes, bytes.len());
+    slices::copy(area, start, bytes, bytes.len());
 }
 
 // Refuses by 39 if no sequence number is left; else spends one, and writes row and buffer.
@@ -84,7 +66,7 @@ fn begin(
     place: Place,
     metadata: RequestMetadata,
     bytes: &[u8],
-) -> Started
+) -> Called<Start>
     requires { (place.row < length (read_rows rows.old))
         × (place.start + metadata.requested_length ≤ length area.old)
         × (place.start + length bytes.now ≤ length area.old) }
@@ -93,14 +75,17 @@ fn begin(
 {
     let spent = rules::spend_sequence(session.next_sequence);
     match spent {
-        Spent::Refused(refusal) => start_refused(session, refusal),
-        Spent::Next(next) => {
+        Err(refusal) => Called::refused(session, refusal),
+        Ok(next) => {
             let id = new_id(session);
             let row = rules::pending_row(id, metadata);
             rows::write_row(rows, place.row, row);
             write_buffer(area, place.start, metadata, bytes);
-            Started {
-                answer: Start::At(id, place.row as u64),
+            Called {
+                answer: Ok(Start {
+                    id,
+                    row: place.row as u64,
+                }),
                 session: session::spend(session, next, id),
             }
         }
@@ -117,7 +102,7 @@ pub(crate) fn begin_target(
     metadata: RequestMetadata,
     bytes: &[u8],
     readings: Readings,
-) -> Started
+) -> Called<Start>
     requires { Placed (draft place metadata bytes.now) bus.old rows.old area.old }
     ensures { after result (lent_of bus.new rows.new area.new)
         ≡ target_of (draft place metadata bytes.now) readings session (lent_of bus.old rows.old area.old) }
@@ -127,7 +112,7 @@ pub(crate) fn begin_target(
     let initialized = session::is_initialized(state);
     let verdict = target::check_target(bus, initialized, ports, metadata, readings);
     match verdict {
-        Verdict::Refused(refusal) => start_refused(session, refusal),
-        Verdict::Pass => begin(session, rows, area, place, metadata, bytes),
+        Err(refusal) => Called::refused(session, refusal),
+        Ok(()) => begin(session, rows, area, place, metadata, bytes),
     }
 }

@@ -3,8 +3,9 @@
 #![tactic(auto)]
 
 use checks::plan::ValidatedControlPlan;
-use models::{OperationError, Refusal, RequestId, RequestMetadata};
+use models::{ControlPlan, OperationError, Refusal, RequestId, RequestMetadata, RequestSpec};
 use session::Session;
+use targets::Readings;
 
 pub mod admit; // admit.rt: 1 to 25, before the device is looked at
 mod begin; // begin.rt: 26 to 39 and 58, and what a submission writes
@@ -13,7 +14,25 @@ pub mod submit; // submit.rt: the submission of a request
 pub mod submit_reply; // submit_reply.rt: the backend's reply to either
 pub mod wants; // wants.rt: which port reading a submission lacks
 
-// What the backend is to do for a request. Its buffer is the first bytes of the row's part of the area; packets are the caller's list.
+// A request as its caller asks for it. The bytes are the data of an OUT; packets are given for an isochronous one alone.
+#[derive(Clone, Copy)]
+pub struct NewRequest<'a> {
+    pub spec: RequestSpec,
+    pub bytes: &'a [u8],
+    pub packets: Option<&'a [u64]>,
+    pub readings: Readings,
+}
+
+// A control plan as its caller asks for it. It is control, so it has one port reading.
+#[derive(Clone, Copy)]
+pub struct NewPlan<'a> {
+    pub plan: ControlPlan,
+    pub bytes: &'a [u8],
+    pub reading: Result<u32, OperationError>,
+}
+
+// What the backend is to do for a request. Its buffer is the first bytes of the row's part of the area; packets are the caller's
+// list, and the flag is C's word.
 #[derive(Clone, Copy)]
 pub struct Submission {
     pub id: RequestId,
@@ -22,41 +41,10 @@ pub struct Submission {
     pub has_packets: bool,
 }
 
-#[derive(Clone, Copy)]
-pub enum SubmitAnswer {
-    Refused(Refusal),
-    Begun(Submission),
-}
-
-#[derive(Clone, Copy)]
-pub struct Submitted {
-    pub answer: SubmitAnswer,
-    pub session: Session,
-}
-
 // What the backend is to do for a control plan. Its SETUP bytes are `standards::setup::setup_bytes` of the metadata's packet.
 #[derive(Clone, Copy)]
 pub struct PlanSubmission {
     pub id: RequestId,
     pub row: u64,
     pub plan: ValidatedControlPlan,
-}
-
-#[derive(Clone, Copy)]
-pub enum PlanAnswer {
-    Refused(Refusal),
-    Begun(PlanSubmission),
-}
-
-#[derive(Clone, Copy)]
-pub struct PlanSubmitted {
-    pub answer: PlanAnswer,
-    pub session: Session,
-}
-
-// The backend's reply to a submission.
-#[derive(Clone, Copy)]
-pub enum SubmitReply {
-    Token(u64),
-    Error(OperationError),
 }

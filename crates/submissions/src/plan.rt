@@ -5,35 +5,29 @@ ghost use Rattle.models.specs.Said.{Tabled};
 ghost use Rattle.session.specs.Lent.{lent_of};
 ghost use Rattle.submissions.specs.Begin.{draft, Placed};
 ghost use Rattle.submissions.specs.Said.{plan_said, submit_plan_numbers};
-ghost use Rattle.submissions.specs.Plan.{plan_refused, plan_started, plan_target, submit_plan_of};
+ghost use Rattle.submissions.specs.Plan.{plan_started, plan_target, submit_plan_of};
 
 use crate::admit::AdmittedPlan;
-use crate::begin::{Start, Started};
-use crate::{PlanAnswer, PlanSubmission, PlanSubmitted, admit, begin};
+use crate::begin::Start;
+use crate::{NewPlan, PlanSubmission, admit, begin};
 use checks::plan::ValidatedControlPlan;
-use models::{ControlPlan, PortReading, Refusal};
-use session::Session;
-use session::sizes::Place;
+use models::Refusal;
+use session::{Called, Session};
 use targets::Readings;
 
-fn plan_refused(session: Session, refusal: Refusal) -> PlanSubmitted
-    ensures { result ≡ plan_refused session refusal }
-{
-    PlanSubmitted {
-        answer: PlanAnswer::Refused(refusal),
-        session,
-    }
-}
-
-fn plan_started(started: Started, p: ValidatedControlPlan) -> PlanSubmitted
+fn plan_started(started: Called<Start>, p: ValidatedControlPlan) -> Called<PlanSubmission>
     ensures { result ≡ plan_started started.answer started.session p }
 {
     let answer = started.answer;
     let session = started.session;
     match answer {
-        Start::Refused(refusal) => plan_refused(session, refusal),
-        Start::At(id, row) => PlanSubmitted {
-            answer: PlanAnswer::Begun(PlanSubmission { id, row, plan: p }),
+        Err(refusal) => Called::refused(session, refusal),
+        Ok(start) => Called {
+            answer: Ok(PlanSubmission {
+                id: start.id,
+                row: start.row,
+                plan: p,
+            }),
             session,
         },
     }
@@ -45,21 +39,21 @@ fn plan_target(
     bus: &mut [u64],
     rows: &mut [u64],
     area: &mut [u8],
-    place: Place,
-    p: ValidatedControlPlan,
-    bytes: &[u8],
-    first: PortReading,
-) -> PlanSubmitted
-    requires { Placed (draft place p.metadata bytes.now) bus.old rows.old area.old }
+    own: AdmittedPlan,
+    q: NewPlan<'_>,
+) -> Called<PlanSubmission>
+    requires { Placed (draft own.place own.plan.metadata q.bytes.now) bus.old rows.old area.old }
     ensures { after result (lent_of bus.new rows.new area.new)
-        ≡ plan_target place p bytes.now first session (lent_of bus.old rows.old area.old) }
+        ≡ plan_target own.place own.plan q.entry.bytes.now q.entry.reading session (lent_of bus.old rows.old area.old) }
 {
-    let metadata = p.metadata;
+    let p = own.plan;
     let readings = Readings {
-        first,
-        second: first,
+        first: q.reading,
+        second: q.reading,
     };
-    let started = begin::begin_target(session, bus, rows, area, place, metadata, bytes, readings);
+    let started = begin::begin_target(
+        session, bus, rows, area, own.place, p.metadata, q.bytes, readings,
+    );
     plan_started(started, p)
 }
 
@@ -70,19 +64,15 @@ pub fn submit_control_plan(
     bus: &mut [u64],
     rows: &mut [u64],
     area: &mut [u8],
-    q: ControlPlan,
-    bytes: &[u8],
-    first: PortReading,
-) -> PlanSubmitted
+    q: NewPlan<'_>,
+) -> Called<PlanSubmission>
     ensures step { after result (lent_of bus.new rows.new area.new)
-        ≡ submit_plan_of q bytes.now first session (lent_of bus.old rows.old area.old) }
+        ≡ submit_plan_of q.entry.plan q.entry.bytes.now q.entry.reading session (lent_of bus.old rows.old area.old) }
     ensures table { Tabled submit_plan_numbers (plan_said result.answer) }
 {
-    let admitted = admit::admit_plan(session, bus, rows, area, q, bytes.len() as u64);
+    let admitted = admit::admit_plan(session, bus, rows, area, q);
     match admitted {
-        AdmittedPlan::Refused(refusal) => plan_refused(session, refusal),
-        AdmittedPlan::Ready(place, p) => {
-            plan_target(session, bus, rows, area, place, p, bytes, first)
-        }
+        Err(refusal) => Called::refused(session, refusal),
+        Ok(own) => plan_target(session, bus, rows, area, own, q),
     }
 }

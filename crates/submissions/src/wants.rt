@@ -2,13 +2,12 @@
 ghost use Rattle.std.specs.Prelude.{◌≡◌, length};
 ghost use Rattle.bus.specs.Layout.{bus_words};
 ghost use Rattle.session.specs.Lent.{lent_of};
-ghost use Rattle.submissions.specs.Submit.{request};
+ghost use Rattle.submissions.specs.Submit.{request_in, packets_in};
 ghost use Rattle.submissions.specs.Wants.{target_wants, submit_wants, plan_wants};
 ghost use Rattle.bus.specs.Tables.{bus_of};
 
-use crate::admit;
-use crate::admit::{Admitted, AdmittedPlan};
-use models::{ControlPlan, PortReading, RequestMetadata, RequestSpec};
+use crate::{NewPlan, NewRequest, admit};
+use models::{ControlPlan, OperationError, RequestMetadata, RequestSpec};
 use session::Session;
 use targets::wants::Wanted;
 use targets::{Readings, wants};
@@ -19,7 +18,7 @@ fn target_wants(
     bus: &[u64],
     metadata: RequestMetadata,
     readings: Readings,
-) -> Wanted
+) -> Option<Wanted>
     requires { length bus.now ≡ bus_words }
     ensures { result ≡ target_wants metadata readings session (bus_of bus.now) }
 {
@@ -35,29 +34,12 @@ pub fn submit_wants(
     bus: &[u64],
     rows: &[u64],
     area: &[u8],
-    q: RequestSpec,
-    bytes: &[u8],
-    given: bool,
-    packets: &[u64],
-    readings: Readings,
-) -> Wanted
-    ensures { result ≡ submit_wants packets.now (request q bytes.now given readings) session
-        (lent_of bus.now rows.now area.now) }
+    q: NewRequest<'_>,
+) -> Option<Wanted>
+    ensures { result ≡ submit_wants (packets_in q.entry) (request_in q.entry) session (lent_of bus.now rows.now area.now) }
 {
-    let admitted = admit::admit(
-        session,
-        bus,
-        rows,
-        area,
-        q,
-        bytes.len() as u64,
-        given,
-        packets,
-    );
-    match admitted {
-        Admitted::Refused(_) => Wanted::Nothing,
-        Admitted::Ready(_, metadata) => target_wants(session, bus, metadata, readings),
-    }
+    let admitted = admit::admit(session, bus, rows, area, q).ok()?;
+    target_wants(session, bus, admitted.metadata, q.readings)
 }
 
 // What `submit_control_plan` lacks.
@@ -66,22 +48,14 @@ pub fn plan_wants(
     bus: &[u64],
     rows: &[u64],
     area: &[u8],
-    q: ControlPlan,
-    bytes: &[u8],
-    first: PortReading,
-) -> Wanted
-    ensures { result ≡ plan_wants q bytes.now first session (lent_of bus.now rows.now area.now) }
+    q: NewPlan<'_>,
+) -> Option<Wanted>
+    ensures { result ≡ plan_wants q.entry.plan q.entry.bytes.now q.entry.reading session (lent_of bus.now rows.now area.now) }
 {
-    let admitted = admit::admit_plan(session, bus, rows, area, q, bytes.len() as u64);
-    match admitted {
-        AdmittedPlan::Refused(_) => Wanted::Nothing,
-        AdmittedPlan::Ready(_, p) => {
-            let metadata = p.metadata;
-            let readings = Readings {
-                first,
-                second: first,
-            };
-            target_wants(session, bus, metadata, readings)
-        }
-    }
+    let admitted = admit::admit_plan(session, bus, rows, area, q).ok()?;
+    let readings = Readings {
+        first: q.reading,
+        second: q.reading,
+    };
+    target_wants(session, bus, admitted.plan.metadata, readings)
 }

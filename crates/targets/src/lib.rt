@@ -1,7 +1,7 @@
 // The checks of a submission's device and endpoint, in the order of document 01's table.
 #![tactic(auto)]
 
-use models::PortReading;
+use models::OperationError;
 
 pub mod target; // target.rt: 26 to 38 and 58
 pub mod wants; // wants.rt: which port reading these checks lack
@@ -9,6 +9,6 @@ pub mod wants; // wants.rt: which port reading these checks lack
 // The port readings that come with a submission; control takes the first alone.
 #[derive(Clone, Copy)]
 pub struct Readings {
-    pub first: PortReading,
-    pub second: PortReading,
+    pub first: Result<u32, OperationError>,
+    pub second: Result<u32, OperationError>,
 }

@@ -5,77 +5,68 @@ ghost use Rattle.bus.specs.Tables.{bus_of};
 ghost use Rattle.targets.specs.Wants.{is_missing, second_wanted, after_first, first_wanted, device_wanted, wanted_reading};
 
 use crate::Readings;
-use crate::target::{DeviceChecked, known_device, prepared_device};
-use bus::ports::{PortChecked, peek_word, validate};
-use models::{DeviceSnapshot, OptionPorts, PortReading, RequestMetadata, kinds};
+use crate::target::{known_device, prepared_device};
+use bus::ports::{peek_word, validate};
+use models::{DeviceSnapshot, OperationError, Ports, RequestMetadata, kinds};
 
-// The reading, with its port's number.
+// Which reading is wanted, with its port's number.
 #[derive(Clone, Copy)]
 pub enum Wanted {
-    Nothing,
     First(u8),
     Second(u8),
 }
 
 // A reading that was not taken yet is given as failed.
-fn is_missing(reading: PortReading) -> bool
+fn is_missing(reading: Result<u32, OperationError>) -> bool
     ensures { result ≡ is_missing reading }
 {
-    match reading {
-        PortReading::Error(_) => true,
-        PortReading::Word(_) => false,
-    }
+    reading.is_err()
 }
 
 // The second reading is wanted if 36 does not refuse, and not for control.
-fn second_wanted(device: DeviceSnapshot, metadata: RequestMetadata, second: PortReading) -> Wanted
+fn second_wanted(
+    device: DeviceSnapshot,
+    metadata: RequestMetadata,
+    second: Result<u32, OperationError>,
+) -> Option<Wanted>
     ensures { result ≡ second_wanted device metadata second }
 {
-    let transfer_type = metadata.transfer_type;
-    let control = kinds::is_control(transfer_type);
-    if control {
-        return Wanted::Nothing;
+    if kinds::is_control(metadata.transfer_type) {
+        return None;
     }
-    let state = device.state;
-    let configured = kinds::is_configured(state);
-    if !configured {
-        return Wanted::Nothing;
+    if !kinds::is_configured(device.state) {
+        return None;
     }
-    let missing = is_missing(second);
-    if !missing {
-        return Wanted::Nothing;
+    if !is_missing(second) {
+        return None;
     }
-    Wanted::Second(device.port.number)
+    Some(Wanted::Second(device.port.number))
 }
 
 // What is wanted behind the first reading: nothing if 34, 31 or 35 refuses, else by the second.
 fn after_first(
     bus: &[u64],
-    ports: OptionPorts,
+    ports: Option<Ports>,
     device: DeviceSnapshot,
     metadata: RequestMetadata,
     raw: u32,
-    second: PortReading,
-) -> Wanted
+    second: Result<u32, OperationError>,
+) -> Option<Wanted>
     requires { length bus.now ≡ bus_words }
     ensures { result ≡ after_first raw second ports device metadata (bus_of bus.now) }
 {
-    let id = device.port;
-    let port = peek_word(bus, ports, id, raw);
-    let checked = prepared_device(port, device);
-    match checked {
-        DeviceChecked::Refused(_) => Wanted::Nothing,
-        DeviceChecked::Ready(own) => second_wanted(own, metadata, second),
-    }
+    let port = peek_word(bus, ports, device.port, raw);
+    let device = prepared_device(port, device).ok()?;
+    second_wanted(device, metadata, second)
 }
 
 fn first_wanted(
     bus: &[u64],
-    ports: OptionPorts,
+    ports: Option<Ports>,
     device: DeviceSnapshot,
     metadata: RequestMetadata,
     readings: Readings,
-) -> Wanted
+) -> Option<Wanted>
     requires { length bus.now ≡ bus_words }
     ensures { result
         ≡ first_wanted readings.first readings.second ports device metadata (bus_of bus.now) }
@@ -83,45 +74,37 @@ fn first_wanted(
     let first = readings.first;
     let second = readings.second;
     match first {
-        PortReading::Error(_) => Wanted::First(device.port.number),
-        PortReading::Word(raw) => after_first(bus, ports, device, metadata, raw, second),
+        Err(_) => Some(Wanted::First(device.port.number)),
+        Ok(raw) => after_first(bus, ports, device, metadata, raw, second),
     }
 }
 
 // What is wanted of a known device: nothing if 29 to 32 refuse, else by the first reading.
 fn device_wanted(
     bus: &[u64],
-    ports: OptionPorts,
+    ports: Option<Ports>,
     device: DeviceSnapshot,
     metadata: RequestMetadata,
     readings: Readings,
-) -> Wanted
+) -> Option<Wanted>
     requires { length bus.now ≡ bus_words }
     ensures { result ≡ device_wanted device ports metadata readings (bus_of bus.now) }
 {
-    let id = device.port;
-    let checked = validate(bus, ports, id);
-    match checked {
-        PortChecked::Refused(_) => Wanted::Nothing,
-        PortChecked::Read(_) => first_wanted(bus, ports, device, metadata, readings),
-    }
+    validate(bus, ports, device.port).ok()?;
+    first_wanted(bus, ports, device, metadata, readings)
 }
 
 // The reading that is wanted next: nothing if 26 to 28 refuse, else by the device's port.
 pub fn wanted_reading(
     bus: &[u64],
     initialized: bool,
-    ports: OptionPorts,
+    ports: Option<Ports>,
     metadata: RequestMetadata,
     readings: Readings,
-) -> Wanted
+) -> Option<Wanted>
     requires { length bus.now ≡ bus_words }
     ensures { result ≡ wanted_reading initialized ports metadata readings (bus_of bus.now) }
 {
-    let id = metadata.device;
-    let known = known_device(bus, initialized, id);
-    match known {
-        DeviceChecked::Refused(_) => Wanted::Nothing,
-        DeviceChecked::Ready(device) => device_wanted(bus, ports, device, metadata, readings),
-    }
+    let device = known_device(bus, initialized, metadata.device).ok()?;
+    device_wanted(bus, ports, device, metadata, readings)
 }

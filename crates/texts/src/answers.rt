@@ -36,11 +36,7 @@ fn begun<W: Write>(
 fn items(lists: &[u64], at: usize) -> usize
     ensures { result ≤ 128 }
 {
-    let n = word_at(lists, at);
-    if n > 128 {
-        return 128;
-    }
-    n as usize
+    word_at(lists, at).min(128) as usize
 }
 
 // A recovery that began, and the tokens of the affected requests.
@@ -79,12 +75,10 @@ pub fn answer<W: Write>(out: &mut W, answer: &[u64], lists: &[u64], area: &[u8])
 // The bytes of `area` from `start` on: nothing where they don't lie within it.
 fn part<W: Write>(out: &mut W, start: u64, length: u64, area: &[u8]) -> io::Result<()> {
     let n = area.len() as u64;
-    if start <= n {
-        if length <= n - start {
-            let at = start as usize;
-            let end = at + length as usize;
-            print::bytes(out, b"bytes", &area[at..end])?;
-        }
+    if start <= n && length <= n - start {
+        let at = start as usize;
+        let end = at + length as usize;
+        print::bytes(out, b"bytes", &area[at..end])?;
     }
     Ok(())
 }

@@ -6,7 +6,7 @@ ghost use Rattle.std.specs.Io.KnownBytes.{Consumes, IsAtEnd};
 use std::io;
 use std::io::Read;
 
-// Reads until the input ends or the room is full, and answers how many bytes came. A read that fails, or that a signal interrupts, is an error.
+// Reads until the input ends or the room is full, and answers how many bytes came. A `while`: a `for` would count reads and not bytes. A read that fails, or that a signal interrupts, is an error.
 pub fn read_full<R: Read>(input: &mut R, room: &mut [u8]) -> io::Result<usize>
     ensures count { ReadsAtMost result room.new }
     ensures bytes { IfOk result (λ n. Consumes (R.remaining input.old) (R.remaining input.new) (take n room.new)) }

@@ -1,4 +1,5 @@
 -- Laws of the small values' words. Assumes nothing.
+use Rattle.std.specs.Prelude.{Some}
 use Prim.Native.Nat.{ℕ, ◌+◌, ◌-◌, ◌%◌, ◌<◌, ◌^◌}
 use mathlib.Core.Path.{◌≡◌, refl}
 use mathlib.Core.Bool.{Bool, true, false}
@@ -6,7 +7,6 @@ use native.Mathlib.Omega.{arith}
 use native.Mathlib.Nat.{mod-eq_of_lt}
 use borrow.Author.Tests.{ne_eqb}
 use Rattle.words.specs.Words.{read_flag, flag_word, read_option_u32}
-use Rattle.words.specs.declared.OptionU32.TheVariants.{Some}
 
 pub flag_back : (b : Bool) → read_flag (flag_word b) ≡ b
 flag_back true = refl

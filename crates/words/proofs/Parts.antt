@@ -1,31 +1,20 @@
--- Laws of words that are read, of the loops that fill a slice from its front, and of a part of a slice that is put back. Assumes nothing.
+-- Laws of a length that is cut, of a slice that is filled from its front, and of a part of a slice that is put back. Assumes nothing.
 use Prim.Native.Nat.{ℕ, ◌+◌, ◌-◌, ◌<◌, ◌≤◌, min}
 use mathlib.Core.Path.{◌≡◌, sym, ◌∙◌}
-use mathlib.Core.List.{List, []}
+use mathlib.Core.List.{List}
 use native.Mathlib.Omega.{arith}
 use native.Mathlib.Nat.{min-eq_left, min-eq_right}
 use native.Mathlib.Numerals.{add-one}
 use lib.Dec.{leb}
-use lib.ListN.{length, get_or, take, drop, set, replicate, length-drop, length-replicate, get_or-replicate, drop_of_length-le, get_or-eq_default}
+use lib.ListN.{length-drop, length, get_or, take, drop, set, replicate, length-replicate, get_or-replicate, drop_of_length-le}
 use lib.Seq.{take-suc, take-suc-set, take_all, take-length, drop-length, length-take-le}
 use borrow.Author.Tests.{leb-true, leb-false}
 use borrow.Rule.Slice.PartMut.{put_mid, mid_of, Post-is, mid_len}
 use Rattle.chain.proofs.Chain.{caseB}
-use Rattle.words.specs.Records.{splice, splice_cut}
+use Rattle.words.specs.Records.{splice}
 
--- a missing word counts as 0
-pub missing : (w : List ℕ) (i : ℕ) → length w ≤ i → 0 ≡ get_or w i 0
-missing w i h = sym (get_or-eq_default w 0 h)
-
-module _ (l : List ℕ) (n : ℕ) where
-  pub rest_some : take (length l - n) (drop n l) ≡ drop n l
-  rest_some = take_all (length l - n) (drop n l) (omega (arith, length-drop n l))
-
-  pub rest_none : length l ≤ n → [] ≡ drop n l
-  rest_none h = sym (drop_of_length-le l h)
-
-  pub first_all : length l ≤ n → l ≡ take n l
-  first_all h = sym (take_all n l h)
+pub rest_some : (l : List ℕ) (n : ℕ) → take (length l - n) (drop n l) ≡ drop n l
+rest_some l n = take_all (length l - n) (drop n l) (omega (arith, length-drop n l))
 
 -- a number that is cut at the length takes and drops as much
 module _ {A : Type 0} (n : ℕ) (l : List A) where
@@ -44,7 +33,7 @@ module _ {A : Type 0} where
   abbrev pub Filled : ℕ → ℕ → List A → List A → Type 0
   Filled n k s l = (k ≤ n) × (length l ≡ n) × (take k l ≡ take k s)
 
-  pub copy_step : (d : A) (k : ℕ) (s l : List A) → k < length l → length l ≡ length s → take k l ≡ take k s
+  copy_step : (d : A) (k : ℕ) (s l : List A) → k < length l → length l ≡ length s → take k l ≡ take k s
       → take (k + 1) (set l k (get_or s k d)) ≡ take (k + 1) s
   copy_step d k s l h n same = rw add-one (take-suc-set l k (get_or s k d) h ∙ rw same (sym (take-suc s k d (omega arith))))
 
@@ -53,12 +42,6 @@ module _ {A : Type 0} where
   clear_step n x k l h e same =
       rw (get_or-replicate n k x x (omega arith)) at (copy_step x k (replicate n x) l h (e ∙ sym (length-replicate n x)) same)
 
-  pub copy_end : (k : ℕ) (s l : List A) → length l ≤ k → length l ≡ length s → take k l ≡ take k s → l ≡ s
-  copy_end k s l h n same = sym (take_all k l h) ∙ same ∙ take_all k s (omega arith)
-
-  pub clear_end : (k n : ℕ) (x : A) (l : List A) → length l ≤ k → length l ≡ n → take k l ≡ take k (replicate n x) → l ≡ replicate n x
-  clear_end k n x l h e same = copy_end k (replicate n x) l h (e ∙ sym (length-replicate n x)) same
-
   put_back : (at n : ℕ) (p l : List A) → length p ≡ n → put_mid at (at + n - at) l p ≡ splice at p l
   unfolding splice
   put_back at n p l e = rw (Post-is at (at + n) l (omega arith), e)
@@ -66,10 +49,6 @@ module _ {A : Type 0} where
   -- the part [at, at + n) of l is lent out and comes back as q
   pub copied : (at n : ℕ) (q s l : List A) → q ≡ take n s → n ≤ length s → put_mid at (at + n - at) l q ≡ splice at (take n s) l
   copied at n q s l e h = rw e (put_back at n (take n s) l (length-take-le n s h))
-
-  -- as much of s as there is room for
-  pub copied_cut : (at n m : ℕ) (s l after : List A) → m ≡ min (length s) n → after ≡ splice at (take m s) l → after ≡ splice_cut at n s l
-  copied_cut at n m s l after em e = e ∙ rw em
 
   pub cleared : (at n : ℕ) (x : A) (q l : List A) → q ≡ replicate (length (mid_of at (at + n - at) l)) x → at + n ≤ length l
       → put_mid at (at + n - at) l q ≡ splice at (replicate n x) l

@@ -1,4 +1,5 @@
 -- Laws of answers as words. Assumes nothing.
+use Rattle.std.specs.Prelude.{Option, Some, None}
 use Prim.Native.Nat.{ℕ, suc, ◌+◌, ◌≤◌, ◌<◌}
 use mathlib.Core.List.{List, [], ◌∷◌, ◌++◌}
 use mathlib.Core.Path.{◌≡◌, refl, sym, ◌∙◌}
@@ -9,9 +10,9 @@ use borrow.Author.Tests.{lt-ltb, le-ltb}
 use Rattle.chain.proofs.Chain.{takes, passes}
 use Rattle.words.specs.Records.{splice}
 use Rattle.words.specs.Words.{flag_word, option_u32_word, option_i32_word}
-use Rattle.models.specs.Codes.{category_word, transfer_word, direction_word}
-use Rattle.models.specs.Values.{setup_tail, setup_words, option_error_words, request_id_words, device_id_words, metadata_tail}
-use Rattle.models.specs.declared.{OperationError.OperationError, OptionError.OptionError, Refusal.Refusal, RequestMetadata.RequestMetadata, RequestReport.RequestReport, SetupPacket.SetupPacket, SetupWords.SetupWords}
+use Rattle.models.specs.Codes.{category_word}
+use Rattle.models.specs.Values.{option_error_words, request_id_words, device_id_words, metadata_tail}
+use Rattle.models.specs.declared.{OperationError.OperationError, Refusal.Refusal, RequestReport.RequestReport, SetupPacket.SetupPacket}
 use Rattle.standards.specs.Setup.{packet_of, setup_bytes}
 use Rattle.rows.specs.Codec.{state_words}
 use Rattle.rows.specs.Values.{state_tail}
@@ -21,28 +22,17 @@ use Rattle.session.specs.Said.{recovery_word}
 use Rattle.submissions.specs.declared.{PlanSubmission.PlanSubmission, Submission.Submission}
 use Rattle.recovery.specs.declared.{AbortReport.AbortReport}
 use Rattle.session.specs.declared.{Recovery.Recovery}
-use Rattle.calls.specs.declared.{Answer.Answer}
-use Rattle.answer_words.specs.Encode.{refusal_words, begun_words, plan_words, report_words, recovering_words, recovered_words, answer_words, written}
+use Rattle.answer_words.specs.Encode.{refusal_words, begun_words, plan_words, report_words, recovering_words, recovered_words, written}
 
 pub refusal_exact : (r : Refusal) (c o k : ℕ) → c ≡ category_word r.error.category → o ≡ option_i32_word r.error.os_code
     → k ≡ option_u32_word r.error.completion_code → 0 ∷ r.number ∷ c ∷ r.error.message ∷ o ∷ k ∷ [] ≡ refusal_words r
 unfolding refusal_words
 refusal_exact r c o k ec eo ek = rw (ec, eo, ek)
 
--- metadata whose transfer type, direction and SETUP have the words t, d and p
-pub metadata_exact : (m : RequestMetadata) (t d : ℕ) (p : SetupWords) → t ≡ transfer_word m.transfer_type → d ≡ direction_word m.direction
-    → p ≡ setup_words m.setup
-    → device_id_words m.device ++ m.endpoint ∷ t ∷ d ∷ m.requested_length ∷ setup_tail p [] ≡ metadata_tail m []
-metadata_exact m t d p et ed ep = rw (et, ed, ep)
-
 -- the first eight of a list, one by one
 abbrev bytes_by : List ℕ → List ℕ
 bytes_by l =
     get_or l 0 0 ∷ get_or l 1 0 ∷ get_or l 2 0 ∷ get_or l 3 0 ∷ get_or l 4 0 ∷ get_or l 5 0 ∷ get_or l 6 0 ∷ get_or l 7 0 ∷ []
-
-pub bytes_exact : (q : SetupPacket) (l : List ℕ) → l ≡ setup_bytes q → bytes_by l ≡ setup_bytes q
-unfolding setup_bytes
-bytes_exact q l e = rw e
 
 -- parts of words, put one behind the other
 module _ (m w₁ w₂ w : List ℕ) where
@@ -70,29 +60,18 @@ pub recovering_exact : (x : Recovery) (k : ℕ) → k ≡ recovery_word x.kind
 unfolding recovering_words
 recovering_exact x k e = rw e
 
-pub no_error_exact : (o : OptionError) → o ≡ OptionError.None → 0 ∷ 0 ∷ 0 ∷ 0 ∷ 0 ∷ [] ≡ option_error_words o
-no_error_exact o e = rw e
-
-pub some_error_exact : (o : OptionError) (x : OperationError) (c n k : ℕ) → o ≡ OptionError.Some x → c ≡ category_word x.category
-    → n ≡ option_i32_word x.os_code → k ≡ option_u32_word x.completion_code → 1 ∷ c ∷ x.message ∷ n ∷ k ∷ [] ≡ option_error_words o
-some_error_exact o x c n k e ec en ek = rw (e, ec, en, ek)
-
 -- the first five of a list, one by one
 abbrev five_by : List ℕ → List ℕ
 five_by l = get_or l 0 0 ∷ get_or l 1 0 ∷ get_or l 2 0 ∷ get_or l 3 0 ∷ get_or l 4 0 ∷ []
 
-five_exact : (o : OptionError) → five_by (option_error_words o) ≡ option_error_words o
-five_exact OptionError.None = refl
-five_exact (OptionError.Some x) = refl
+five_exact : (o : Option OperationError) → five_by (option_error_words o) ≡ option_error_words o
+five_exact None = refl
+five_exact (Some x) = refl
 
 pub recovered_exact : (x : AbortReport) (f : ℕ) (l : List ℕ) → f ≡ flag_word x.restart_ready → l ≡ option_error_words x.error
     → 10 ∷ request_id_words x.target ++ device_id_words x.device ++ x.endpoint ∷ x.completed ∷ x.aborted ∷ f ∷ five_by l ≡ recovered_words x
 unfolding recovered_words
 recovered_exact x f l ef el = rw (ef, el, five_exact x.error)
-
--- an answer's words are put
-pub answer_put : (a b : Answer) (w out after : List ℕ) → a ≡ b → w ≡ answer_words b → after ≡ written w out → after ≡ written (answer_words a) out
-answer_put a b w out after ea ew e = e ∙ rw (ew, ea)
 
 -- the words and then zeros
 pub put_on : (w out cleared after : List ℕ) → 32 ≤ length out → length w ≤ 32 → cleared ≡ splice 0 (replicate 32 0) out

@@ -1,5 +1,8 @@
 -- Laws of lists that are written beside an answer. Assumes nothing.
+use Rattle.std.specs.Prelude.{Result, Ok, Err}
+use Rattle.std.specs.Result.{is_ok}
 use Prim.Native.Nat.{ℕ, ◌+◌, ◌-◌, ◌*◌, ◌<◌, ◌≤◌, min}
+use mathlib.Core.Bool.{true, false, false≢true}
 use mathlib.Core.List.{List, [], ◌∷◌, ◌++◌, append_assoc}
 use mathlib.Core.Path.{◌≡◌, refl, sym, ap, ◌∙◌}
 use native.Mathlib.Omega.{arith}
@@ -13,11 +16,11 @@ use Rattle.words.specs.Records.{splice}
 use Rattle.models.specs.Values.{request_id_words}
 use Rattle.models.specs.declared.{Refusal.Refusal, RequestId.RequestId}
 use Rattle.session.specs.declared.{Recovery.Recovery}
-use Rattle.recovery.specs.declared.{AbortReport.AbortReport, BeginAnswer.BeginAnswer, Begun.Begun, RecoveryAnswer.RecoveryAnswer, Replied.Replied}
+use Rattle.recovery.specs.declared.{AbortReport.AbortReport, Begun.Begun, Replied.Replied}
 use Rattle.recovery.specs.Reports.{ids_of}
 use Rattle.rows.specs.Table.{id_in}
 use Rattle.rows.specs.declared.{Row.Row}
-use Rattle.answer_words.specs.Lists.{token_list, id_words, id_list, begun_lists, part_lists, recovered_lists, put_lists}
+use Rattle.answer_words.specs.Lists.{token_list, id_words, id_list, begun_list, begun_lists, part_lists, recovered_lists, put_lists}
 
 -- a, and then b behind it
 splice_join : (at from : ℕ) (a b l : List ℕ) → from ≡ at + length a → from ≤ length l → splice from b (splice at a l) ≡ splice at (a ++ b) l
@@ -132,21 +135,29 @@ module _ (rows : List Row) (places l : List ℕ) (n m : ℕ) (few : n + m ≤ 12
       put_all (part_lists rows places n m) l after (omega (arith, two_length)) (ea ∙ rw (z, ek, j))
 
 -- ---- by the answer
-pub begun_refused : (o : Begun) (r : Refusal) (l : List ℕ) → o.answer ≡ BeginAnswer.Refused r → l ≡ put_lists (begun_lists o) l
-unfolding begun_lists
-begun_refused o r l e = rw e (put_none l)
+refused_list : (a : Result Recovery Refusal) (n : ℕ) (tokens : List ℕ) → is_ok a ≡ false → begun_list a n tokens ≡ []
+refused_list (Err r) n tokens h = refl
+refused_list (Ok x) n tokens h = absurd (false≢true (sym h))
 
-pub begun_put : (o : Begun) (x : Recovery) (l after : List ℕ) → o.answer ≡ BeginAnswer.Recover x
+begun_tokens : (a : Result Recovery Refusal) (n : ℕ) (tokens : List ℕ) → is_ok a ≡ true → begun_list a n tokens ≡ token_list (take n tokens)
+begun_tokens (Err r) n tokens h = absurd (false≢true h)
+begun_tokens (Ok x) n tokens h = refl
+
+pub begun_refused : (o : Begun) (l : List ℕ) → is_ok o.answer ≡ false → l ≡ put_lists (begun_lists o) l
+unfolding begun_lists
+begun_refused o l e = rw (refused_list o.answer o.count o.tokens e) (put_none l)
+
+pub begun_put : (o : Begun) (l after : List ℕ) → is_ok o.answer ≡ true
     → after ≡ put_lists (token_list (take o.count o.tokens)) l → after ≡ put_lists (begun_lists o) l
 unfolding begun_lists
-begun_put o x l after e h = rw e h
+begun_put o l after e h = rw (begun_tokens o.answer o.count o.tokens e) h
 
 module _ (p : Replied) (rows : List Row) (l : List ℕ) where
-  pub replied_refused : (r : Refusal) → p.answer ≡ RecoveryAnswer.Refused r → l ≡ put_lists (recovered_lists p rows) l
+  pub replied_refused : (r : Refusal) → p.answer ≡ Err r → l ≡ put_lists (recovered_lists p rows) l
   unfolding recovered_lists
   replied_refused r e = rw e (put_none l)
 
-  pub replied_put : (x : AbortReport) (after : List ℕ) → p.answer ≡ RecoveryAnswer.Report x
+  pub replied_put : (x : AbortReport) (after : List ℕ) → p.answer ≡ Ok x
       → after ≡ put_lists (part_lists rows p.places x.completed x.aborted) l → after ≡ put_lists (recovered_lists p rows) l
   unfolding recovered_lists
   replied_put x after e h = rw e h

@@ -1,9 +1,5 @@
 use Rattle.bus.proofs.Opening.{Begun}
-use Prim.Native.Nat.{◌-◌}
 use Rattle.bus.proofs.begin_ports.Given as goal
 
 abbrev pub invariant-loop-i : goal.invariant-loop-i
 invariant-loop-i l = Begun l.initial.bus l.bus l.i
-
-abbrev pub decreases-loop-i : goal.decreases-loop-i
-decreases-loop-i l = 255 - l.i

@@ -11,10 +11,10 @@ pub poll_row-requires : goal.poll_row-requires
 unfolding store_of
 poll_row-requires c = search (idle, found_in_lem, found_used)
 
-pub returns-in-Refused : goal.returns-in-Refused
+pub returns-in-Err : goal.returns-in-Err
 unfolding store_of
-returns-in-Refused c = search poll_stop
+returns-in-Err c = search poll_stop
 
-pub returns-in-At : goal.returns-in-At
+pub returns-in-Some : goal.returns-in-Some
 unfolding store_of
-returns-in-At c = search poll_at
+returns-in-Some c = search poll_at

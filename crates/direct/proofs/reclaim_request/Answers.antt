@@ -6,10 +6,10 @@ use Rattle.direct.proofs.reclaim_request.Goals as goal
 pub free_placed-requires : goal.free_placed-requires
 free_placed-requires c = search reclaim_inside
 
-pub returns-in-Refused : goal.returns-in-Refused
+pub returns-in-Err : goal.returns-in-Err
 unfolding store_of
-returns-in-Refused c = search change_stop
+returns-in-Err c = search change_stop
 
-pub returns-in-Pass : goal.returns-in-Pass
+pub returns-in-Ok : goal.returns-in-Ok
 unfolding store_of
-returns-in-Pass c = search reclaim_on
+returns-in-Ok c = search reclaim_on

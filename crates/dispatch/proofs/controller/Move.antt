@@ -1,4 +1,5 @@
 -- One law for each call that moves the controller's state, calls 5 to 7: its premises are the facts in hand there. Assumes nothing.
+use Rattle.std.specs.Prelude.{Option, Result, ⊤}
 use Prim.Native.Nat.{ℕ}
 use mathlib.Core.List.{List}
 use mathlib.Core.Path.{◌≡◌, ap, ◌∙◌}
@@ -6,14 +7,12 @@ use lib.ListN.{get_or}
 use Rattle.chain.specs.After.{After, after}
 use Rattle.chain.proofs.Chain.{chain}
 use Rattle.words.specs.Words.{read_option_u64}
-use Rattle.words.specs.declared.{OptionU64.OptionU64}
 use Rattle.models.specs.Values.{read_option_error}
-use Rattle.models.specs.declared.{OptionError.OptionError}
 use Rattle.rows.specs.Store.{Store}
 use Rattle.bus.specs.Tables.{Bus}
 use Rattle.session.specs.Lent.{memory, lent}
 use Rattle.session.specs.Lifecycle.{acquire_of, initialize_of, close_of}
-use Rattle.session.specs.declared.{Called.Called, Session.Session, lifecycle.AcquireReply.AcquireReply}
+use Rattle.session.specs.declared.{Called.Called, Session.Session, lifecycle.AcquireFailure.AcquireFailure}
 use Rattle.calls.specs.Answers.{outcome, of_verdict}
 use Rattle.call_words.specs.Arguments.{read_acquire_reply}
 use Rattle.calls.specs.Calls.{Moving, Acquire, Initialize, Close, Move}
@@ -21,8 +20,9 @@ use Rattle.calls.specs.Step.{World, world, moves, moved_of, step_of}
 use Rattle.calls.specs.declared.{Outcome.Outcome}
 use Rattle.call_words.specs.Decode.{read_moving}
 use Rattle.dispatch.proofs.Steps.{said}
+use Rattle.models.specs.declared.{OperationError.OperationError}
 
-module _ (n : ℕ) (s : Session) (store : Store) (w : List ℕ) (x : Called) (r : Outcome) (er : r ≡ outcome (of_verdict x.answer) x.session) where
+module _ (n : ℕ) (s : Session) (store : Store) (w : List ℕ) (x : Called ⊤) (r : Outcome) (er : r ≡ outcome (of_verdict x.answer) x.session) where
   abbrev handed : Bus → List ℕ → World
   handed b area = world s (lent b (memory store area))
 
@@ -34,20 +34,20 @@ module _ (n : ℕ) (s : Session) (store : Store) (w : List ℕ) (x : Called) (r 
   unfolding step_of
   moved m next e h b area =
       said (Move m) (read_moving n w) (handed b area) _ e
-      (ap (λ (z : Outcome). after z (lent b (memory next area))) er ∙ ap (λ (z : After Called Store). moves z (handed b area)) (h b area))
+      (ap (λ (z : Outcome). after z (lent b (memory next area))) er ∙ ap (λ (z : After (Called ⊤) Store). moves z (handed b area)) (h b area))
 
-  pub acquire_step : (reply : AcquireReply) → reply ≡ read_acquire_reply w → n ≡ 5 → x ≡ acquire_of reply s → Steps store
+  pub acquire_step : (reply : Result ⊤ AcquireFailure) → reply ≡ read_acquire_reply w → n ≡ 5 → x ≡ acquire_of reply s → Steps store
   unfolding moved_of read_moving
   acquire_step reply ea e h =
-      moved (Acquire reply) store (search (chain, ap (λ (z : AcquireReply). Move (Acquire z)) ea) depth 20) (λ b area. ap (λ (z : Called). after z store) h)
+      moved (Acquire reply) store (search (chain, ap (λ (z : Result ⊤ AcquireFailure). Move (Acquire z)) ea) depth 20) (λ b area. ap (λ (z : Called ⊤). after z store) h)
 
-  module _ (n5 : n ≡ 5 → ⊥) (reply : OptionError) where
+  module _ (n5 : n ≡ 5 → ⊥) (reply : Option OperationError) where
     pub initialize_step : reply ≡ read_option_error w 1 → n ≡ 6 → x ≡ initialize_of reply s → Steps store
     unfolding moved_of read_moving
     initialize_step ea e h =
-        moved (Initialize reply) store (search (chain, ap (λ (z : OptionError). Move (Initialize z)) ea) depth 20) (λ b area. ap (λ (z : Called). after z store) h)
+        moved (Initialize reply) store (search (chain, ap (λ (z : Option OperationError). Move (Initialize z)) ea) depth 20) (λ b area. ap (λ (z : Called ⊤). after z store) h)
 
-    pub close_step : (next : Store) (p q : ℕ) (fresh : OptionU64) → p ≡ get_or w 1 0 → q ≡ get_or w 2 0 → fresh ≡ read_option_u64 p q
+    pub close_step : (next : Store) (p q : ℕ) (fresh : Option ℕ) → p ≡ get_or w 1 0 → q ≡ get_or w 2 0 → fresh ≡ read_option_u64 p q
         → reply ≡ read_option_error w 3 → (n ≡ 6 → ⊥) → after x next ≡ close_of fresh reply s store → Steps next
     unfolding moved_of read_moving
     close_step next p q fresh ep eq ef ea n6 h =

@@ -1,4 +1,5 @@
 -- One law for opening and for each placing call, calls 0 to 4: its premises are the facts in hand there. Assumes nothing.
+use Rattle.std.specs.Prelude.{Result, ⊤}
 use Prim.Native.Nat.{ℕ, ◌%◌, ◌^◌}
 use mathlib.Core.Bool.{Bool}
 use mathlib.Core.List.{List}
@@ -7,13 +8,13 @@ use lib.ListN.{get_or, drop}
 use Rattle.chain.specs.After.{After, after}
 use Rattle.chain.proofs.Chain.{chain}
 use Rattle.words.specs.Words.{read_flag}
-use Rattle.models.specs.declared.{DeviceSnapshot.DeviceSnapshot, Verdict.Verdict}
+use Rattle.models.specs.declared.{DeviceSnapshot.DeviceSnapshot, Refusal.Refusal}
 use Rattle.bus.specs.Tables.{Bus}
 use Rattle.bus.specs.declared.{PortRow.PortRow}
 use Rattle.session.specs.Lent.{Memory, Lent, lent}
 use Rattle.session.specs.Lifecycle.{open_of}
 use Rattle.session.specs.Place.{set_device_of, set_port_of, set_endpoints_of, set_reconcile_of}
-use Rattle.session.specs.declared.{Session.Session, lifecycle.Opened.Opened, lifecycle.Opening.Opening}
+use Rattle.session.specs.declared.{Session.Session, lifecycle.Opening.Opening}
 use Rattle.calls.specs.Answers.{outcome, of_opened, of_verdict}
 use Rattle.call_words.specs.Arguments.{read_opening, read_snapshot, read_port_row}
 use Rattle.calls.specs.Calls.{Placing, Device, Port, Endpoints, Reconcile, Open, Place}
@@ -24,15 +25,15 @@ use Rattle.dispatch.proofs.Steps.{said}
 
 module _ (n : ℕ) (s : Session) (w : List ℕ) (r : Outcome) where
   -- l is lent, and next is what it is afterwards
-  pub open_step : (l next : Lent) (x : Opened) (o : Opening) → n ≡ 0 → o ≡ read_opening w → r ≡ of_opened x s → after x next ≡ open_of o l
+  pub open_step : (l next : Lent) (x : Result Session Refusal) (o : Opening) → n ≡ 0 → o ≡ read_opening w → r ≡ of_opened x s → after x next ≡ open_of o l
       → after r next ≡ step_of (read_placing n w) (world s l)
   unfolding step_of read_placing
   open_step l next x o e eo er h =
       said (Open o) (read_placing n w) (world s l) _ (search (chain, ap Open eo) depth 20)
-      (ap (λ (z : Outcome). after z next) er ∙ ap (λ (z : After Opened Lent). opens z (world s l)) h)
+      (ap (λ (z : Outcome). after z next) er ∙ ap (λ (z : After (Result Session Refusal) Lent). opens z (world s l)) h)
 
   -- the bus is b, and afterwards next
-  module _ (b next : Bus) (m : Memory) (x : Verdict) (n0 : n ≡ 0 → ⊥) (er : r ≡ outcome (of_verdict x) s) where
+  module _ (b next : Bus) (m : Memory) (x : Result ⊤ Refusal) (n0 : n ≡ 0 → ⊥) (er : r ≡ outcome (of_verdict x) s) where
     abbrev handed : World
     handed = world s (lent b m)
 
@@ -42,7 +43,7 @@ module _ (n : ℕ) (s : Session) (w : List ℕ) (r : Outcome) where
     placed : (p : Placing) → Place p ≡ read_placing n w → after x next ≡ placed_of p handed → Steps
     unfolding step_of
     placed p e h =
-        said (Place p) (read_placing n w) handed _ e (ap (λ (z : Outcome). after z (lent next m)) er ∙ ap (λ (z : After Verdict Bus). places z handed) h)
+        said (Place p) (read_placing n w) handed _ e (ap (λ (z : Outcome). after z (lent next m)) er ∙ ap (λ (z : After (Result ⊤ Refusal) Bus). places z handed) h)
 
     pub device_step : (d : DeviceSnapshot) → n ≡ 1 → d ≡ read_snapshot w → after x next ≡ set_device_of d s b → Steps
     unfolding placed_of read_placing

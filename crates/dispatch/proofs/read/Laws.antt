@@ -1,4 +1,6 @@
 -- One law for each report and question, and for one that was answered: its premises are the facts in hand there. Assumes nothing.
+use Rattle.std.specs.Prelude.{Result, Option, option_copied}
+use Rattle.std.specs.Bool.{then_some}
 use Prim.Native.Nat.{ℕ, ◌<◌, ◌≤◌}
 use mathlib.Core.Bool.{Bool, true, false, not, ◌&&◌, true≢false}
 use mathlib.Core.List.{List, []}
@@ -10,23 +12,23 @@ use borrow.Author.Tests.{ltb-true, ltb-false, ne_eqb, le-leb, lt-leb}
 use Rattle.chain.specs.After.{After, after}
 use Rattle.chain.proofs.Chain.{caseB, takes, passes, chain}
 use Rattle.words.specs.Words.{read_flag}
-use Rattle.models.specs.declared.{ControlPlan.ControlPlan, PortReading.PortReading, RequestSpec.RequestSpec}
+use Rattle.models.specs.declared.{ControlPlan.ControlPlan, OperationError.OperationError, Refusal.Refusal, RequestSpec.RequestSpec}
 use Rattle.rows.specs.Store.{Store}
 use Rattle.bus.specs.Tables.{Bus}
-use Rattle.targets.specs.declared.{Readings.Readings, wants.Wanted.Wanted}
+use Rattle.targets.specs.declared.{wants.Wanted.Wanted}
 use Rattle.session.specs.Lent.{Memory, Lent, memory, lent}
 use Rattle.session.specs.declared.{Session.Session}
 use Rattle.reports.specs.Scan.{report_from}
-use Rattle.reports.specs.declared.{PlacedReport.PlacedReport}
-use Rattle.submissions.specs.Submit.{request}
+use Rattle.submissions.specs.Submit.{packets_in, request_in}
 use Rattle.submissions.specs.Wants.{submit_wants, plan_wants}
-use Rattle.calls.specs.Calls.{Call, plan_request}
+use Rattle.submissions.specs.declared.{NewRequest.NewRequest}
+use Rattle.submissions.proofs.Unread.{wants_read}
+use Rattle.calls.specs.Calls.{Call, PlanRequest}
 use Rattle.calls.specs.Step.{World, world, step_of}
 use Rattle.calls.specs.declared.{Outcome.Outcome}
 use Rattle.session_words.specs.State.{kept_of, read_session, is_session}
-use Rattle.call_words.specs.Arguments.{read_spec, read_readings, read_request, read_plan, read_plan_request}
+use Rattle.call_words.specs.Arguments.{read_request, read_plan_request}
 use Rattle.call_words.specs.Decode.{read_reporting, read_call}
-use Rattle.call_words.specs.Parts.{read_reading}
 use Rattle.answer_words.specs.Encode.{answer_words, written}
 use Rattle.questions.specs.Question.{Question, SessionStatus, ReportFrom, SubmitWants, PlanWants, of_placed, question_of}
 use Rattle.questions.specs.declared.{QuestionAnswer.QuestionAnswer}
@@ -35,12 +37,13 @@ use Rattle.question_words.specs.Encode.{question_words}
 use Rattle.question_words.specs.Form.{is_question, is_read}
 use Rattle.dispatch.specs.Apply.{Buffers, buffers, run_of, ran_on}
 use Rattle.dispatch.specs.Read.{read_words, reading_of}
+use Rattle.reports.specs.declared.{PlacedReport.PlacedReport}
 
 -- ---- the questions
-pub submit_asked : (s : Session) (l : Lent) (w bytes packets : List ℕ) (x : Wanted) (q : RequestSpec) (f : ℕ) (given : Bool) (seen : Readings)
-    → x ≡ submit_wants packets (request q bytes given seen) s l → q ≡ read_spec w → given ≡ read_flag f → f ≡ get_or w 26 0 → packets ≡ drop 27 w → seen ≡ read_readings w
+pub submit_asked : (s : Session) (l : Lent) (w bytes : List ℕ) (x : Option Wanted) (q : NewRequest) → x ≡ submit_wants (packets_in q) (request_in q) s l
+    → request_in q ≡ read_request w bytes → option_copied q.packets ≡ then_some (read_flag (get_or w 26 0)) (drop 27 w)
     → x ≡ submit_wants (drop 27 w) (read_request w bytes) s l
-submit_asked s l w bytes packets x q f given seen e eq eg ef ep es = e ∙ rw (ep, eq, eg, ef, es)
+submit_asked s l w bytes x q e eq ep = e ∙ wants_read q (read_request w bytes) (drop 27 w) s l eq ep
 
 asked : (c d : Question) (v : World) (a : QuestionAnswer) → c ≡ d → a ≡ question_of c v → a ≡ question_of d v
 asked c d v a e h = h ∙ ap (λ (z : Question). question_of z v) e
@@ -57,22 +60,21 @@ module _ (n : ℕ) (s : Session) (b : Bus) (store : Store) (area w bytes : List 
   status_said e = asked SessionStatus (read_question n w bytes) handed (QuestionAnswer.Status s) (search chain depth 20) refl
 
   module _ (n25 : n ≡ 25 → ⊥) where
-    pub report_said_lem : (a : QuestionAnswer) (x : PlacedReport) (place : ℕ) → n ≡ 26 → place ≡ get_or w 1 0 → x ≡ report_from place s store → a ≡ of_placed x → Answers a
+    pub report_said_lem : (a : QuestionAnswer) (x : Result (Option PlacedReport) Refusal) (place : ℕ) → n ≡ 26 → place ≡ get_or w 1 0 → x ≡ report_from place s store → a ≡ of_placed x → Answers a
     unfolding question_of read_question
     report_said_lem a x place e ep h ea = asked (ReportFrom place) (read_question n w bytes) handed a (search (chain, ap ReportFrom ep) depth 20) (ea ∙ ap of_placed h)
 
-    module _ (n26 : n ≡ 26 → ⊥) (x : Wanted) where
+    module _ (n26 : n ≡ 26 → ⊥) (x : Option Wanted) where
       pub submit_said_lem : n ≡ 27 → x ≡ submit_wants (drop 27 w) (read_request w bytes) s (lent b (memory store area)) → Answers (QuestionAnswer.Reading x)
       unfolding question_of read_question
       submit_said_lem e h =
           asked (SubmitWants (drop 27 w) (read_request w bytes)) (read_question n w bytes) handed (QuestionAnswer.Reading x) (search chain depth 20) (ap QuestionAnswer.Reading h)
 
-      pub plan_said_lem : (q : ControlPlan) (first : PortReading) → (n ≡ 27 → ⊥) → q ≡ read_plan w → first ≡ read_reading w 14
-          → x ≡ plan_wants q bytes first s (lent b (memory store area)) → Answers (QuestionAnswer.Reading x)
+      pub plan_said_lem : (q : PlanRequest) → (n ≡ 27 → ⊥) → q ≡ read_plan_request w bytes
+          → x ≡ plan_wants q.plan q.bytes q.reading s (lent b (memory store area)) → Answers (QuestionAnswer.Reading x)
       unfolding question_of read_question
-      plan_said_lem q first n27 eq ef h =
-          let c : PlanWants (plan_request q bytes first) ≡ PlanWants (read_plan_request w bytes) = rw (eq, ef) in
-          asked (PlanWants (plan_request q bytes first)) (read_question n w bytes) handed (QuestionAnswer.Reading x) (search (chain, c) depth 20) (ap QuestionAnswer.Reading h)
+      plan_said_lem q n27 eq h =
+          asked (PlanWants q) (read_question n w bytes) handed (QuestionAnswer.Reading x) (search (chain, ap PlanWants eq) depth 20) (ap QuestionAnswer.Reading h)
 
 -- ---- the answer's words
 -- of a number up to 15 the words are neither a report nor a question

@@ -1,4 +1,5 @@
 -- One law for each change of a request, calls 13 to 15 and 29: its premises are the facts in hand there. Assumes nothing.
+use Rattle.std.specs.Prelude.{Result, Ok, Err}
 use Prim.Native.Nat.{ℕ}
 use mathlib.Core.Bool.{true}
 use mathlib.Core.List.{List}
@@ -6,18 +7,16 @@ use mathlib.Core.Path.{◌≡◌, refl, sym, ap, ◌∙◌}
 use Rattle.chain.specs.After.{After, after}
 use Rattle.chain.proofs.Chain.{chain, if_all}
 use Rattle.models.specs.Values.{read_request_id}
-use Rattle.models.specs.declared.{RequestId.RequestId}
+use Rattle.models.specs.declared.{Refusal.Refusal, RequestId.RequestId, RequestReport.RequestReport}
 use Rattle.rows.specs.Store.{Store}
 use Rattle.bus.specs.Tables.{Bus}
 use Rattle.rules.specs.declared.Change as rules
 use Rattle.rules.specs.declared.Change.TheVariants as change
 use Rattle.ledger.specs.Apply.{apply_of}
-use Rattle.ledger.specs.declared.{Applied.Applied}
 use Rattle.session.specs.Lent.{memory, lent}
 use Rattle.session.specs.Start.{guarded}
-use Rattle.session.specs.declared.{Session.Session}
+use Rattle.session.specs.declared.{Called.Called, Session.Session}
 use Rattle.reports.specs.Change.{reported_by, change_of}
-use Rattle.reports.specs.declared.{Reported.Reported}
 use Rattle.calls.specs.Answers.{outcome, of_report}
 use Rattle.calls.specs.Calls.{Changing, Cancel, Timeout, Reclaim, Withdraw, Change}
 use Rattle.session_words.specs.State.{read_session, is_session, kept_of, kept_as}
@@ -32,12 +31,12 @@ use Rattle.dispatch.proofs.Steps.{said, ran_kept}
 
 -- a change leaves the session
 module _ (s : Session) where
-  reported_left : (a : Applied) → (reported_by a s).session ≡ s
+  reported_left : (a : Result RequestReport Refusal) → (reported_by a s).session ≡ s
   unfolding reported_by
-  reported_left (Applied.Refused r) = refl
-  reported_left (Applied.Done x) = refl
+  reported_left (Err r) = refl
+  reported_left (Ok x) = refl
 
-  abbrev Left : After Reported Store → Type 0
+  abbrev Left : After (Called RequestReport) Store → Type 0
   Left o = o.result.session ≡ s
 
   change_left : (id : RequestId) (c : rules.Change) (store : Store) → Left (change_of id c s store)
@@ -79,7 +78,7 @@ module _ (n : ℕ) (s w out after-out : List ℕ) (store next : Store) (id : Req
     reclaim_writes n14 = writes Reclaim (search chain depth 20)
 
 -- by value; x is what it answers
-module _ (s : Session) (w : List ℕ) (store next : Store) (id : RequestId) (x : Reported) (r : Outcome) where
+module _ (s : Session) (w : List ℕ) (store next : Store) (id : RequestId) (x : Called RequestReport) (r : Outcome) where
   abbrev handed : Bus → List ℕ → World
   handed b area = world s (lent b (memory store area))
 
@@ -88,4 +87,4 @@ module _ (s : Session) (w : List ℕ) (store next : Store) (id : RequestId) (x :
   unfolding step_of
   withdraw_steps ei h er b area =
       said (Change id Withdraw) (Change (read_request_id w 1) Withdraw) (handed b area) _ (ap (λ (z : RequestId). Change z Withdraw) ei)
-      (ap (λ (z : Outcome). after z (lent b (memory next area))) er ∙ ap (λ (z : After Reported Store). reports z (handed b area)) h)
+      (ap (λ (z : Outcome). after z (lent b (memory next area))) er ∙ ap (λ (z : After (Called RequestReport) Store). reports z (handed b area)) h)

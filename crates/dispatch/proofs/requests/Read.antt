@@ -1,4 +1,5 @@
 -- One law for each call that leaves all as it is, calls 16 to 21: its premises are the facts in hand there. Assumes nothing.
+use Rattle.std.specs.Prelude.{Option, Result}
 use Prim.Native.Nat.{ℕ}
 use mathlib.Core.Bool.{true}
 use mathlib.Core.List.{List, []}
@@ -7,13 +8,12 @@ use lib.ListN.{length}
 use Rattle.chain.specs.After.{after}
 use Rattle.chain.proofs.Chain.{chain}
 use Rattle.models.specs.Values.{read_request_id}
-use Rattle.models.specs.declared.{RequestId.RequestId}
+use Rattle.models.specs.declared.{Refusal.Refusal, RequestId.RequestId, RequestReport.RequestReport}
 use Rattle.rows.specs.Store.{Store}
 use Rattle.bus.specs.Tables.{Bus}
 use Rattle.session.specs.Lent.{memory, lent}
 use Rattle.session.specs.declared.{Session.Session}
 use Rattle.reports.specs.Status.{status_of, next_of, shown_count, completed_part, held_count_of, tally_of, held_bytes_of}
-use Rattle.reports.specs.declared.{HeldAnswer.HeldAnswer, NextReport.NextReport, OptionId.OptionId, PartAnswer.PartAnswer, Tally.Tally}
 use Rattle.calls.specs.Answers.{outcome, of_report, of_next, of_tally, of_part}
 use Rattle.call_words.specs.Arguments.{read_option_id}
 use Rattle.calls.specs.Calls.{Reading, Status, Reports, CountReports, CompletedBytes, HeldCount, HeldBytes, Read}
@@ -28,6 +28,7 @@ use Rattle.direct.specs.Direct.{told}
 use Rattle.dispatch.specs.Apply.{buffers, ran_on}
 use Rattle.dispatch.proofs.Dispatch.{reporting_none}
 use Rattle.dispatch.proofs.Steps.{said, ran_kept}
+use Rattle.reports.specs.declared.{Part.Part}
 
 module _ (n : ℕ) (s : Session) (store : Store) (area w : List ℕ) where
   abbrev handed : Bus → World
@@ -42,24 +43,24 @@ module _ (n : ℕ) (s : Session) (store : Store) (area w : List ℕ) where
   by c r e h b = said (Read c) (read_reporting n w) (handed b) _ e (ap (λ (z : Answer). reads z (handed b)) (h b))
 
   module _ (n16 : n ≡ 16 → ⊥) where
-    pub reports_step : (r : Answer) (x : NextReport) (from : OptionId) → from ≡ read_option_id w → n ≡ 17 → r ≡ of_next x → x ≡ next_of from s store → Steps r
+    pub reports_step : (r : Answer) (x : Result (Option RequestReport) Refusal) (from : Option RequestId) → from ≡ read_option_id w → n ≡ 17 → r ≡ of_next x → x ≡ next_of from s store → Steps r
     unfolding read_of read_reporting
-    reports_step r x from ei e er h = by (Reports from) r (search (chain, ap (λ (z : OptionId). Read (Reports z)) ei) depth 20) (λ b. er ∙ ap of_next h)
+    reports_step r x from ei e er h = by (Reports from) r (search (chain, ap (λ (z : Option RequestId). Read (Reports z)) ei) depth 20) (λ b. er ∙ ap of_next h)
 
     module _ (n17 : n ≡ 17 → ⊥) where
-      pub count_step : (r : Answer) (x : Tally) → n ≡ 18 → r ≡ of_tally x → x ≡ shown_count s store → Steps r
+      pub count_step : (r : Answer) (x : Result ℕ Refusal) → n ≡ 18 → r ≡ of_tally x → x ≡ shown_count s store → Steps r
       unfolding read_of read_reporting
       count_step r x e er h = by CountReports r (search chain depth 20) (λ b. er ∙ ap of_tally h)
 
       module _ (n18 : n ≡ 18 → ⊥) where
-        pub bytes_step : (r : Answer) (x : PartAnswer) (id : RequestId) → id ≡ read_request_id w 1 → n ≡ 19 → r ≡ of_part x
+        pub bytes_step : (r : Answer) (x : Result Part Refusal) (id : RequestId) → id ≡ read_request_id w 1 → n ≡ 19 → r ≡ of_part x
             → x ≡ completed_part id (length area) s store → Steps r
         unfolding read_of read_reporting
         bytes_step r x id ei e er h =
             by (CompletedBytes id) r (search (chain, ap (λ (z : RequestId). Read (CompletedBytes z)) ei) depth 20) (λ b. er ∙ ap of_part h)
 
-        module _ (n19 : n ≡ 19 → ⊥) (r : Answer) (x : Tally) (er : r ≡ of_tally x) where
-          pub held_count_step : (y : HeldAnswer) → n ≡ 20 → y ≡ held_count_of s store → x ≡ tally_of y → Steps r
+        module _ (n19 : n ≡ 19 → ⊥) (r : Answer) (x : Result ℕ Refusal) (er : r ≡ of_tally x) where
+          pub held_count_step : (y : Result ℕ Refusal) → n ≡ 20 → y ≡ held_count_of s store → x ≡ tally_of y → Steps r
           unfolding read_of read_reporting
           held_count_step y e h hx = by HeldCount r (search chain depth 20) (λ b. er ∙ ap of_tally (hx ∙ ap tally_of h))
 

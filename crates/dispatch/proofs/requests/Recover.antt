@@ -1,4 +1,5 @@
 -- One law for each call of a recovery, calls 22 to 24: its premises are the facts in hand there. Assumes nothing.
+use Rattle.std.specs.Prelude.{Result}
 use Prim.Native.Nat.{ℕ}
 use mathlib.Core.Bool.{Bool}
 use mathlib.Core.List.{List}
@@ -8,7 +9,7 @@ use Rattle.chain.specs.After.{After, after}
 use Rattle.chain.proofs.Chain.{chain}
 use Rattle.words.specs.Words.{read_flag}
 use Rattle.models.specs.Values.{read_request_id}
-use Rattle.models.specs.declared.{RequestId.RequestId}
+use Rattle.models.specs.declared.{OperationError.OperationError, RequestId.RequestId}
 use Rattle.rows.specs.Table.{read_rows}
 use Rattle.rows.specs.Store.{Store, store_of}
 use Rattle.bus.specs.Tables.{Bus}
@@ -16,7 +17,7 @@ use Rattle.session.specs.Lent.{Memory, memory, lent}
 use Rattle.session.specs.declared.{RecoveryKind.RecoveryKind, Session.Session}
 use Rattle.recovery.specs.Recover.{recover_of}
 use Rattle.recovery.specs.RecoveryReply.{reply_lists, recovery_reply_of}
-use Rattle.recovery.specs.declared.{Begun.Begun, RecoveryReply.RecoveryReply, Replied.Replied}
+use Rattle.recovery.specs.declared.{BackendAbort.BackendAbort, Begun.Begun, Replied.Replied}
 use Rattle.calls.specs.Answers.{outcome, of_begin, of_recovery}
 use Rattle.call_words.specs.Arguments.{read_recovery_reply, read_completed, read_completions, read_aborted, read_lists}
 use Rattle.calls.specs.Calls.{Recover, ToRecovery, Begin, Reply}
@@ -36,7 +37,7 @@ module _ (s : Session) (store : Store) (area w bytes l m : List ℕ) (r : Outcom
   abbrev Runs : ℕ → Memory → Type 0
   Runs n next = (b : Bus) → ran (after r (lent b next)) m ≡ run_of (read_recovering n w bytes) (handed b) l
 
-  pub places_run : (w₁ area₁ : List ℕ) (p : Replied) (reply : RecoveryReply) (tokens words aborted : List ℕ) → reply ≡ read_recovery_reply w
+  pub places_run : (w₁ area₁ : List ℕ) (p : Replied) (reply : Result BackendAbort OperationError) (tokens words aborted : List ℕ) → reply ≡ read_recovery_reply w
       → tokens ≡ read_completed w → words ≡ read_completions w → aborted ≡ read_aborted w
       → after p (memory (store_of w₁) area₁) ≡ recovery_reply_of reply (reply_lists tokens words aborted bytes) s (memory store area)
       → m ≡ put_lists (recovered_lists p (read_rows w₁)) l → r ≡ outcome (of_recovery p.answer) p.session → Runs 24 (memory (store_of w₁) area₁)

@@ -1,4 +1,5 @@
 -- Changes in place: what the row's words say of the step, and what a caller knows of the place. Assumes nothing.
+use Rattle.std.specs.Prelude.{Option, Some, None, Result, Ok, Err}
 use Prim.Native.Nat.{ℕ, ◌<◌}
 use mathlib.Core.Path.{◌≡◌, refl, sym, ap, subst, ◌∙◌}
 use mathlib.Core.Bool.{Bool, true, false, not}
@@ -10,8 +11,6 @@ use borrow.Author.Tests.{not-true}
 use Rattle.chain.specs.After.{After, after}
 use Rattle.chain.specs.Chain.{◌if◌else◌}
 use Rattle.chain.specs.Lists.{find, found_in}
-use Rattle.chain.specs.declared.{Found.Found}
-use Rattle.chain.specs.declared.Found.TheVariants.{At, Nothing}
 use Rattle.chain.proofs.Chain.{both, fits_told, if_by}
 use Rattle.chain.proofs.Lists.{place}
 use Rattle.models.specs.Refusals.{refusal_of}
@@ -24,22 +23,21 @@ use Rattle.rows.specs.InPlace.{cancelled, timed_out}
 use Rattle.rows.specs.declared.{Row.Row}
 use Rattle.rules.specs.Rules.{refused_by, moved, freed, accepted, while_pending, logical_cancel, time_out, reclaimed, change_row}
 use Rattle.rules.specs.declared.{Change.Change, Step.Step}
-use Rattle.ledger.specs.Search.{is_at}
+use Rattle.ledger.specs.Search.{is_at, place_to_change}
 use Rattle.ledger.specs.Apply.{apply_by, changed_at, apply_at, apply_of}
 use Rattle.ledger.specs.InPlace.{row_placed, apply_placed, reported_at, freed_at, PlacedIn}
-use Rattle.ledger.specs.declared.{Applied.Applied, in_place.Placed.Placed}
-use Rattle.ledger.proofs.Found.{found_in_lem, found_row}
+use Rattle.ledger.proofs.Found.{found_row, place_told, place_in}
 use Rattle.ledger.proofs.Changes.{apply_none}
 
 -- what only a Pending row takes
-settled : (s : RequestState) (next : Step) → is_pending s ≡ false → while_pending s next ≡ refused_by 41
+settled : (s : RequestState) (next : Result Step Refusal) → is_pending s ≡ false → while_pending s next ≡ refused_by 41
 unfolding while_pending
 settled (Pending cancel late) next e = let z : ◌≡◌ {A = ℕ} 0 1 = cc in absurd (omega arith)
 settled (Completed actual code cancel) next e = refl
 settled (Failed error code quiescent) next e = refl
 settled Aborted next e = refl
 
-pub pending : (s : RequestState) (next : Step) → is_pending s ≡ true → while_pending s next ≡ next
+pub pending : (s : RequestState) (next : Result Step Refusal) → is_pending s ≡ true → while_pending s next ≡ next
 unfolding while_pending
 pending (Pending cancel late) next e = refl
 pending (Completed actual code cancel) next e = let z : ◌≡◌ {A = ℕ} 0 1 = cc in absurd (omega arith)
@@ -60,45 +58,48 @@ module _ (l m : List ℕ) (i : ℕ) (r : Row) (h : i < length (read_rows l)) (e 
 
 -- the place with the answer of `apply_of`
 module _ (id : RequestId) (c : Change) (s : Store) where
-  placed_by_lem : (a : Applied) (left : Store) → after a left ≡ apply_of id c s → after (row_placed a (find (is_at id) s.rows)) left ≡ apply_placed id c s
+  placed_by_lem : (a : Result RequestReport Refusal) (left : Store) → after a left ≡ apply_of id c s → after (row_placed a (find (is_at id) s.rows)) left ≡ apply_placed id c s
   unfolding apply_placed
-  placed_by_lem a left e = ap (λ (o : After Applied Store). after (row_placed o.result (find (is_at id) s.rows)) o.lent) e
+  placed_by_lem a left e = ap (λ (o : After (Result RequestReport Refusal) Store). after (row_placed o.result (find (is_at id) s.rows)) o.lent) e
 
-  pub placed_none : (f : Found) (r : Refusal) → f ≡ found_in (is_at id) s.rows → f ≡ Nothing → r ≡ refusal_of 40 → after (Placed.Refused r) s ≡ apply_placed id c s
-  placed_none f r ef e er = placed_by_lem (Applied.Refused r) s (apply_none id c s f ef r e er)
+  pub placed_none : (f : Result ℕ Refusal) (r : Refusal) → f ≡ place_to_change id s.rows → f ≡ Err r → after (Err r) s ≡ apply_placed id c s
+  placed_none f r ef e = placed_by_lem (Err r) s (apply_none id c s f ef r e)
 
-  pub reclaim_none : (f : Found) (r : Refusal) → f ≡ found_in (is_at id) s.rows → f ≡ Nothing → r ≡ refusal_of 40 → Placed.Refused r ≡ (apply_placed id c s).result
-  reclaim_none f r ef e er = ap (λ (o : After Placed Store). o.result) (placed_none f r ef e er)
+  pub reclaim_none : (f : Result ℕ Refusal) (r : Refusal) → f ≡ place_to_change id s.rows → f ≡ Err r → Err r ≡ (apply_placed id c s).result
+  reclaim_none f r ef e = ap (λ (o : After (Result ℕ Refusal) Store). o.result) (placed_none f r ef e)
 
 -- the row that was found
-module _ (id : RequestId) (l : List ℕ) (f : Found) (i : ℕ) (ef : f ≡ found_in (is_at id) (read_rows l)) (e : f ≡ At i) where
+module _ (id : RequestId) (l : List ℕ) (f : Result ℕ Refusal) (i : ℕ) (ef : f ≡ place_to_change id (read_rows l)) (e : f ≡ Ok i) where
+  told : found_in (is_at id) (read_rows l) ≡ Some i
+  told = place_told id (read_rows l) f ef i e
+
   within : i < length (read_rows l)
-  within = found_in_lem (is_at id) (read_rows l) f i ef e
+  within = place_in id (read_rows l) f ef i e
 
   first : find (is_at id) (store_of l).rows ≡ i
   unfolding store_of
-  first = sym (place (is_at id) (read_rows l) empty_row f i ef e).index
+  first = sym (place (is_at id) (read_rows l) empty_row (found_in (is_at id) (read_rows l)) i refl told).index
 
   used_row : (row_at l i).used ≡ true
   unfolding is_at
-  used_row = (both (row_at l i).used (same_request (row_at l i).id id) (found_row id (read_rows l) f i ef e).1).0
+  used_row = (both (row_at l i).used (same_request (row_at l i).id id) (found_row id (read_rows l) (found_in (is_at id) (read_rows l)) i refl told).1).0
 
   -- its step is the change's
-  step_is : (c : Change) (x : Step) → change_row (row_at l i) c ≡ x → apply_of id c (store_of l) ≡ apply_by x i (store_of l)
+  step_is : (c : Change) (x : Result Step Refusal) → change_row (row_at l i) c ≡ x → apply_of id c (store_of l) ≡ apply_by x i (store_of l)
   unfolding apply_of apply_at changed_at store_of
-  step_is c x s = rw (sym ef ∙ e, s)
+  step_is c x s = rw (told, s)
 
   refused_is : (c : Change) (n : ℕ) (r : Refusal) → change_row (row_at l i) c ≡ refused_by n → r ≡ refusal_of n
-      → after (Placed.Refused r) (store_of l) ≡ apply_placed id c (store_of l)
+      → after (Err r) (store_of l) ≡ apply_placed id c (store_of l)
   unfolding apply_by
-  refused_is c n r s er = placed_by_lem id c (store_of l) (Applied.Refused r) (store_of l) (rw er (sym (step_is c (refused_by n) s)))
+  refused_is c n r s er = placed_by_lem id c (store_of l) (Err r) (store_of l) (rw er (sym (step_is c (refused_by n) s)))
 
-  placed_at : (c : Change) (x : RequestReport) (left : Store) → after (Applied.Done x) left ≡ apply_of id c (store_of l)
-      → after (Placed.At i) left ≡ apply_placed id c (store_of l)
-  placed_at c x left e = ap (λ (k : ℕ). after (Placed.At k) left) (sym first) ∙ placed_by_lem id c (store_of l) (Applied.Done x) left e
+  placed_at : (c : Change) (x : RequestReport) (left : Store) → after (Ok x) left ≡ apply_of id c (store_of l)
+      → after (Ok i) left ≡ apply_placed id c (store_of l)
+  placed_at c x left e = ap (λ (k : ℕ). after (Ok k) left) (sym first) ∙ placed_by_lem id c (store_of l) (Ok x) left e
 
   moved_is : (c : Change) (next : Row) (m : List ℕ) → change_row (row_at l i) c ≡ moved next → store_of m ≡ put_in (store_of l) i next
-      → after (Placed.At i) (store_of m) ≡ apply_placed id c (store_of l)
+      → after (Ok i) (store_of m) ≡ apply_placed id c (store_of l)
   unfolding apply_by moved
   moved_is c next m s w = placed_at c (report_of next) (store_of m) (rw w (sym (step_is c (moved next) s)))
 
@@ -107,12 +108,12 @@ module _ (id : RequestId) (l : List ℕ) (f : Found) (i : ℕ) (ef : f ≡ found
   accept_in b eb y = (within, sym eb ∙ y)
 
   module _ (token : ℕ) (m : List ℕ) where
-    pub accept_done : store_of m ≡ put_in (store_of l) i (with_token (row_at l i) token) → after (Placed.At i) (store_of m) ≡ apply_placed id (Change.Accept token) (store_of l)
+    pub accept_done : store_of m ≡ put_in (store_of l) i (with_token (row_at l i) token) → after (Ok i) (store_of m) ≡ apply_placed id (Change.Accept token) (store_of l)
     unfolding change_row accepted
     accept_done w = moved_is (Change.Accept token) (with_token (row_at l i) token) m refl w
 
     pub accept_row : (row : Row) → row ≡ row_at l i → store_of m ≡ put_in (store_of l) i (with_token row token)
-        → after (Placed.At i) (store_of m) ≡ apply_placed id (Change.Accept token) (store_of l)
+        → after (Ok i) (store_of m) ≡ apply_placed id (Change.Accept token) (store_of l)
     accept_row row er w = accept_done (w ∙ ap (λ (y : Row). put_in (store_of l) i (with_token y token)) er)
 
   -- cancel and timeout: 41 where the row is not Pending
@@ -121,11 +122,11 @@ module _ (id : RequestId) (l : List ℕ) (f : Found) (i : ℕ) (ef : f ≡ found
     unfolding is_pending_row
     state_pending = sym (eb ∙ rw used_row)
 
-    pub cancel_no : (r : Refusal) → not b ≡ true → r ≡ refusal_of 41 → after (Placed.Refused r) (store_of l) ≡ apply_placed id Change.LogicalCancel (store_of l)
+    pub cancel_no : (r : Refusal) → not b ≡ true → r ≡ refusal_of 41 → after (Err r) (store_of l) ≡ apply_placed id Change.LogicalCancel (store_of l)
     unfolding change_row logical_cancel
     cancel_no r y er = refused_is Change.LogicalCancel 41 r (settled (row_at l i).state _ (state_pending ∙ not-true b y)) er
 
-    pub timeout_no : (r : Refusal) → not b ≡ true → r ≡ refusal_of 41 → after (Placed.Refused r) (store_of l) ≡ apply_placed id Change.Timeout (store_of l)
+    pub timeout_no : (r : Refusal) → not b ≡ true → r ≡ refusal_of 41 → after (Err r) (store_of l) ≡ apply_placed id Change.Timeout (store_of l)
     unfolding change_row time_out
     timeout_no r y er = refused_is Change.Timeout 41 r (settled (row_at l i).state _ (state_pending ∙ not-true b y)) er
 
@@ -133,11 +134,11 @@ module _ (id : RequestId) (l : List ℕ) (f : Found) (i : ℕ) (ef : f ≡ found
     pending_in y = (within, fits_told b (is_pending_row (row_at l i)) eb y)
 
     module _ (m : List ℕ) (y : not b ≡ false) where
-      pub cancel_done : store_of m ≡ put_in (store_of l) i (cancelled (row_at l i)) → after (Placed.At i) (store_of m) ≡ apply_placed id Change.LogicalCancel (store_of l)
+      pub cancel_done : store_of m ≡ put_in (store_of l) i (cancelled (row_at l i)) → after (Ok i) (store_of m) ≡ apply_placed id Change.LogicalCancel (store_of l)
       unfolding change_row logical_cancel
       cancel_done w = moved_is Change.LogicalCancel (cancelled (row_at l i)) m (pending (row_at l i).state _ (state_pending ∙ fits_told b b refl y)) w
 
-      pub timeout_done : store_of m ≡ put_in (store_of l) i (timed_out (row_at l i)) → after (Placed.At i) (store_of m) ≡ apply_placed id Change.Timeout (store_of l)
+      pub timeout_done : store_of m ≡ put_in (store_of l) i (timed_out (row_at l i)) → after (Ok i) (store_of m) ≡ apply_placed id Change.Timeout (store_of l)
       unfolding change_row time_out
       timeout_done w = moved_is Change.Timeout (timed_out (row_at l i)) m (pending (row_at l i).state _ (state_pending ∙ fits_told b b refl y)) w
 
@@ -147,58 +148,58 @@ module _ (id : RequestId) (l : List ℕ) (f : Found) (i : ℕ) (ef : f ≡ found
     unfolding is_held
     state_held = sym (eb ∙ rw used_row)
 
-    pub reclaim_no : (r : Refusal) → b ≡ true → r ≡ refusal_of 42 → Placed.Refused r ≡ (apply_placed id Change.Reclaim (store_of l)).result
+    pub reclaim_no : (r : Refusal) → b ≡ true → r ≡ refusal_of 42 → Err r ≡ (apply_placed id Change.Reclaim (store_of l)).result
     unfolding change_row reclaimed ◌if◌else◌
-    reclaim_no r y er = ap (λ (o : After Placed Store). o.result) (refused_is Change.Reclaim 42 r (rw (state_held ∙ y)) er)
+    reclaim_no r y er = ap (λ (o : After (Result ℕ Refusal) Store). o.result) (refused_is Change.Reclaim 42 r (rw (state_held ∙ y)) er)
 
-    pub reclaim_at : b ≡ false → Placed.At i ≡ (apply_placed id Change.Reclaim (store_of l)).result
+    pub reclaim_at : b ≡ false → Ok i ≡ (apply_placed id Change.Reclaim (store_of l)).result
     unfolding change_row reclaimed ◌if◌else◌ apply_by freed
     reclaim_at y =
-        ap (λ (o : After Placed Store). o.result)
+        ap (λ (o : After (Result ℕ Refusal) Store). o.result)
         (placed_at Change.Reclaim (report_of (row_at l i)) (put_in (store_of l) i empty_row) (sym (step_is Change.Reclaim (freed (row_at l i)) (rw (state_held ∙ y)))))
 
 -- ---- what a caller knows: the row is inside, and its report is the change's answer
-pub placed_in : (p : Placed) (i : ℕ) (rows : List Row) → p ≡ Placed.At i → PlacedIn p rows → i < length rows
+pub placed_in : (p : Result ℕ Refusal) (i : ℕ) (rows : List Row) → p ≡ Ok i → PlacedIn p rows → i < length rows
 placed_in p i rows e h = rw e at h
 
 module _ (id : RequestId) (s : Store) where
   -- what holds at the first row of the id, and of no row, holds of the change
-  by_place : (c : Change) (P : After Applied Store → ℕ → Type 0) → ((i : ℕ) → i < length s.rows → P (changed_at i c s) i)
-      → P (after (Applied.Refused (refusal_of 40)) s) (find (is_at id) s.rows) → P (apply_of id c s) (find (is_at id) s.rows)
+  by_place : (c : Change) (P : After (Result RequestReport Refusal) Store → ℕ → Type 0) → ((i : ℕ) → i < length s.rows → P (changed_at i c s) i)
+      → P (after (Err (refusal_of 40)) s) (find (is_at id) s.rows) → P (apply_of id c s) (find (is_at id) s.rows)
   unfolding apply_of apply_at
   by_place c P go none = by_found (found_in (is_at id) s.rows) refl
     where
-      by_found : (f : Found) → f ≡ found_in (is_at id) s.rows → P (apply_at f c s) (find (is_at id) s.rows)
-      by_found Nothing e = none
-      by_found (At i) e =
-          let z = place (is_at id) s.rows empty_row (At i) i e refl in subst (P (changed_at i c s)) z.index (go i z.below)
+      by_found : (f : Option ℕ) → f ≡ found_in (is_at id) s.rows → P (apply_at f c s) (find (is_at id) s.rows)
+      by_found None e = none
+      by_found (Some i) e =
+          let z = place (is_at id) s.rows empty_row (Some i) i e refl in subst (P (changed_at i c s)) z.index (go i z.below)
 
   -- a change that reports the row as it then is
-  abbrev Moves : Step → Type 0
-  Moves (Step.Refused r) = Unit {0}
-  Moves (Step.To next x) = x ≡ report_of next
+  abbrev Moves : Result Step Refusal → Type 0
+  Moves (Err r) = Unit {0}
+  Moves (Ok n) = n.report ≡ report_of n.row
 
-  abbrev Reported : After Applied Store → ℕ → Type 0
+  abbrev Reported : After (Result RequestReport Refusal) Store → ℕ → Type 0
   Reported o i = (after (reported_at (row_placed o.result i) o.lent.rows) o.lent ≡ o) × PlacedIn (row_placed o.result i) o.lent.rows
 
-  by_step : (t : Step) → Moves t → (i : ℕ) → i < length s.rows → Reported (apply_by t i s) i
+  by_step : (t : Result Step Refusal) → Moves t → (i : ℕ) → i < length s.rows → Reported (apply_by t i s) i
   unfolding apply_by put_in
-  by_step (Step.Refused r) e i h = (refl, tt)
-  by_step (Step.To next x) e i h =
-      (ap (λ (y : RequestReport). after (Applied.Done y) (put_in s i next)) (ap report_of (get_or-set_same s.rows i next empty_row h) ∙ sym e), rw (length-set s.rows i next) h)
+  by_step (Err r) e i h = (refl, tt)
+  by_step (Ok n) e i h =
+      (ap (λ (y : RequestReport). after (Ok y) (put_in s i n.row)) (ap report_of (get_or-set_same s.rows i n.row empty_row h) ∙ sym e), rw (length-set s.rows i n.row) h)
 
-  module _ (c : Change) (moves : (r : Row) → Moves (change_row r c)) (p : Placed) (left : Store) (e : after p left ≡ apply_placed id c s) where
+  module _ (c : Change) (moves : (r : Row) → Moves (change_row r c)) (p : Result ℕ Refusal) (left : Store) (e : after p left ≡ apply_placed id c s) where
     reported : Reported (apply_of id c s) (find (is_at id) s.rows)
     unfolding changed_at
     reported = by_place c Reported (λ i h. by_step (change_row (row_in s.rows i) c) (moves _) i h) (refl, tt)
 
     reports : after (reported_at p left.rows) left ≡ apply_of id c s
     unfolding apply_placed
-    reports = subst (λ (y : After Placed Store). after (reported_at y.result y.lent.rows) y.lent ≡ apply_of id c s) (sym e) reported.0
+    reports = subst (λ (y : After (Result ℕ Refusal) Store). after (reported_at y.result y.lent.rows) y.lent ≡ apply_of id c s) (sym e) reported.0
 
     inside : PlacedIn p left.rows
     unfolding apply_placed
-    inside = subst (λ (y : After Placed Store). PlacedIn y.result y.lent.rows) (sym e) reported.1
+    inside = subst (λ (y : After (Result ℕ Refusal) Store). PlacedIn y.result y.lent.rows) (sym e) reported.1
 
   while_moves : (x : RequestState) (next : Row) → Moves (while_pending x (moved next))
   unfolding while_pending moved
@@ -207,13 +208,13 @@ module _ (id : RequestId) (s : Store) where
   while_moves (Failed error code quiescent) next = tt
   while_moves Aborted next = tt
 
-  module _ (p : Placed) where
+  module _ (p : Result ℕ Refusal) where
     module _ (token : ℕ) where
       pub accept_reports : (left : Store) → after p left ≡ apply_placed id (Change.Accept token) s → after (reported_at p left.rows) left ≡ apply_of id (Change.Accept token) s
       unfolding change_row accepted moved
       accept_reports left e = reports (Change.Accept token) (λ r. refl) p left e
 
-      pub accept_inside : (m : List ℕ) (i : ℕ) → after p (store_of m) ≡ apply_placed id (Change.Accept token) s → p ≡ Placed.At i → i < length (read_rows m)
+      pub accept_inside : (m : List ℕ) (i : ℕ) → after p (store_of m) ≡ apply_placed id (Change.Accept token) s → p ≡ Ok i → i < length (read_rows m)
       unfolding change_row accepted moved store_of
       accept_inside m i e ep = placed_in p i (read_rows m) ep (inside (Change.Accept token) (λ r. refl) p (store_of m) e)
 
@@ -234,24 +235,24 @@ module _ (id : RequestId) (s : Store) where
     timeout_inside m e = inside Change.Timeout (λ r. while_moves r.state _) p (store_of m) e
 
   -- a reclaim frees the row, which is reported as it was
-  abbrev Freed : After Applied Store → ℕ → Type 0
+  abbrev Freed : After (Result RequestReport Refusal) Store → ℕ → Type 0
   Freed o i = (freed_at (row_placed o.result i) s ≡ o) × PlacedIn (row_placed o.result i) s.rows
 
-  module _ (p : Placed) (e : p ≡ (apply_placed id Change.Reclaim s).result) where
+  module _ (p : Result ℕ Refusal) (e : p ≡ (apply_placed id Change.Reclaim s).result) where
     is_freed : Freed (apply_of id Change.Reclaim s) (find (is_at id) s.rows)
     unfolding changed_at apply_by change_row reclaimed freed
     is_freed =
         by_place Change.Reclaim Freed
-        (λ i h. if_by (λ (t : Step). Freed (apply_by t i s) i) _ _ _ (λ y. (refl, tt)) (λ y. (refl, h))) (refl, tt)
+        (λ i h. if_by (λ (t : Result Step Refusal). Freed (apply_by t i s) i) _ _ _ (λ y. (refl, tt)) (λ y. (refl, h))) (refl, tt)
 
     pub reclaim_frees : freed_at p s ≡ apply_of id Change.Reclaim s
     unfolding apply_placed
-    reclaim_frees = subst (λ (y : Placed). freed_at y s ≡ apply_of id Change.Reclaim s) (sym e) is_freed.0
+    reclaim_frees = subst (λ (y : Result ℕ Refusal). freed_at y s ≡ apply_of id Change.Reclaim s) (sym e) is_freed.0
 
     freed_inside : PlacedIn p s.rows
     unfolding apply_placed
-    freed_inside = subst (λ (y : Placed). PlacedIn y s.rows) (sym e) is_freed.1
+    freed_inside = subst (λ (y : Result ℕ Refusal). PlacedIn y s.rows) (sym e) is_freed.1
 
-pub reclaim_inside : (id : RequestId) (l : List ℕ) (p : Placed) → p ≡ (apply_placed id Change.Reclaim (store_of l)).result → PlacedIn p (read_rows l)
+pub reclaim_inside : (id : RequestId) (l : List ℕ) (p : Result ℕ Refusal) → p ≡ (apply_placed id Change.Reclaim (store_of l)).result → PlacedIn p (read_rows l)
 unfolding store_of
 reclaim_inside id l p e = freed_inside id (store_of l) p e

@@ -1,4 +1,7 @@
 -- Laws of numbers that stop at the maximum of their w bits, and of the tallies that are such numbers. Assumes nothing.
+use Rattle.std.specs.Prelude.{Result, Ok, Err}
+use Rattle.std.specs.Result.{OkIff, result_unwrap_or}
+use Rattle.std.proofs.lemmas.Result.{OkIff-at_ok, OkIff-at_err}
 use Prim.Native.Nat.{ℕ, ◌+◌, ◌-◌, ◌^◌, ◌<◌, ◌≤◌}
 use mathlib.Core.Path.{◌≡◌, sym, ◌∙◌}
 use mathlib.Core.Bool.{Bool, true, false, cond, not}
@@ -59,8 +62,8 @@ module _ (w : ℕ) where
   bytes_plain rows h = saturate_plain (sum_by held_length rows) h
 
   -- a tally of f that has come to row i of n
-  abbrev pub Tallied : (Row → ℕ) → List Row → ℕ → ℕ → ℕ → Type 0
-  Tallied f l n i total = (n ≡ length l) × (i ≤ n) × (total ≡ saturate w (sum_by f (take i l)))
+  abbrev pub Tallied : (Row → ℕ) → List Row → ℕ → ℕ → Type 0
+  Tallied f l i total = (total ≡ saturate w (sum_by f (take i l)))
 
   pub tally_start : 0 ≡ saturate w 0
   tally_start = sym (saturate_plain 0 (pow_pos w))
@@ -82,14 +85,24 @@ module _ (w : ℕ) where
     pub bytes_more : (n next : ℕ) → not held ≡ false → n ≡ r.metadata.requested_length → next ≡ saturate w (total + n) → next ≡ saturate w (total + held_length r)
     bytes_more n next h en es = rw (sym e ∙ not-false held h, ← en) es
 
+-- the number in 8 bits, or their maximum
+module _ {E : Type 0} (total : ℕ) where
+  pub cut_is : (r : Result ℕ E) (x : ℕ) → OkIff r (total < 256) total → x ≡ result_unwrap_or r 255 → x ≡ saturate 8 total
+  cut_is (Ok v) x k e =
+      let r : Result ℕ E = Ok v in
+      let z = OkIff-at_ok {E = E} r (total < 256) total v k (λ i. r) in saturate_is 8 total x (λ h. e ∙ z.1) (λ h. absurd (omega (arith, z.0)))
+  cut_is (Err d) x k e =
+      let r : Result ℕ E = Err d in
+      let z = OkIff-at_err {E = E} r (total < 256) total d k (λ i. r) in saturate_is 8 total x (λ h. absurd (z h)) (λ h. omega arith)
+
 -- one row more of a count
 pub count_on : (p : Row → Bool) (l : List Row) (i total word : ℕ) → i < length l → total ≡ count p (take i l)
     → word ≡ cond (p (get_or l i empty_row)) 1 0 → total + word ≡ count p (take (i + 1) l)
 count_on p l i total word h t ew = rw (add-one, sum_suc (only p (λ r. 1)) l i empty_row h, t, ew)
 
 -- a count of held rows that has come to row i of n: at most i, so that 64 bits hold it, and cut once at the end
-abbrev pub Counted : List Row → ℕ → ℕ → ℕ → Type 0
-Counted l n i total = (n ≡ length l) × (i ≤ n) × (total ≤ i) × (total ≡ count is_held (take i l))
+abbrev pub Counted : List Row → ℕ → ℕ → Type 0
+Counted l i total = (total ≤ i) × (total ≡ count is_held (take i l))
 
 module _ (l : List Row) (n i total : ℕ) where
   pub counted_on : (word : ℕ) → i < n → n ≡ length l → total ≡ count is_held (take i l) → word ≡ cond (is_held (get_or l i empty_row)) 1 0

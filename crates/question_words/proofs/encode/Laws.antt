@@ -1,4 +1,5 @@
 -- Laws of answers to questions as words. Assumes nothing.
+use Rattle.std.specs.Prelude.{Option, Some}
 use Prim.Native.Nat.{ℕ, ◌≤◌}
 use mathlib.Core.List.{List, [], ◌∷◌}
 use mathlib.Core.Path.{◌≡◌, ◌∙◌}
@@ -35,10 +36,10 @@ pub placed_room : (own rest : List ℕ) (x : RequestReport) → own ≡ report_w
 unfolding report_words
 placed_room own rest x eo er = rw (er, eo) (omega arith)
 
-pub first_exact : (x : Wanted) (n : ℕ) → x ≡ Wanted.First n → 13 ∷ 1 ∷ n ∷ [] ≡ wanted_words x
+pub first_exact : (x : Option Wanted) (n : ℕ) → x ≡ Some (Wanted.First n) → 13 ∷ 1 ∷ n ∷ [] ≡ wanted_words x
 first_exact x n e = rw e
 
-pub second_exact : (x : Wanted) (n : ℕ) → x ≡ Wanted.Second n → 13 ∷ 2 ∷ n ∷ [] ≡ wanted_words x
+pub second_exact : (x : Option Wanted) (n : ℕ) → x ≡ Some (Wanted.Second n) → 13 ∷ 2 ∷ n ∷ [] ≡ wanted_words x
 second_exact x n e = rw e
 
 -- an answer's words are put

@@ -1,28 +1,25 @@
 -- One law for each way out of a recovery's reply: its premises are the facts in hand there. Assumes nothing.
+use Rattle.std.specs.Prelude.{Option, Some, None, Result, Ok, Err, ⊤}
 use Prim.Native.Nat.{ℕ, ◌+◌, ◌-◌, ◌≤◌}
-use mathlib.Core.Bool.{Bool, true, false, not, ◌&&◌}
+use mathlib.Core.Bool.{Bool, true, false, not}
 use mathlib.Core.List.{List, [], ◌++◌}
 use mathlib.Core.Path.{◌≡◌, refl, sym, ap, ◌∙◌}
 use native.Mathlib.Omega.{arith}
-use lib.Dec.{eqb}
 use lib.ListN.{length, take, drop, length-take, length-map}
 use borrow.Author.Tests.{eq-eqb, ne_eqb}
 use Rattle.chain.specs.After.{After, after}
 use Rattle.chain.specs.Lists.{any_in, listed}
 use Rattle.chain.proofs.Chain.{takes, passes, both, fits_told}
-use Rattle.words.specs.declared.{OptionU64.OptionU64}
 use Rattle.words.proofs.Parts.{rest_some}
 use Rattle.models.specs.Refusals.{refusal_of, from_backend}
-use Rattle.models.specs.Requests.{same_device}
 use Rattle.models.specs.Said.{Tabled}
 use Rattle.models.specs.declared.ControllerState.TheVariants.{Initialized}
-use Rattle.models.specs.declared.{OperationError.OperationError, Refusal.Refusal, RequestId.RequestId, Verdict.Verdict}
+use Rattle.models.specs.declared.{OperationError.OperationError, Refusal.Refusal, RequestId.RequestId}
 use Rattle.rows.specs.Table.{read_rows, is_uncertain}
 use Rattle.rows.specs.Store.{store_of}
 use Rattle.rows.specs.declared.{Row.Row}
-use Rattle.checks.specs.Completion.{has_error}
 use Rattle.session.specs.Session.{with_controller, with_flight, with_stall, marked}
-use Rattle.session.specs.declared.{InFlight.InFlight, OptionStall.OptionStall, RecoverableStall.RecoverableStall, Recovery.Recovery, RecoveryKind.RecoveryKind, Session.Session, Size.Size}
+use Rattle.session.specs.declared.{InFlight.InFlight, RecoverableStall.RecoverableStall, Recovery.Recovery, RecoveryKind.RecoveryKind, Session.Session, Size.Size}
 use Rattle.scope.specs.Affected.{affected_of, tokens_of}
 use Rattle.scope.specs.Scope.{meant, in_scope}
 use Rattle.scope.specs.Returned.{read_returned, lists_agree}
@@ -36,29 +33,18 @@ use Rattle.session.specs.Lent.{Memory, memory, memory_fits}
 use Rattle.session.specs.Sizes.{rows_fit, memory_sizes}
 use Rattle.session.proofs.sizes.Laws.{memory_rows, rows_sized}
 use borrow.Author.Tests.{not-false}
-use Rattle.recovery.specs.RecoveryReply.{ReplyLists, reply_lists, apply_all, ended, is_whole, is_revision, matching, restored_by, reset_by, session_after, refused_after, recovery_refused, concluded_by, settled_of, done_of, reply_by, reply_sized, reply_in, recovery_reply_of}
+use Rattle.recovery.specs.RecoveryReply.{ReplyLists, reply_lists, apply_all, ended, is_whole, matching, restored_by, reset_by, session_after, refused_after, recovery_refused, concluded_by, settled_of, done_of, reply_by, reply_sized, reply_in, recovery_reply_of}
 use Rattle.recovery.specs.Said.{recovery_said, recovery_reply_numbers}
-use Rattle.recovery.specs.declared.{AbortReport.AbortReport, Ids.Ids, Outcome.Outcome, Recovered.Recovered, RecoveryAnswer.RecoveryAnswer, RecoveryReply.RecoveryReply, Replied.Replied, recovery_reply.Ended.Ended}
+use Rattle.recovery.specs.declared.{AbortReport.AbortReport, Ids.Ids, BackendAbort.BackendAbort, Recovered.Recovered, Replied.Replied, recovery_reply.Ended.Ended}
 use Rattle.recovery.proofs.entries.Laws.{below_kept}
 
--- ---- small answers
-pub whole_is : (o : Outcome) (b : Bool) → b ≡ has_error o.error → (o.restart_ready && not b) ≡ is_whole o
-whole_is o b e = rw e
-
-pub revision_some : (o : OptionU64) (m n : ℕ) → o ≡ OptionU64.Some m → eqb m n ≡ is_revision o n
-revision_some o m n e = rw e
-
 -- ---- the session after the entries
-pub matches_is : (note : RecoverableStall) (x : Recovery) (certain : Bool) (s : Session) (a c : Bool) → a ≡ same_device note.device x.device
-    → c ≡ is_revision s.recovery_revision note.revision → (a && eqb note.endpoint x.endpoint && certain && c) ≡ matching note x certain s
-matches_is note x certain s a c ea ec = rw (ea, ec)
-
-module _ (q : OptionStall) (x : Recovery) (certain : Bool) (s t : Session) (et : t ≡ with_stall s OptionStall.None) where
-  pub restored_none : q ≡ OptionStall.None → t ≡ restored_by q x certain s
+module _ (q : Option RecoverableStall) (x : Recovery) (certain : Bool) (s t : Session) (et : t ≡ with_stall s None) where
+  pub restored_none : q ≡ None → t ≡ restored_by q x certain s
   unfolding restored_by
   restored_none e = et ∙ rw e
 
-  module _ (note : RecoverableStall) (e : q ≡ OptionStall.Some note) (b : Bool) (eb : b ≡ matching note x certain s) where
+  module _ (note : RecoverableStall) (e : q ≡ Some note) (b : Bool) (eb : b ≡ matching note x certain s) where
     pub restored_on : (y : Session) → b ≡ true → y ≡ with_controller t Initialized s.recovery_revision → y ≡ restored_by q x certain s
     unfolding restored_by
     restored_on y h ey = rw e (takes Session _ (matching note x certain s) _ _ (sym eb ∙ h) (rw et at ey))
@@ -96,16 +82,16 @@ module _ (r : Refusal) (idle : Session) where
   refused_idle t = passes Session _ _ _ _ (ne_eqb r.number 48 t) refl
 
 -- ---- the entries and the report
-module _ (z : Size) (places words bytes : List ℕ) (n : ℕ) (m : Memory) (v : Verdict) (w₁ area₁ : List ℕ)
+module _ (z : Size) (places words bytes : List ℕ) (n : ℕ) (m : Memory) (v : Result ⊤ Refusal) (w₁ area₁ : List ℕ)
     (ev : after v (memory (store_of w₁) area₁) ≡ complete_all z itself (read_returned (take n places) words) bytes m) where
-  abbrev all : After Verdict Memory
+  abbrev all : After (Result ⊤ Refusal) Memory
   all = apply_all z itself (reply_lists (take n places) words (drop n places) bytes) m
 
-  pub apply_stop : (r : Refusal) → v ≡ Verdict.Refused r → after v (memory (store_of w₁) area₁) ≡ all
+  pub apply_stop : (r : Refusal) (y : Result ⊤ Refusal) → v ≡ Err r → y ≡ Err r → after y (memory (store_of w₁) area₁) ≡ all
   unfolding apply_all
-  apply_stop r e = rw (← ev, e)
+  apply_stop r y e ey = rw (ey, ← ev, e)
 
-  pub apply_on : (u : Verdict) (w₂ : List ℕ) → v ≡ Verdict.Pass → after u (store_of w₂) ≡ abort_all itself (take (length places - n) (drop n places)) (store_of w₁)
+  pub apply_on : (u : Result ⊤ Refusal) (w₂ : List ℕ) → v ≡ (Ok tt) → after u (store_of w₂) ≡ abort_all itself (take (length places - n) (drop n places)) (store_of w₁)
       → after u (memory (store_of w₂) area₁) ≡ all
   unfolding apply_all
   apply_on u w₂ e eu = rw (← ev, e, ← rest_some places n, ← eu)
@@ -113,14 +99,14 @@ module _ (z : Size) (places words bytes : List ℕ) (n : ℕ) (m : Memory) (v : 
 pub rest_below : (w w₀ places : List ℕ) (n : ℕ) → length w ≡ length w₀ → Below w₀ (drop n places) → Below w (take (length places - n) (drop n places))
 rest_below w w₀ places n e b = rw (rest_some places n) (below_kept w w₀ (drop n places) e b)
 
-module _ (v : Verdict) (e : Ended) (report : AbortReport) (places : List ℕ) (rows : List Row) where
-  pub conclude_no : (r : Refusal) (next : Session) (y : Replied) → v ≡ Verdict.Refused r → next ≡ refused_after r e.idle → y ≡ recovery_refused next r
+module _ (v : Result ⊤ Refusal) (e : Ended) (report : AbortReport) (places : List ℕ) (rows : List Row) where
+  pub conclude_no : (r : Refusal) (next : Session) (y : Replied) → v ≡ Err r → next ≡ refused_after r e.idle → y ≡ recovery_refused next r
       → y ≡ concluded_by v e report places rows
   unfolding concluded_by
   conclude_no r next y ev en ey = ey ∙ rw (ev, en)
 
-  pub conclude_on : (next : Session) → v ≡ Verdict.Pass → next ≡ session_after e rows
-      → ◌≡◌ {A = Replied} (record { answer = RecoveryAnswer.Report report; session = next; places = places }) (concluded_by v e report places rows)
+  pub conclude_on : (next : Session) → v ≡ (Ok tt) → next ≡ session_after e rows
+      → ◌≡◌ {A = Replied} (record { answer = Ok report; session = next; places = places }) (concluded_by v e report places rows)
   unfolding concluded_by
   conclude_on next ev en = rw (ev, en)
 
@@ -146,9 +132,9 @@ module _ (x : Recovery) (w list : List ℕ) (count : ℕ) (ec : take count list 
     pub own_few : length (take count own) ≤ 128
     own_few = simp length-take (omega arith)
 
-    pub done_is : (idle : Session) (o : Outcome) (l : ReplyLists) (area : List ℕ) (y : After Replied Memory)
+    pub done_is : (idle : Session) (o : BackendAbort) (l : ReplyLists) (area : List ℕ) (y : After Replied Memory)
         → y ≡ done_of (ended idle x o) (take count list) (take count own) l (memory (store_of w) area)
-        → y ≡ reply_by (RecoveryReply.Done o) x l idle (memory (store_of w) area)
+        → y ≡ reply_by (Ok o) x l idle (memory (store_of w) area)
     unfolding reply_by store_of
     done_is idle o l area y ey = ey ∙ rw (own_is, ec)
 
@@ -168,16 +154,16 @@ module _ (e : Ended) (affected own : List ℕ) (l : ReplyLists) (m : Memory) (wh
   scope_on y t ey = passes (After Replied Memory) _ _ _ _ (ap not scope_is ∙ t) ey
 
 -- ---- by the reply, the sizes and what is in flight
-module _ (p : RecoveryReply) (x : Recovery) (l : ReplyLists) (idle : Session) (m : Memory) where
-  pub reply_45 : (e : OperationError) (next : Session) (r : Refusal) (y : Replied) → p ≡ RecoveryReply.Error e → next ≡ marked idle → r ≡ from_backend 45 e
+module _ (p : Result BackendAbort OperationError) (x : Recovery) (l : ReplyLists) (idle : Session) (m : Memory) where
+  pub reply_45 : (e : OperationError) (next : Session) (r : Refusal) (y : Replied) → p ≡ Err e → next ≡ marked idle → r ≡ from_backend 45 e
       → y ≡ recovery_refused next r → after y m ≡ reply_by p x l idle m
   unfolding reply_by
   reply_45 e next r y f en er ey = rw (ey, en, er, f)
 
-  pub reply_done : (o : Outcome) (y : After Replied Memory) → p ≡ RecoveryReply.Done o → y ≡ reply_by (RecoveryReply.Done o) x l idle m → y ≡ reply_by p x l idle m
+  pub reply_done : (o : BackendAbort) (y : After Replied Memory) → p ≡ Ok o → y ≡ reply_by (Ok o) x l idle m → y ≡ reply_by p x l idle m
   reply_done o y f ey = ey ∙ rw f
 
-module _ (r : RecoveryReply) (x : Recovery) (l : ReplyLists) (s : Session) (m : Memory) (f : Bool) (ef : f ≡ memory_fits s.size m) where
+module _ (r : Result BackendAbort OperationError) (x : Recovery) (l : ReplyLists) (s : Session) (m : Memory) (f : Bool) (ef : f ≡ memory_fits s.size m) where
   pub sized_3 : (y : Replied) → not f ≡ true → y ≡ recovery_refused s (refusal_of 3) → after y m ≡ reply_sized r x l s m
   unfolding reply_sized
   sized_3 y t ey = takes (After Replied Memory) _ _ _ _ (rw ef at t) (rw ey)
@@ -199,7 +185,7 @@ fit_is s idle w area f e t ei = rw ei (record { sizes = fits_told f _ e t })
 pub agreed_is : (n : ℕ) (words : List ℕ) (size : ℕ) (g : Bool) → g ≡ lists_agree n words size → not g ≡ false → lists_agree n words size ≡ true
 agreed_is n words size g e t = sym e ∙ not-false g t
 
-module _ (r : RecoveryReply) (l : ReplyLists) (s : Session) (m : Memory) where
+module _ (r : Result BackendAbort OperationError) (l : ReplyLists) (s : Session) (m : Memory) where
   module _ (y : Replied) (ey : y ≡ recovery_refused s (refusal_of 2)) where
     refused_in : reply_in s.in_flight r l s m ≡ after (recovery_refused s (refusal_of 2)) m → after y m ≡ recovery_reply_of r l s m
     unfolding recovery_reply_of
@@ -226,19 +212,19 @@ pub parted_is : (rows : List Row) (l : List ℕ) (n m : ℕ) (a b : List Request
     → b ≡ listed 128 no_id (ids_of rows (take (n + m - n) (drop n l))) → ◌≡◌ {A = Ids} (record { completed = a; aborted = b }) (id_lists rows (take n l) (take m (drop n l)))
 parted_is rows l n m a b ea eb = let z : n + m - n ≡ m = omega arith in rw (ea, eb, z)
 
-pub fill_refused : (p : Replied) (rows : List Row) (r : Refusal) (ids : Ids) → p.answer ≡ RecoveryAnswer.Refused r → ids ≡ id_lists rows [] []
+pub fill_refused : (p : Replied) (rows : List Row) (r : Refusal) (ids : Ids) → p.answer ≡ Err r → ids ≡ id_lists rows [] []
     → ◌≡◌ {A = Recovered} (record { answer = p.answer; session = p.session; ids = ids }) (filled p rows)
-fill_refused p rows r ids e ei = ap (λ (q : Ids). record { answer = p.answer; session = p.session; ids = q }) (ei ∙ sym (ap (λ (x : RecoveryAnswer). ids_in x rows p.places) e))
+fill_refused p rows r ids e ei = ap (λ (q : Ids). record { answer = p.answer; session = p.session; ids = q }) (ei ∙ sym (ap (λ (x : Result AbortReport Refusal). ids_in x rows p.places) e))
 
-module _ (p : Replied) (r : AbortReport) (e : p.answer ≡ RecoveryAnswer.Report r) (h : many_in p.answer ≤ 128) where
+module _ (p : Replied) (r : AbortReport) (e : p.answer ≡ Ok r) (h : many_in p.answer ≤ 128) where
   pub fill_few : r.completed + r.aborted ≤ 128
   fill_few = omega (arith, h, ap many_in e)
 
   pub fill_report : (rows : List Row) (ids : Ids) → ids ≡ id_lists rows (take r.completed p.places) (take r.aborted (drop r.completed p.places))
-      → ◌≡◌ {A = Recovered} (record { answer = RecoveryAnswer.Report r; session = p.session; ids = ids }) (filled p rows)
+      → ◌≡◌ {A = Recovered} (record { answer = Ok r; session = p.session; ids = ids }) (filled p rows)
   fill_report rows ids ei =
-      ap (λ (q : Ids). record { answer = RecoveryAnswer.Report r; session = p.session; ids = q }) ei
-      ∙ sym (ap (λ (x : RecoveryAnswer). record { answer = x; session = p.session; ids = ids_in x rows p.places }) e)
+      ap (λ (q : Ids). record { answer = Ok r; session = p.session; ids = q }) ei
+      ∙ sym (ap (λ (x : Result AbortReport Refusal). record { answer = x; session = p.session; ids = ids_in x rows p.places }) e)
 
 pub filled_told : (o : After Replied Memory) (p : Replied) (w area : List ℕ) (r : Recovered) → r ≡ filled p (read_rows w)
     → (after p (memory (store_of w) area) ≡ o) × Tabled recovery_reply_numbers (recovery_said p.answer)

@@ -1,4 +1,5 @@
 -- Laws of a row's fields as words. Assumes nothing.
+use Rattle.std.specs.Prelude.{Option}
 use Prim.Native.Nat.{ℕ}
 use mathlib.Core.Path.{◌≡◌, refl, ap, ◌∙◌}
 use mathlib.Core.Bool.{Bool, true, false, cond}
@@ -6,7 +7,6 @@ use lib.Dec.{eqb}
 use borrow.Author.Tests.{eqb-true}
 use Rattle.chain.proofs.Chain.{caseB}
 use Rattle.words.specs.Words.{read_flag, flag_word, option_u32_word, option_i32_word}
-use Rattle.words.specs.declared.{OptionU32.OptionU32}
 use Rattle.models.specs.Codes.{category_word}
 use Rattle.models.specs.declared.{OperationError.OperationError, RequestState.RequestState}
 use Rattle.models.specs.declared.RequestState.TheVariants.{Pending, Completed, Failed, Aborted}
@@ -14,7 +14,7 @@ use Rattle.rows.specs.Codec.{read_state_words, failed_words, state_words, kind_w
 use Rattle.rows.specs.declared.{codec.StateWords.StateWords, codec.StatusWords.StatusWords}
 
 -- the words of an error
-pub failed_exact : (x : OperationError) (k : OptionU32) (q : Bool) (a c d e f : ℕ) → a ≡ category_word x.category → c ≡ flag_word q
+pub failed_exact : (x : OperationError) (k : Option ℕ) (q : Bool) (a c d e f : ℕ) → a ≡ category_word x.category → c ≡ flag_word q
     → d ≡ option_i32_word x.os_code → e ≡ option_u32_word x.completion_code → f ≡ option_u32_word k
     → ◌≡◌ {A = StateWords} (record { tag = 2; a = a; b = x.message; c = c; d = d; e = e; f = f }) (failed_words x k q)
 failed_exact x k q a c d e f ha hc hd he hf = rw (ha, hc, hd, he, hf)

@@ -31,7 +31,7 @@ abbrev givens : List ℕ → ℕ → List Brought
 givens w n = tab (brought_at w) n
 
 abbrev pub Summed : List ℕ → ℕ → ℕ → ℕ → ℕ → Type 0
-Summed w n size sum k = (k ≤ n) × (sum ≤ size) × (sum ≡ sum_by given_of (take k (givens w n)))
+Summed w n size sum k = (sum ≤ size) × (sum ≡ sum_by given_of (take k (givens w n)))
 
 module _ (w : List ℕ) (n size sum k : ℕ) (e : sum ≡ sum_by given_of (take k (givens w n))) where
   module _ (lt : k < n) where

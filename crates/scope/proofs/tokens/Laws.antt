@@ -6,40 +6,33 @@ use mathlib.Core.List.{List, [], ◌∷◌, ◌++◌}
 use native.Mathlib.Omega.{arith}
 use native.Mathlib.Numerals.{add-one}
 use lib.Dec.{eqb, ltb}
-use lib.ListN.{length, get_or, drop, set, replicate, length-set, drop_of_length-le, get_or-replicate, length-replicate, length-append, get_or-append}
-use lib.Seq.{drop-cons, get_or-set_same, get_or-set_other, get_or-append-add}
-use borrow.Author.Tests.{eq-eqb, ne_eqb, eqb-true, eqb-false, lt-ltb, le-ltb, ltb-true, ltb-false, not-true, not-false}
+use lib.ListN.{length, get_or, drop, set, replicate, length-set, get_or-replicate, length-replicate, length-append}
+use lib.Seq.{get_or-set_same, get_or-set_other}
+use borrow.Author.Tests.{eq-eqb, ne_eqb, eqb-true, eqb-false, ltb-true, not-true, not-false}
+use Rattle.std.specs.List.{list_all, list_any, IsAllAdjacentAnswer}
+use Rattle.std.proofs.Common.{nat_eq, Option, Some, None, is_some, IfSome, Bor}
+use Rattle.std.specs.Option.{option_eq}
+use Rattle.std.proofs.lemmas.List.Recursion.{same_from_clauses}
 use Rattle.chain.specs.Lists.{only, count, find, is_among, all_in}
 use Rattle.chain.proofs.Chain.{caseB, both, and3}
-use Rattle.chain.proofs.Lists.{sum_eq, sum_pair, count_pos, count_most, find_on, find_here, find_hit, in_cons, in_append}
+use Rattle.chain.proofs.Lists.{sum_eq, sum_pair, count_pos, count_most, find_on, find_here, find_hit, in_cons, in_append, get_or-any}
 use Rattle.scope.specs.Scope.{slot_of, Rising, Rises, each_once, in_scope}
 
 -- ---- the search for a token
-module _ (l : List ℕ) (t n k : ℕ) (e : n ≡ length l) (h : k ≤ find (eqb t) l) (lt : k < n) where
-  pub slot_here : t ≡ get_or l k 0 → k ≡ slot_of l t
-  slot_here q = sym (find_here (eqb t) 0 l k (omega arith) h (eq-eqb t (get_or l k 0) q))
-
-  pub slot_on : (t ≡ get_or l k 0 → ⊥) → k + 1 ≤ find (eqb t) l
-  slot_on q = find_on (eqb t) 0 l k (omega arith) h (ne_eqb t (get_or l k 0) q)
+pub among_any : (t : ℕ) (l : List ℕ) (r : Bool) → r ≡ list_any (λ u. nat_eq u t) l → r ≡ is_among t l
+among_any t l r e = e ∙ sym (same_from_clauses (is_among t) (list_any (λ u. nat_eq u t)) (λ u b. eqb u t || b) refl (λ u us. in_cons t u us ∙ swap u us) (λ u us. refl) l)
+  where
+    swap : (u : ℕ) (us : List ℕ) → (eqb t u || is_among t us) ≡ (eqb u t || is_among t us)
+    swap u us = caseB (eqb u t)
+        (λ y. let z = eq-eqb t u (sym (eqb-true u t y)) in rw (y, z))
+        (λ y. let z = ne_eqb t u (λ q. eqb-false u t y (sym q)) in rw (y, z))
 
 -- ---- where tokens rise, the one that is met is the first
-abbrev pub RisesTo : List ℕ → ℕ → ℕ → Type 0
-RisesTo l n k = (n ≡ length l) × (1 ≤ k) × ((i : ℕ) → suc i < k → get_or l i 0 < get_or l (suc i) 0)
-
-pub rises_start : (l : List ℕ) (i : ℕ) → suc i < 1 → get_or l i 0 < get_or l (suc i) 0
-rises_start l i h = absurd (omega arith)
-
-module _ (l : List ℕ) (n k : ℕ) (e : n ≡ length l) (h : (i : ℕ) → suc i < k → get_or l i 0 < get_or l (suc i) 0) where
-  pub rises_on : 1 ≤ k → get_or l (k - 1) 0 < get_or l k 0 → (i : ℕ) → suc i < k + 1 → get_or l i 0 < get_or l (suc i) 0
-  rises_on o lt i q = caseB (ltb (suc i) k)
-      (λ y. h i (ltb-true (suc i) k y))
-      (λ y. let g = ltb-false (suc i) k y in let z : suc i ≡ k = omega arith in let w : i ≡ k - 1 = omega arith in rw (z, w) lt)
-
-  pub rises_end : n ≤ k → Rises true l
-  rises_end o t i q = h i (omega arith)
-
-pub rises_not : (l : List ℕ) → Rises false l
-rises_not l e = absurd (false≢true e)
+pub rises_adjacent : (l : List ℕ) (r : Bool) → IsAllAdjacentAnswer (λ x y b. b ≡ ltb x y) l r → Rises r l
+rises_adjacent l true a e k h =
+    let y : ltb (get_or l k 0) (get_or l (k + 1) 0) ≡ true = sym (a k 0 (omega arith)) in
+    ltb-true (get_or l k 0) (get_or l (suc k) 0) (rw add-one at y)
+rises_adjacent l false a e k h = absurd (false≢true e)
 
 module _ (l : List ℕ) (r : Rising l) where
   rising_lt : (m k : ℕ) → suc (k + m) < length l → get_or l k 0 < get_or l (suc (k + m)) 0
@@ -56,10 +49,18 @@ module _ (l : List ℕ) (r : Rising l) where
       let on = find_on (eqb t) 0 l i (omega arith) (none_before t k h e i (omega arith)) (ne_eqb t (get_or l i 0) (λ y. absurd (omega arith))) in
       omega (arith, on)
 
-pub near_is : (l : List ℕ) (t near : ℕ) (rising : Bool) → near < length l → Rises rising l → (rising && eqb t (get_or l near 0)) ≡ true → near ≡ slot_of l t
-near_is l t near rising h r q =
-    let p = both rising (eqb t (get_or l near 0)) q in
-    sym (find_here (eqb t) 0 l near h (none_before l (r p.0) t near h (eqb-true t (get_or l near 0) p.1) near (omega arith)) p.1)
+-- what the place answers that equals y
+found_near : (l : List ℕ) (near : ℕ) (o : Option (Bor ℕ)) (y : Bor ℕ) → is_some o ≡ ltb near (length l) → IfSome o (λ x. x.now ≡ get_or l near x.now)
+    → option_eq (λ (x z : Bor ℕ). eqb x.now z.now) o (Some y) ≡ true → (near < length l) × (y.now ≡ get_or l near 0)
+found_near l near None y s i e = absurd (false≢true e)
+found_near l near (Some x) y s i e =
+    let h = ltb-true near (length l) (sym s) in (h, sym (eqb-true x.now y.now e) ∙ i ∙ get_or-any l near x.now 0 h)
+
+pub near_is : (l : List ℕ) (near : ℕ) (o : Option (Bor ℕ)) (y : Bor ℕ) (rising b : Bool) → is_some o ≡ ltb near (length l) → IfSome o (λ x. x.now ≡ get_or l near x.now)
+    → b ≡ option_eq (λ (x z : Bor ℕ). eqb x.now z.now) o (Some y) → Rises rising l → rising ≡ true → b ≡ true → near ≡ slot_of l y.now
+near_is l near o y rising b s i eb r q t =
+    let p = found_near l near o y s i (sym eb ∙ t) in
+    sym (find_here (eqb y.now) 0 l near p.0 (none_before l (r q) y.now near p.0 p.1 near (omega arith)) (eq-eqb y.now (get_or l near 0) p.1))
 
 -- ---- the marks are the tokens that came
 own_at : (own : List ℕ) (t : ℕ) → is_among t own ≡ true → t ≡ get_or own (slot_of own t) 0
@@ -95,42 +96,12 @@ mark_each_lem own (t ∷ ts) seen m h k = caseB (is_among t own)
 -- the loop over the tokens that came back
 module _ (own a b : List ℕ) where
   abbrev pub Marking : ℕ → List Bool → ℕ → Type 0
-  Marking n m k = (n ≡ length a + length b) × (k ≤ n) × (length m ≡ 128) × (mark_each own (drop k (a ++ b)) m ≡ each_once own [] (a ++ b))
+  Marking n m k = (n ≡ length a + length b) × (length m ≡ 128) × (mark_each own (drop k (a ++ b)) m ≡ each_once own [] (a ++ b))
 
   pub mark_start : (m : List Bool) → m ≡ replicate 128 false → length own ≤ 128 → mark_each own (drop 0 (a ++ b)) m ≡ each_once own [] (a ++ b)
   mark_start m e h =
       rw e (mark_each_lem own (a ++ b) [] (replicate 128 false) (omega (arith, length-replicate {A = Bool} 128 false))
       (λ t i. get_or-replicate 128 (slot_of own t) false false (omega (arith, ltb-true (slot_of own t) (length own) i))))
-
-  module _ (n : ℕ) (m : List Bool) (k : ℕ) (e : n ≡ length a + length b) (h : mark_each own (drop k (a ++ b)) m ≡ each_once own [] (a ++ b)) where
-    module _ (t j : ℕ) (lt : k < n) (et : t ≡ get_or (a ++ b) k 0) (ej : j ≡ slot_of own t) where
-      next : (ltb j (length own) && not (get_or m j false) && mark_each own (drop (suc k) (a ++ b)) (set m j true)) ≡ each_once own [] (a ++ b)
-      next = rw (drop-cons (a ++ b) k 0 (omega (arith, length-append a b)), ← et, ← ej) at h
-
-      pub mark_far : length own ≤ j → false ≡ each_once own [] (a ++ b)
-      mark_far o = rw (le-ltb j (length own) o) at next
-
-      module _ (i : j < length own) where
-        pub mark_twice : get_or m j false ≡ true → false ≡ each_once own [] (a ++ b)
-        mark_twice y = rw (lt-ltb j (length own) i, y) at next
-
-        pub mark_on : get_or m j false ≡ false → mark_each own (drop (k + 1) (a ++ b)) (set m j true) ≡ each_once own [] (a ++ b)
-        mark_on y = rw add-one (rw (lt-ltb j (length own) i, y) at next)
-
-    pub mark_end : n ≤ k → true ≡ each_once own [] (a ++ b)
-    mark_end o =
-        let q : length (a ++ b) ≤ k = omega (arith, length-append a b) in
-        let z : drop k (a ++ b) ≡ [] = drop_of_length-le (a ++ b) q in
-        rw z at h
-
-module _ (a b : List ℕ) (n k : ℕ) (e : n ≡ length a) where
-  pub returned_first : k < n → get_or a k 0 ≡ get_or (a ++ b) k 0
-  returned_first h = sym (get_or-append a b 0 k (omega arith))
-
-  pub returned_second : n ≤ k → get_or b (k - n) 0 ≡ get_or (a ++ b) k 0
-  returned_second h =
-      let z : length a + (k - n) ≡ k = omega arith in
-      sym (get_or-append-add a b (k - n) 0) ∙ ap (λ (i : ℕ). get_or (a ++ b) i 0) z
 
 -- ---- as many as there are: all of them
 abbrev hits : List ℕ → List ℕ → ℕ
@@ -221,29 +192,12 @@ module _ (whole : Bool) (own a b : List ℕ) where
       scope_whole x w ex = rw (← e, not-false r t, not-false whole w) ex
 
 -- ---- all of them
-abbrev pub Covering : List ℕ → List ℕ → ℕ → ℕ → Type 0
-Covering own l n k = (n ≡ length own) × (k ≤ n) × (all_in (drop k own) l ≡ all_in own l)
-
-module _ (own l : List ℕ) (n k : ℕ) (e : n ≡ length own) (h : all_in (drop k own) l ≡ all_in own l) where
-  module _ (lt : k < n) (x : Bool) (ex : x ≡ is_among (get_or own k 0) l) where
-    cover_next : (x && all_in (drop (suc k) own) l) ≡ all_in own l
-    cover_next = rw ex (rw (drop-cons own k 0 (omega arith)) at h)
-
-    pub cover_not : not x ≡ true → false ≡ all_in own l
-    cover_not t = rw (not-true x t) at cover_next
-
-    pub cover_on : not x ≡ false → all_in (drop (k + 1) own) l ≡ all_in own l
-    cover_on t = rw add-one (rw (not-false x t) at cover_next)
-
-  pub cover_end : n ≤ k → true ≡ all_in own l
-  cover_end o = let q : length own ≤ k = omega arith in let z : drop k own ≡ [] = drop_of_length-le own q in rw z at h
+pub all_among : (own l : List ℕ) (r : Bool) → r ≡ list_all (λ t. is_among t l) own → r ≡ all_in own l
+all_among own l r e = e ∙ sym (same_from_clauses (λ o. all_in o l) (list_all (λ t. is_among t l)) (λ t b. is_among t l && b) refl (λ t ts. refl) (λ t ts. refl) own)
 
 module _ (t : ℕ) (a b : List ℕ) (x : Bool) (ex : x ≡ is_among t a) where
-  pub came_first : x ≡ true → true ≡ is_among t (a ++ b)
-  came_first e = sym (in_append t a b ∙ rw (← ex, e))
+  pub came_first : x ≡ true → x ≡ is_among t (a ++ b)
+  came_first e = e ∙ sym (in_append t a b ∙ rw (← ex, e))
 
   pub came_second : (y : Bool) → x ≡ false → y ≡ is_among t b → y ≡ is_among t (a ++ b)
   came_second y e ey = sym (in_append t a b ∙ rw (← ex, e, ← ey))
-
-pub in_is : (t : ℕ) (l : List ℕ) (k : ℕ) → k ≡ slot_of l t → ltb k (length l) ≡ is_among t l
-in_is t l k e = rw e

@@ -1,11 +1,9 @@
-use Rattle.session.proofs.Revision.{raise_none, raise_full, raise_on}
+use Rattle.std.proofs.Common.{rules}
+use Rattle.session.proofs.Revision.{raise_none, raise_next}
 use Rattle.session.proofs.raise.Goals as goal
 
-pub returns-in_default : goal.returns-in_default
-returns-in_default c = search raise_none
-
-pub returns-then-n : goal.returns-then-n
-returns-then-n c = search raise_full
+pub returns-in_err-revision : goal.returns-in_err-revision
+returns-in_err-revision c = search (rules, raise_none)
 
 pub returns : goal.returns
-returns c = search raise_on
+returns c = search (rules, raise_next)

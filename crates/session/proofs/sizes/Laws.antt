@@ -1,14 +1,12 @@
 -- The size tests: what each one says where it comes out true, and where a row's bytes lie in the area. Assumes nothing.
 use Prim.Native.Nat.{ℕ, ◌+◌, ◌*◌, ◌<◌, ◌≤◌}
-use mathlib.Core.Bool.{Bool, true, false, not, ◌&&◌}
+use mathlib.Core.Bool.{Bool, true, false, not}
 use mathlib.Core.List.{List}
 use mathlib.Core.Path.{◌≡◌, ap, ◌∙◌}
 use native.Mathlib.Nat.{mul-le-mul}
 use native.Mathlib.Omega.{arith}
-use borrow.Author.Tests.{leb-true, eqb-true, not-true, not-false}
+use borrow.Author.Tests.{leb-true, eqb-true}
 use lib.ListN.{length}
-use mir.Syntax.{w64}
-use mir.Val.{Fits}
 use Rattle.chain.proofs.Chain.{both, fits_told}
 use Rattle.words.specs.Records.{splice_cut}
 use Rattle.words.proofs.Records.{record_in}
@@ -35,14 +33,6 @@ module _ (z : Size) where
 
   pub product_small : Sized z → z.row_count * z.row_bytes ≤ 67108864
   product_small s = mul-le-mul s.few_rows s.few_bytes
-
-  -- the products of a size do not wrap
-  module _ (f : Bool) (e : f ≡ sized z) (n : not f ≡ false) where
-    pub words_small : Fits w64 (z.row_count * row_words)
-    words_small = omega (arith, (sized_is (fits_told f _ e n)).few_rows)
-
-    pub area_small : Fits w64 (z.row_count * z.row_bytes)
-    area_small = omega (arith, product_small (sized_is (fits_told f _ e n)))
 
   -- the rows have their size
   module _ (words : ℕ) (e : rows_fit z words ≡ true) where
@@ -85,14 +75,6 @@ module _ (z : Size) where
   -- a call f of the test that was found true
   pub fit_bus : (words area bus : ℕ) (f : Bool) → f ≡ lent_sizes z words area bus → not f ≡ false → bus ≡ bus_words
   fit_bus words area bus f e n = lent_bus words area bus (fits_told f _ e n)
-
--- a test p, called s, before the last one
-module _ (s p t : Bool) (e : s ≡ p) where
-  pub unfit : not s ≡ true → false ≡ (p && t)
-  unfit n = rw (← e, not-true s n)
-
-  pub fit_last : not s ≡ false → t ≡ (p && t)
-  fit_last n = rw (← e, not-false s n)
 
 -- a row's bytes by its place
 module _ (z : Size) (i : ℕ) (p : Place) (e : p ≡ place_of z i) where

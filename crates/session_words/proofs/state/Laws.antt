@@ -1,4 +1,5 @@
 -- Laws of a session's words. Assumes nothing.
+use Rattle.std.specs.Prelude.{Option, Some}
 use Prim.Native.Nat.{ℕ, ◌<◌, ◌≤◌, ◌%◌, ◌^◌}
 use mathlib.Core.List.{List, [], ◌∷◌}
 use mathlib.Core.Path.{◌≡◌, refl, sym, ap, ◌∙◌}
@@ -8,20 +9,20 @@ use borrow.Author.Tests.{eq-eqb, ne_eqb}
 use Rattle.chain.proofs.Chain.{takes, passes, eq_not, ne_not}
 use Rattle.words.specs.Records.{splice}
 use Rattle.words.specs.Words.{read_option_u64, option_u64_words}
-use Rattle.words.specs.declared.{OptionU64.OptionU64, OptionWords.OptionWords}
+use Rattle.words.specs.declared.{OptionWords.OptionWords}
 use Rattle.words.proofs.Options.{low}
 use Rattle.models.specs.Codes.{read_controller, controller_word}
 use Rattle.models.specs.Values.{read_device_words, read_request_words, read_device_id, read_request_id}
-use Rattle.models.specs.declared.{ControllerState.ControllerState, DeviceId.DeviceId, OptionPorts.OptionPorts, Ports.Ports, RequestId.RequestId}
-use Rattle.session.specs.declared.{InFlight.InFlight, OptionStall.OptionStall, RecoverableStall.RecoverableStall, Recovery.Recovery, RecoveryKind.RecoveryKind, Session.Session}
+use Rattle.models.specs.declared.{ControllerState.ControllerState, DeviceId.DeviceId, Ports.Ports, RequestId.RequestId}
+use Rattle.session.specs.declared.{InFlight.InFlight, RecoverableStall.RecoverableStall, Recovery.Recovery, RecoveryKind.RecoveryKind, Session.Session}
 use Rattle.session_words.specs.State.{read_ports, ports_words, read_stall, stall_words, read_kind, read_flight, ports_in, stall_in, flight_in, recovery_flight, flight_words, read_session, session_words, ports_tail, revision_tail, stall_tail, flight_tail, Kept, kept_of, kept_as}
 use Rattle.session_words.specs.declared.{state.FlightWords.FlightWords, state.PortsWords.PortsWords, state.StallWords.StallWords}
 
-pub ports_back : (p : Ports) → p.count < 2 ^ 8 → read_ports 1 p.session p.count ≡ OptionPorts.Some p
+pub ports_back : (p : Ports) → p.count < 2 ^ 8 → read_ports 1 p.session p.count ≡ Some p
 ports_back p h = simp (low 8 h)
 
 pub stall_back : (x : RecoverableStall) → x.device.slot < 2 ^ 8 → x.endpoint < 2 ^ 8
-    → read_stall 1 x.revision (read_device_words x.device.session x.device.generation x.device.slot) x.endpoint ≡ OptionStall.Some x
+    → read_stall 1 x.revision (read_device_words x.device.session x.device.generation x.device.slot) x.endpoint ≡ Some x
 stall_back x h k = simp (low 8 h, low 8 k)
 
 -- what is in flight, from its words
@@ -74,8 +75,8 @@ module _ (l : List ℕ) (tag : ℕ) (et : tag ≡ get_or l 15 0) where
           simp (sym et, ne_eqb tag 0 some, ne_eqb tag 1 other, ne_eqb tag 2 h, ei, ed, ee, ek, ew)
 
 -- a session that is read from its words
-pub session_read : (l : List ℕ) (number generation sequence state present value count bytes : ℕ) (p : OptionPorts) (c : ControllerState) (r : OptionU64)
-    (x : OptionStall) (f : InFlight) → number ≡ get_or l 0 0 → generation ≡ get_or l 1 0 → sequence ≡ get_or l 2 0 → p ≡ ports_in l
+pub session_read : (l : List ℕ) (number generation sequence state present value count bytes : ℕ) (p : Option Ports) (c : ControllerState) (r : Option ℕ)
+    (x : Option RecoverableStall) (f : InFlight) → number ≡ get_or l 0 0 → generation ≡ get_or l 1 0 → sequence ≡ get_or l 2 0 → p ≡ ports_in l
     → c ≡ read_controller state → state ≡ get_or l 6 0 → r ≡ read_option_u64 present value → present ≡ get_or l 7 0 → value ≡ get_or l 8 0
     → x ≡ stall_in l → f ≡ flight_in l → count ≡ get_or l 24 0 → bytes ≡ get_or l 25 0
     → ◌≡◌ {A = Session} (record {

@@ -1,43 +1,45 @@
 -- One law for each way out of a request's submission: its premises are the facts in hand there. Assumes nothing.
+use Rattle.std.specs.Prelude.{Ok, Result, Err}
 use Prim.Native.Nat.{ℕ}
 use mathlib.Core.Bool.{Bool}
 use mathlib.Core.List.{List}
 use mathlib.Core.Path.{◌≡◌, ◌∙◌}
 use lib.ListN.{length}
 use Rattle.chain.specs.After.{After, after}
-use Rattle.models.specs.declared.{Refusal.Refusal, RequestId.RequestId, RequestMetadata.RequestMetadata}
+use Rattle.models.specs.declared.{Refusal.Refusal, RequestMetadata.RequestMetadata}
 use Rattle.targets.specs.declared.{Readings.Readings}
 use Rattle.session.specs.Lent.{Lent}
-use Rattle.session.specs.declared.{Session.Session, sizes.Place.Place}
+use Rattle.session.specs.declared.{Called.Called, Session.Session, sizes.Place.Place}
 use Rattle.submissions.specs.Admit.{admit_of}
 use Rattle.submissions.specs.Begin.{draft, target_of}
-use Rattle.submissions.specs.Submit.{Request, submit_refused, submitted_by, submit_target, submit_by, submit_of}
-use Rattle.submissions.specs.declared.{SubmitAnswer.SubmitAnswer, Submitted.Submitted, admit.Admitted.Admitted, begin.Start.Start, begin.Started.Started}
+use Rattle.submissions.specs.Submit.{Request, submitted_by, submit_target, submit_by, submit_of}
+use Rattle.submissions.specs.declared.{Submission.Submission, admit.Admitted.Admitted, begin.Start.Start}
+use Rattle.session.specs.Called.{call_refused}
 
 -- what the backend is given
-module _ (a : Start) (s : Session) (m : RequestMetadata) (given : Bool) where
-  pub submitted_no : (r : Refusal) (x : Submitted) → a ≡ Start.Refused r → x ≡ submit_refused s r → x ≡ submitted_by a s m given
+module _ (a : Result Start Refusal) (s : Session) (m : RequestMetadata) (given : Bool) where
+  pub submitted_no : (r : Refusal) (x : Called Submission) → a ≡ Err r → x ≡ call_refused s r → x ≡ submitted_by a s m given
   unfolding submitted_by
   submitted_no r x e ex = ex ∙ rw e
 
-  pub submitted_at : (id : RequestId) (i : ℕ) → a ≡ Start.At id i
-      → ◌≡◌ {A = Submitted} (record { answer = SubmitAnswer.Begun (record { id = id; row = i; metadata = m; has_packets = given }); session = s }) (submitted_by a s m given)
+  pub submitted_at : (x : Start) → a ≡ Ok x
+      → ◌≡◌ {A = (Called Submission)} (record { answer = Ok (record { id = x.id; row = x.row; metadata = m; has_packets = given }); session = s }) (submitted_by a s m given)
   unfolding submitted_by
-  submitted_at id i e = rw e
+  submitted_at x e = rw e
 
 -- 26 to 39
-pub target_is : (p : Place) (m : RequestMetadata) (bytes : List ℕ) (given : Bool) (x : Readings) (s : Session) (l : Lent) (y : Started) (left : Lent) (z : Submitted)
+pub target_is : (p : Place) (m : RequestMetadata) (bytes : List ℕ) (given : Bool) (x : Readings) (s : Session) (l : Lent) (y : Called Start) (left : Lent) (z : Called Submission)
     → after y left ≡ target_of (draft p m bytes) x s l → z ≡ submitted_by y.answer y.session m given → after z left ≡ submit_target (draft p m bytes) given x s l
 unfolding submit_target
 target_is p m bytes given x s l y left z h ez = rw (ez, ← h)
 
 -- the rest
-module _ (packets : List ℕ) (q : Request) (s : Session) (l : Lent) (a : Admitted) (ea : a ≡ admit_of packets q.given q.spec (length q.bytes) s l) where
-  pub submit_no : (r : Refusal) (x : Submitted) → a ≡ Admitted.Refused r → x ≡ submit_refused s r → after x l ≡ submit_of packets q s l
+module _ (packets : List ℕ) (q : Request) (s : Session) (l : Lent) (a : Result Admitted Refusal) (ea : a ≡ admit_of packets q.given q.spec (length q.bytes) s l) where
+  pub submit_no : (r : Refusal) (x : Called Submission) → a ≡ Err r → x ≡ call_refused s r → after x l ≡ submit_of packets q s l
   unfolding submit_of submit_by
   submit_no r x e ex = rw (ex, ← ea, e)
 
-  pub submit_on : (p : Place) (m : RequestMetadata) (o : After Submitted Lent) → a ≡ Admitted.Ready p m
-      → o ≡ submit_target (draft p m q.bytes) q.given q.readings s l → o ≡ submit_of packets q s l
+  pub submit_on : (x : Admitted) (o : After (Called Submission) Lent) → a ≡ Ok x
+      → o ≡ submit_target (draft x.place x.metadata q.bytes) q.given q.readings s l → o ≡ submit_of packets q s l
   unfolding submit_of submit_by
-  submit_on p m o e h = h ∙ rw (← ea, e)
+  submit_on x o e h = h ∙ rw (← ea, e)

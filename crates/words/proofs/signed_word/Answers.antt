@@ -1,13 +1,9 @@
-use Rattle.words.proofs.Signed.{negative, positive, high, low}
-use mathlib.Core.Path.{sym, ◌∙◌, ap}
-use Rattle.words.specs.Words.{signed_word}
-use native.Mathlib.Omega.{arith}
+use mathlib.Core.Path.{ap, ◌∙◌}
+use mir.Syntax.{w32}
+use mir.Val.{of_z}
+use mir.ValLaws.{to_z-of_z}
+use Rattle.words.proofs.Signed.{signed_bits}
 use Rattle.words.proofs.signed_word.Goals as goal
 
-pub returns-then-v-lt0 : goal.returns-then-v-lt0
-unfolding signed_word
-returns-then-v-lt0 c = let k = negative c.args.v c.ranges.v c.if-v-lt0.true in rw k.back (high k.n k.small ∙ sym k.is, omega (arith, k.small), ap signed_word (sym k.is))
-
-pub returns-else-v-lt0 : goal.returns-else-v-lt0
-unfolding signed_word
-returns-else-v-lt0 c = let k = positive c.args.v c.ranges.v c.if-v-lt0.false in rw k.back (low k.n k.small ∙ sym k.is, omega (arith, k.small), ap signed_word (sym k.is))
+pub returns : goal.returns
+returns c = signed_bits _ _ c.ranges.v (c.from.ensures ∙ c.cast_unsigned.ensures ∙ ap (of_z w32) (to_z-of_z w32 c.args.v c.ranges.v))

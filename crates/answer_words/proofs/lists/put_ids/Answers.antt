@@ -4,10 +4,10 @@ use borrow.Author.Rules.{rules}
 use Rattle.answer_words.proofs.lists.put_ids.Goals as goal
 
 pub loop-k-init : goal.loop-k-init
-loop-k-init c = (search rules, search rules, search rules, search ids_start)
+loop-k-init c = (search rules, search ids_start)
 
 pub loop-k-preserved : goal.loop-k-preserved
-loop-k-preserved c = (search rules, search rules, search rules, place_on (read_rows c.args.rows.now) c.args.places.now _ _ _ _ _ c.loop-k.invariant.0 c.loop-k.invariant.3 _ _ c.loop-k-test.true c.id_in-id.ensures c.put_id.ensures (search rules))
+loop-k-preserved c = (search rules, place_on (read_rows c.args.rows.now) c.args.places.now _ _ _ _ _ (search rules) c.loop-k.invariant.1 _ _ c.loop-k-test.true c.id_in-id.ensures c.put_id.ensures (search rules))
 
 pub returns : goal.returns
 returns c = search place_end

@@ -1,4 +1,4 @@
-use Prim.Native.Nat.{◌+◌, ◌-◌, ◌≤◌}
+use Prim.Native.Nat.{◌+◌}
 use mathlib.Core.Path.{◌≡◌}
 use lib.ListN.{length, take}
 use Rattle.words.specs.Records.{splice}
@@ -8,7 +8,4 @@ use Rattle.answer_words.specs.Lists.{id_words}
 use Rattle.answer_words.proofs.lists.put_ids.Given as goal
 
 abbrev pub invariant-loop-k : goal.invariant-loop-k
-invariant-loop-k l = (l.n ≡ length l.places) × (l.k ≤ l.n) × (length l.lists ≡ length l.initial.lists) × (l.lists ≡ splice (l.at + 1) (id_words (take l.k (ids_of (read_rows l.rows) l.places))) l.initial.lists)
-
-abbrev pub decreases-loop-k : goal.decreases-loop-k
-decreases-loop-k l = l.n - l.k
+invariant-loop-k l = (length l.lists ≡ length l.initial.lists) × (l.lists ≡ splice (l.at + 1) (id_words (take l.k (ids_of (read_rows l.rows) l.places))) l.initial.lists)

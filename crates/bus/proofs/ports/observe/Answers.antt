@@ -1,8 +1,9 @@
 use Rattle.bus.proofs.ports.Laws.{observe_full, observe_on}
+use borrow.Author.Rules.{rules}
 use Rattle.bus.proofs.ports.observe.Goals as goal
 
-pub returns-in-Refused : goal.returns-in-Refused
-returns-in-Refused c = search observe_full
+pub returns-in_err-next : goal.returns-in_err-next
+returns-in_err-next c = search (observe_full, rules)
 
-pub returns-in-To : goal.returns-in-To
-returns-in-To c = search observe_on
+pub returns : goal.returns
+returns c = observe_on _ _ _ _ _ c.read_port.ensures c.observe_row.ensures _ _ c.in_ok-next.was c.write_port.ensures

@@ -1,8 +1,11 @@
-use Rattle.bus.proofs.ports.Laws.{reading_failed, reading_word}
+use Rattle.bus.specs.Ports.{fresh_reading}
+use borrow.Author.Rules.{rules}
 use Rattle.bus.proofs.ports.observe_reading.Goals as goal
 
-pub returns-in-Error : goal.returns-in-Error
-returns-in-Error c = search reading_failed
+pub returns-in_err-raw : goal.returns-in_err-raw
+unfolding fresh_reading
+returns-in_err-raw c = search rules
 
-pub returns-in-Word : goal.returns-in-Word
-returns-in-Word c = search reading_word
+pub returns : goal.returns
+unfolding fresh_reading
+returns c = search rules

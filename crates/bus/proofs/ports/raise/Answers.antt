@@ -1,8 +1,9 @@
 use Rattle.bus.proofs.ports.Laws.{raise_full, raise_on}
+use borrow.Author.Rules.{rules}
 use Rattle.bus.proofs.ports.raise.Goals as goal
 
-pub returns-then-row-eq-LAST_GENERATION : goal.returns-then-row-eq-LAST_GENERATION
-returns-then-row-eq-LAST_GENERATION c = search raise_full
+pub returns-in_err-generation : goal.returns-in_err-generation
+returns-in_err-generation c = search (raise_full, rules)
 
 pub returns : goal.returns
-returns c = search raise_on
+returns c = search (raise_on, rules)

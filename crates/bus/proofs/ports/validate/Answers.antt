@@ -1,8 +1,9 @@
-use Rattle.bus.proofs.ports.Laws.{validated_in, validated_out}
+use Rattle.bus.proofs.ports.Laws.{validated_out, validated_in}
+use borrow.Author.Rules.{rules}
 use Rattle.bus.proofs.ports.validate.Goals as goal
 
-pub returns-in-Refused : goal.returns-in-Refused
-returns-in-Refused c = search validated_out
+pub returns-in_err-check_number : goal.returns-in_err-check_number
+returns-in_err-check_number c = search (validated_out, rules)
 
-pub returns-in-Pass : goal.returns-in-Pass
-returns-in-Pass c = search validated_in
+pub returns : goal.returns
+returns c = search (validated_in, rules)

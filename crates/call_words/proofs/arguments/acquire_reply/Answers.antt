@@ -1,5 +1,5 @@
 use Rattle.models.proofs.values.Laws.{tagged, untagged}
-use Rattle.call_words.proofs.arguments.Laws.{flag_read}
+use Rattle.call_words.proofs.arguments.Laws.{failure_read}
 use Rattle.call_words.specs.Arguments.{read_acquire_reply}
 use Rattle.call_words.proofs.arguments.acquire_reply.Goals as goal
 
@@ -9,4 +9,4 @@ returns-then-word_at-eq0 c = search tagged
 
 pub returns : goal.returns
 unfolding read_acquire_reply
-returns c = search (untagged, flag_read)
+returns c = search (untagged, failure_read)

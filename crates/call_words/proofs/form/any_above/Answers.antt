@@ -1,9 +1,11 @@
-use borrow.Author.Rules.{rules}
-use Rattle.call_words.proofs.arguments.Laws.{above_on, above_here}
+use Rattle.std.proofs.Common.{ltb, rules, tests, sym, ◌∙◌}
+use Rattle.std.proofs.lemmas.Iterator.{YieldsList-from_slice}
+use Rattle.std.proofs.lemmas.Iterator.Search.{any_from_yields_List}
+use Rattle.call_words.proofs.form.Laws.{any_in-list}
 use Rattle.call_words.proofs.form.any_above.Goals as goal
 
-pub returns-then-w-i : goal.returns-then-w-i
-returns-then-w-i c = search above_here
-
-pub loop-i-preserved : goal.loop-i-preserved
-loop-i-preserved c = (search rules, search above_on)
+pub returns : goal.returns
+returns c =
+    let l = c.args.w.now in
+    let e = any_from_yields_List (ltb c.args.limit) _ _ c.any.result c.any.ensures.ran (YieldsList-from_slice l cc) (λ x b q k. search (rules, tests)) in
+    e ∙ sym (any_in-list (ltb c.args.limit) l)

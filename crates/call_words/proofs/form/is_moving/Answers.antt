@@ -1,15 +1,17 @@
-use Rattle.chain.proofs.Chain.{chain}
+use Rattle.std.proofs.Common.{arith}
+use Rattle.std.proofs.lemmas.Bool.Decides.{nat_tests}
+use Rattle.chain.specs.Chain.{◌if◌else◌}
 use Rattle.call_words.specs.Form.{is_moving}
 use Rattle.call_words.proofs.form.is_moving.Goals as goal
 
-pub returns-then-number-eq5 : goal.returns-then-number-eq5
-unfolding is_moving
-returns-then-number-eq5 c = search chain depth 20
+pub returns-in-5 : goal.returns-in-5
+unfolding is_moving ◌if◌else◌
+returns-in-5 c = grind (arith, nat_tests)
 
-pub returns-then-number-eq6 : goal.returns-then-number-eq6
-unfolding is_moving
-returns-then-number-eq6 c = search chain depth 20
+pub returns-in-6 : goal.returns-in-6
+unfolding is_moving ◌if◌else◌
+returns-in-6 c = grind (arith, nat_tests)
 
-pub returns : goal.returns
-unfolding is_moving
-returns c = search chain depth 20
+pub returns-in_default : goal.returns-in_default
+unfolding is_moving ◌if◌else◌
+returns-in_default c = grind (arith, nat_tests)

@@ -1,23 +1,25 @@
-use Rattle.chain.proofs.Chain.{chain}
+use Rattle.std.proofs.Common.{arith}
+use Rattle.std.proofs.lemmas.Bool.Decides.{nat_tests}
+use Rattle.chain.specs.Chain.{◌if◌else◌}
 use Rattle.call_words.specs.Form.{is_placing}
 use Rattle.call_words.proofs.form.is_placing.Goals as goal
 
-pub returns-then-number-eq0 : goal.returns-then-number-eq0
-unfolding is_placing
-returns-then-number-eq0 c = search chain depth 20
+pub returns-in-0 : goal.returns-in-0
+unfolding is_placing ◌if◌else◌
+returns-in-0 c = grind (arith, nat_tests)
 
-pub returns-then-number-eq1 : goal.returns-then-number-eq1
-unfolding is_placing
-returns-then-number-eq1 c = search chain depth 20
+pub returns-in-1 : goal.returns-in-1
+unfolding is_placing ◌if◌else◌
+returns-in-1 c = grind (arith, nat_tests)
 
-pub returns-then-number-eq2 : goal.returns-then-number-eq2
-unfolding is_placing
-returns-then-number-eq2 c = search chain depth 20
+pub returns-in-2 : goal.returns-in-2
+unfolding is_placing ◌if◌else◌
+returns-in-2 c = grind (arith, nat_tests)
 
-pub returns-then-number-eq3 : goal.returns-then-number-eq3
-unfolding is_placing
-returns-then-number-eq3 c = search chain depth 20
+pub returns-in-3 : goal.returns-in-3
+unfolding is_placing ◌if◌else◌
+returns-in-3 c = grind (arith, nat_tests)
 
-pub returns : goal.returns
-unfolding is_placing
-returns c = search chain depth 20
+pub returns-in_default : goal.returns-in_default
+unfolding is_placing ◌if◌else◌
+returns-in_default c = grind (arith, nat_tests)

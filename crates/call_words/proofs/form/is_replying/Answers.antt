@@ -1,15 +1,17 @@
-use Rattle.chain.proofs.Chain.{chain}
+use Rattle.std.proofs.Common.{arith}
+use Rattle.std.proofs.lemmas.Bool.Decides.{nat_tests}
+use Rattle.chain.specs.Chain.{◌if◌else◌}
 use Rattle.call_words.specs.Form.{is_replying}
 use Rattle.call_words.proofs.form.is_replying.Goals as goal
 
-pub returns-then-number-eq10 : goal.returns-then-number-eq10
-unfolding is_replying
-returns-then-number-eq10 c = search chain depth 20
+pub returns-in-10 : goal.returns-in-10
+unfolding is_replying ◌if◌else◌
+returns-in-10 c = grind (arith, nat_tests)
 
-pub returns-then-number-eq11 : goal.returns-then-number-eq11
-unfolding is_replying
-returns-then-number-eq11 c = search chain depth 20
+pub returns-in-11 : goal.returns-in-11
+unfolding is_replying ◌if◌else◌
+returns-in-11 c = grind (arith, nat_tests)
 
-pub returns : goal.returns
-unfolding is_replying
-returns c = search chain depth 20
+pub returns-in_default : goal.returns-in_default
+unfolding is_replying ◌if◌else◌
+returns-in_default c = grind (arith, nat_tests)

@@ -1,23 +1,25 @@
-use Rattle.chain.proofs.Chain.{chain}
+use Rattle.std.proofs.Common.{arith}
+use Rattle.std.proofs.lemmas.Bool.Decides.{nat_tests}
+use Rattle.chain.specs.Chain.{◌if◌else◌}
 use Rattle.call_words.specs.Form.{is_reporting}
 use Rattle.call_words.proofs.form.is_reporting.Goals as goal
 
-pub returns-then-number-eq16 : goal.returns-then-number-eq16
-unfolding is_reporting
-returns-then-number-eq16 c = search chain depth 20
+pub returns-in-16 : goal.returns-in-16
+unfolding is_reporting ◌if◌else◌
+returns-in-16 c = grind (arith, nat_tests)
 
-pub returns-then-number-eq17 : goal.returns-then-number-eq17
-unfolding is_reporting
-returns-then-number-eq17 c = search chain depth 20
+pub returns-in-17 : goal.returns-in-17
+unfolding is_reporting ◌if◌else◌
+returns-in-17 c = grind (arith, nat_tests)
 
-pub returns-then-number-eq18 : goal.returns-then-number-eq18
-unfolding is_reporting
-returns-then-number-eq18 c = search chain depth 20
+pub returns-in-18 : goal.returns-in-18
+unfolding is_reporting ◌if◌else◌
+returns-in-18 c = grind (arith, nat_tests)
 
-pub returns-then-number-eq19 : goal.returns-then-number-eq19
-unfolding is_reporting
-returns-then-number-eq19 c = search chain depth 20
+pub returns-in-19 : goal.returns-in-19
+unfolding is_reporting ◌if◌else◌
+returns-in-19 c = grind (arith, nat_tests)
 
-pub returns : goal.returns
-unfolding is_reporting
-returns c = search chain depth 20
+pub returns-in_default : goal.returns-in_default
+unfolding is_reporting ◌if◌else◌
+returns-in_default c = grind (arith, nat_tests)

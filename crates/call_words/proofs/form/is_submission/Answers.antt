@@ -1,11 +1,13 @@
-use Rattle.chain.proofs.Chain.{chain}
+use Rattle.std.proofs.Common.{arith}
+use Rattle.std.proofs.lemmas.Bool.Decides.{nat_tests}
+use Rattle.chain.specs.Chain.{◌if◌else◌}
 use Rattle.call_words.specs.Form.{is_submission}
 use Rattle.call_words.proofs.form.is_submission.Goals as goal
 
-pub returns-then-number-eq8 : goal.returns-then-number-eq8
-unfolding is_submission
-returns-then-number-eq8 c = search chain depth 20
+pub returns-in-8 : goal.returns-in-8
+unfolding is_submission ◌if◌else◌
+returns-in-8 c = grind (arith, nat_tests)
 
-pub returns : goal.returns
-unfolding is_submission
-returns c = search chain depth 20
+pub returns-in_default : goal.returns-in_default
+unfolding is_submission ◌if◌else◌
+returns-in_default c = grind (arith, nat_tests)

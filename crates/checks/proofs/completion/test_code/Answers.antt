@@ -1,17 +1,24 @@
-use Rattle.checks.proofs.completion.Laws.{stop_early, stop_data, stop_none, stop_code, go_valid}
+use Rattle.std.proofs.Common.{rules, tests}
+use Rattle.chain.specs.Chain.{◌if◌else◌}
+use Rattle.checks.specs.Completion.{test_code, code_tested}
 use Rattle.checks.proofs.completion.test_code.Goals as goal
 
-pub returns-then-completion-failed : goal.returns-then-completion-failed
-returns-then-completion-failed c = search (stop_early, stop_data, stop_none, stop_code, go_valid)
+pub returns-then-completion-is_some : goal.returns-then-completion-is_some
+unfolding test_code ◌if◌else◌
+returns-then-completion-is_some c = search (rules, tests)
 
 pub returns-then-completion-data_length : goal.returns-then-completion-data_length
-returns-then-completion-data_length c = search (stop_early, stop_data, stop_none, stop_code, go_valid)
+unfolding test_code ◌if◌else◌
+returns-then-completion-data_length c = search (rules, tests)
 
-pub returns-in_default : goal.returns-in_default
-returns-in_default c = search (stop_early, stop_data, stop_none, stop_code, go_valid)
+pub returns-in_err-code : goal.returns-in_err-code
+unfolding test_code code_tested ◌if◌else◌
+returns-in_err-code c = search (rules, tests)
 
 pub returns-then-not-is_finished : goal.returns-then-not-is_finished
-returns-then-not-is_finished c = search (stop_early, stop_data, stop_none, stop_code, go_valid)
+unfolding test_code code_tested ◌if◌else◌
+returns-then-not-is_finished c = search (rules, tests)
 
 pub returns : goal.returns
-returns c = search (stop_early, stop_data, stop_none, stop_code, go_valid)
+unfolding test_code code_tested ◌if◌else◌
+returns c = search (rules, tests)

@@ -1,15 +1,18 @@
+use Rattle.std.proofs.Common.{rules}
+use Rattle.checks.specs.Completion.{test_completion, test_length}
 use Rattle.checks.proofs.Said.{test_said_lem}
-use Rattle.checks.proofs.completion.Laws.{stop_missing, go_length}
 use Rattle.checks.proofs.completion.test_completion.Goals as goal
 
-pub returns-in_default-clause-step : goal.returns-in_default-clause-step
-returns-in_default-clause-step c = search (stop_missing, go_length)
+pub returns-in_err-actual-clause-step : goal.returns-in_err-actual-clause-step
+unfolding test_completion test_length
+returns-in_err-actual-clause-step c = search rules
 
-pub returns-in_default-clause-table : goal.returns-in_default-clause-table
-returns-in_default-clause-table c = (test_said_lem _ _ _ _ (returns-in_default-clause-step c)).1
+pub returns-in_err-actual-clause-table : goal.returns-in_err-actual-clause-table
+returns-in_err-actual-clause-table c = (test_said_lem _ _ _ _ (returns-in_err-actual-clause-step c)).1
 
 pub returns-clause-step : goal.returns-clause-step
-returns-clause-step c = search (stop_missing, go_length)
+unfolding test_completion test_length
+returns-clause-step c = search rules
 
 pub returns-clause-table : goal.returns-clause-table
 returns-clause-table c = (test_said_lem _ _ _ _ (returns-clause-step c)).1

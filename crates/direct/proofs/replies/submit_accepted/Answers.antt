@@ -17,7 +17,7 @@ unfolding store_of
 returns-in_default c = search submit_none
 
 pub end_flight-requires : goal.end_flight-requires
-end_flight-requires c = (search rules, accept_inside _ _ _ _ _ _ c.accept-placed.ensures.step c.in-At.is)
+end_flight-requires c = (search rules, accept_inside _ _ _ _ _ _ c.accept-placed.ensures.step c.in-Ok.is)
 
 pub returns : goal.returns
 unfolding store_of

@@ -5,7 +5,7 @@ pub returns-then-number-eq8 : goal.returns-then-number-eq8
 returns-then-number-eq8 c = search (
   submit_step,
   c.if-number-eq8.true,
-  c.spec-q.ensures,
+  c.new_request-q.ensures,
 )
 
 pub returns : goal.returns

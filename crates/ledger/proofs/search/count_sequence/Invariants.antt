@@ -1,10 +1,6 @@
-use Prim.Native.Nat.{◌-◌}
 use Rattle.rows.specs.Table.{read_rows}
 use Rattle.ledger.proofs.search.Laws.{CountedBefore}
 use Rattle.ledger.proofs.search.count_sequence.Given as goal
 
 abbrev pub invariant-loop-i : goal.invariant-loop-i
-invariant-loop-i l = CountedBefore l.sequence (read_rows l.rows) l.to l.i l.total
-
-abbrev pub decreases-loop-i : goal.decreases-loop-i
-decreases-loop-i l = l.to - l.i
+invariant-loop-i l = CountedBefore l.sequence (read_rows l.rows) l.i l.total

@@ -14,16 +14,16 @@ returns-in_default-clause-table c = (poll_said_lem _ _ _ _ (returns-in_default-c
 pub read_row-row-requires : goal.read_row-row-requires
 read_row-row-requires c = search found_in_lem
 
-pub returns-in-Refused-clause-step : goal.returns-in-Refused-clause-step
+pub returns-in-Err-clause-step : goal.returns-in-Err-clause-step
 unfolding store_of
-returns-in-Refused-clause-step c = search poll_stop
+returns-in-Err-clause-step c = search poll_stop
 
-pub returns-in-Refused-clause-table : goal.returns-in-Refused-clause-table
-returns-in-Refused-clause-table c = (poll_said_lem _ _ _ _ (returns-in-Refused-clause-step c)).1
+pub returns-in-Err-clause-table : goal.returns-in-Err-clause-table
+returns-in-Err-clause-table c = (poll_said_lem _ _ _ _ (returns-in-Err-clause-step c)).1
 
-pub returns-in-At-clause-step : goal.returns-in-At-clause-step
+pub returns-in-Some-clause-step : goal.returns-in-Some-clause-step
 unfolding store_of
-returns-in-At-clause-step c = search poll_at
+returns-in-Some-clause-step c = search poll_at
 
-pub returns-in-At-clause-table : goal.returns-in-At-clause-table
-returns-in-At-clause-table c = (poll_said_lem _ _ _ _ (returns-in-At-clause-step c)).1
+pub returns-in-Some-clause-table : goal.returns-in-Some-clause-table
+returns-in-Some-clause-table c = (poll_said_lem _ _ _ _ (returns-in-Some-clause-step c)).1

@@ -1,23 +1,25 @@
-use Rattle.chain.proofs.Chain.{chain}
+use Rattle.std.proofs.Common.{arith}
+use Rattle.std.proofs.lemmas.Bool.Decides.{nat_tests}
+use Rattle.chain.specs.Chain.{◌if◌else◌}
 use Rattle.question_words.specs.Form.{is_question}
 use Rattle.question_words.proofs.form.is_question.Goals as goal
 
-pub returns-then-number-eq25 : goal.returns-then-number-eq25
-unfolding is_question
-returns-then-number-eq25 c = search chain depth 20
+pub returns-in-25 : goal.returns-in-25
+unfolding is_question ◌if◌else◌
+returns-in-25 c = grind (arith, nat_tests)
 
-pub returns-then-number-eq26 : goal.returns-then-number-eq26
-unfolding is_question
-returns-then-number-eq26 c = search chain depth 20
+pub returns-in-26 : goal.returns-in-26
+unfolding is_question ◌if◌else◌
+returns-in-26 c = grind (arith, nat_tests)
 
-pub returns-then-number-eq27 : goal.returns-then-number-eq27
-unfolding is_question
-returns-then-number-eq27 c = search chain depth 20
+pub returns-in-27 : goal.returns-in-27
+unfolding is_question ◌if◌else◌
+returns-in-27 c = grind (arith, nat_tests)
 
-pub returns-then-number-eq28 : goal.returns-then-number-eq28
-unfolding is_question
-returns-then-number-eq28 c = search chain depth 20
+pub returns-in-28 : goal.returns-in-28
+unfolding is_question ◌if◌else◌
+returns-in-28 c = grind (arith, nat_tests)
 
-pub returns : goal.returns
-unfolding is_question
-returns c = search chain depth 20
+pub returns-in_default : goal.returns-in_default
+unfolding is_question ◌if◌else◌
+returns-in_default c = grind (arith, nat_tests)

@@ -1,8 +1,9 @@
+use Rattle.std.proofs.Common.{rules}
 use Rattle.recovery.proofs.entries.Laws.{abort_no, abort_to}
 use Rattle.recovery.proofs.entries.abort_one.Goals as goal
 
-pub returns-in-Refused : goal.returns-in-Refused
-returns-in-Refused c = search abort_no
+pub returns-in_err-change_at : goal.returns-in_err-change_at
+returns-in_err-change_at c = abort_no _ _ _ _ c.change_at.ensures.step _ _ c.in_err-change_at.was (search rules)
 
-pub returns-in-Done : goal.returns-in-Done
-returns-in-Done c = search abort_to
+pub returns : goal.returns
+returns c = abort_to _ _ _ _ c.change_at.ensures.step _ c.in_ok-change_at.was

@@ -1,8 +1,8 @@
 use Rattle.reports.proofs.change.Laws.{reported_no, reported_done}
 use Rattle.reports.proofs.change.reported.Goals as goal
 
-pub returns-in-Refused : goal.returns-in-Refused
-returns-in-Refused c = search reported_no
+pub returns-in-Err : goal.returns-in-Err
+returns-in-Err c = search reported_no
 
-pub returns-in-Done : goal.returns-in-Done
-returns-in-Done c = search reported_done
+pub returns-in-Ok : goal.returns-in-Ok
+returns-in-Ok c = search reported_done

@@ -1,18 +1,15 @@
-use Rattle.reports.proofs.scan.Laws.{scanned_in, from_unfit, from_none, from_at}
+use Rattle.std.proofs.Common.{rules}
 use Rattle.rows.specs.Store.{store_of}
+use Rattle.reports.proofs.scan.Laws.{scanned_in, from_unfit, from_on}
 use Rattle.reports.proofs.scan.report_from.Goals as goal
 
-pub returns-then-not-rows_fit : goal.returns-then-not-rows_fit
+pub returns-in_err-rows_sized : goal.returns-in_err-rows_sized
 unfolding store_of
-returns-then-not-rows_fit c = search from_unfit
+returns-in_err-rows_sized c = search (rules, from_unfit)
 
-pub returns-in_default : goal.returns-in_default
-unfolding store_of
-returns-in_default c = search from_none
-
-pub read_row-row-requires : goal.read_row-row-requires
-read_row-row-requires c = search scanned_in
+pub map-requires : goal.map-requires
+map-requires c = search (rules, scanned_in)
 
 pub returns : goal.returns
 unfolding store_of
-returns c = search from_at
+returns c = from_on _ _ _ _ c.rows_sized.ensures c.in_ok-rows_sized.was _ c.first_shown-shown.ensures _ _ c.map.ensures.cases (λ i r e q. search rules)

@@ -1,18 +1,19 @@
-use Rattle.reports.proofs.status.Laws.{shown_unfit, shown_on}
+use Rattle.std.proofs.Common.{rules}
 use Rattle.rows.specs.Store.{store_of}
 use Rattle.reports.proofs.Said.{shown_said}
+use Rattle.reports.proofs.status.Laws.{shown_unfit, shown_on}
 use Rattle.reports.proofs.status.count_reports.Goals as goal
 
-pub returns-then-not-rows_fit-clause-step : goal.returns-then-not-rows_fit-clause-step
+pub returns-in_err-rows_sized-clause-step : goal.returns-in_err-rows_sized-clause-step
 unfolding store_of
-returns-then-not-rows_fit-clause-step c = search shown_unfit
+returns-in_err-rows_sized-clause-step c = search (rules, shown_unfit)
 
-pub returns-then-not-rows_fit-clause-table : goal.returns-then-not-rows_fit-clause-table
-returns-then-not-rows_fit-clause-table c = (shown_said _ _ _ (returns-then-not-rows_fit-clause-step c)).1
+pub returns-in_err-rows_sized-clause-table : goal.returns-in_err-rows_sized-clause-table
+returns-in_err-rows_sized-clause-table c = (shown_said _ _ _ (returns-in_err-rows_sized-clause-step c)).1
 
 pub returns-clause-step : goal.returns-clause-step
 unfolding store_of
-returns-clause-step c = search shown_on
+returns-clause-step c = search (rules, shown_on)
 
 pub returns-clause-table : goal.returns-clause-table
 returns-clause-table c = (shown_said _ _ _ (returns-clause-step c)).1

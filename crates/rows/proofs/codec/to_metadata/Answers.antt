@@ -3,4 +3,4 @@ use Rattle.rows.proofs.codec.to_metadata.Goals as goal
 
 pub returns : goal.returns
 unfolding read_metadata
-returns c = simp (c.to_setup-setup.ensures, c.to_transfer.ensures, c.to_direction.ensures)
+returns c = simp (c.to_setup-setup.ensures, c.from.ensures, c.from-2.ensures)

@@ -2,4 +2,4 @@ use Rattle.rows.proofs.in_place.Laws.{cancel_put}
 use Rattle.rows.proofs.in_place.cancel_row.Goals as goal
 
 pub returns : goal.returns
-returns c = cancel_put _ _ _ (c.requires.0) (c.requires.1) c.record_at-at.ensures.0 _ _ c.copy_words.ensures c.cancelled_record-w.ensures
+returns c = cancel_put _ _ _ (c.requires.0) (c.requires.1) c.record_at-at.ensures.0 _ _ c.copy.ensures c.cancelled_record-w.ensures

@@ -1,10 +1,6 @@
-use Prim.Native.Nat.{◌-◌}
 use Rattle.scope.specs.Scope.{Rises}
 use Rattle.scope.proofs.tokens.Laws.{Marking}
 use Rattle.scope.proofs.tokens.each_once.Given as goal
 
 abbrev pub invariant-loop-k : goal.invariant-loop-k
 invariant-loop-k l = Rises l.rising l.own × Marking l.own l.tokens l.aborted l.n l.marks l.k
-
-abbrev pub decreases-loop-k : goal.decreases-loop-k
-decreases-loop-k l = l.n - l.k

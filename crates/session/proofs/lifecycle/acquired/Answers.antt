@@ -1,11 +1,11 @@
 use Rattle.session.proofs.Outcomes.{acquired_pass, acquired_kept, acquired_left}
 use Rattle.session.proofs.lifecycle.acquired.Goals as goal
 
-pub returns-then-retained : goal.returns-then-retained
-returns-then-retained c = search acquired_kept
+pub returns-then-failure : goal.returns-then-failure
+returns-then-failure c = search acquired_kept
 
-pub returns-in-Acquired : goal.returns-in-Acquired
-returns-in-Acquired c = search acquired_pass
+pub returns-in-Ok : goal.returns-in-Ok
+returns-in-Ok c = search acquired_pass
 
-pub returns-else-retained : goal.returns-else-retained
-returns-else-retained c = search acquired_left
+pub returns-else-failure : goal.returns-else-failure
+returns-else-failure c = search acquired_left

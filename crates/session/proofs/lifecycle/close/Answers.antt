@@ -17,12 +17,12 @@ returns-in_default-clause-step c = search close_none
 pub returns-in_default-clause-table : goal.returns-in_default-clause-table
 returns-in_default-clause-table c = (close_said _ _ _ _ _ _ (returns-in_default-clause-step c)).1
 
-pub returns-in-Refused-clause-step : goal.returns-in-Refused-clause-step
+pub returns-in-Err-clause-step : goal.returns-in-Err-clause-step
 unfolding store_of
-returns-in-Refused-clause-step c = search close_stop
+returns-in-Err-clause-step c = search close_stop
 
-pub returns-in-Refused-clause-table : goal.returns-in-Refused-clause-table
-returns-in-Refused-clause-table c = (close_said _ _ _ _ _ _ (returns-in-Refused-clause-step c)).1
+pub returns-in-Err-clause-table : goal.returns-in-Err-clause-table
+returns-in-Err-clause-table c = (close_said _ _ _ _ _ _ (returns-in-Err-clause-step c)).1
 
 pub returns-in-Some-clause-step : goal.returns-in-Some-clause-step
 unfolding store_of

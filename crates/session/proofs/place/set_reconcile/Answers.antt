@@ -1,3 +1,4 @@
+use Rattle.std.proofs.Common.{rules}
 use Rattle.session.proofs.Outcomes.{place_stop, place_on, pass_to}
 use Rattle.session.proofs.start.Laws.{bus_fits_lem}
 use Rattle.session.specs.Place.{set_reconcile_of}
@@ -6,19 +7,19 @@ use Rattle.session.proofs.Said.{placed_said_lem, set_reconcile_tabled}
 use Rattle.session.specs.Said.{place_numbers}
 use Rattle.session.proofs.place.set_reconcile.Goals as goal
 
-pub returns-in_default-clause-step : goal.returns-in_default-clause-step
+pub returns-in_err-bus_ready-clause-step : goal.returns-in_err-bus_ready-clause-step
 unfolding set_reconcile_of bus_of
-returns-in_default-clause-step c = search place_stop
+returns-in_err-bus_ready-clause-step c = search (rules, place_stop)
 
-pub returns-in_default-clause-table : goal.returns-in_default-clause-table
-returns-in_default-clause-table c = (placed_said_lem place_numbers _ _ _ (returns-in_default-clause-step c) (set_reconcile_tabled _ _ _ _)).1
+pub returns-in_err-bus_ready-clause-table : goal.returns-in_err-bus_ready-clause-table
+returns-in_err-bus_ready-clause-table c = (placed_said_lem place_numbers _ _ _ (returns-in_err-bus_ready-clause-step c) (set_reconcile_tabled _ _ _ _)).1
 
 pub set_reconcile-requires : goal.set_reconcile-requires
-set_reconcile-requires c = search bus_fits_lem
+set_reconcile-requires c = search (rules, bus_fits_lem)
 
 pub returns-clause-step : goal.returns-clause-step
 unfolding set_reconcile_of bus_of
-returns-clause-step c = search (place_on, pass_to)
+returns-clause-step c = search (rules, place_on, pass_to)
 
 pub returns-clause-table : goal.returns-clause-table
 returns-clause-table c = (placed_said_lem place_numbers _ _ _ (returns-clause-step c) (set_reconcile_tabled _ _ _ _)).1

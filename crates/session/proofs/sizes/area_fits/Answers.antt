@@ -1,11 +1,11 @@
-use Rattle.session.proofs.sizes.Laws.{unfit, fit_last}
+use Rattle.std.proofs.Common.{rules, tests}
 use Rattle.session.specs.Sizes.{area_fits}
 use Rattle.session.proofs.sizes.area_fits.Goals as goal
 
-pub returns-then-not-is_sized : goal.returns-then-not-is_sized
+pub returns-then-is_sized : goal.returns-then-is_sized
 unfolding area_fits
-returns-then-not-is_sized c = search unfit
+returns-then-is_sized c = search (rules, tests)
 
-pub returns : goal.returns
+pub returns-else-is_sized : goal.returns-else-is_sized
 unfolding area_fits
-returns c = search fit_last
+returns-else-is_sized c = search (rules, tests)

@@ -1,11 +1,11 @@
-use Rattle.session.proofs.start.Laws.{ready_busy, ready_unfit, ready_pass}
+use Rattle.chain.proofs.Chain.{chain}
+use Rattle.session.specs.Start.{guarded, sized_of, ready_of}
 use Rattle.session.proofs.start.ready.Goals as goal
 
-pub returns-then-busy : goal.returns-then-busy
-returns-then-busy c = search ready_busy
-
-pub returns-then-not-fits : goal.returns-then-not-fits
-returns-then-not-fits c = search ready_unfit
+pub returns-then-is_busy : goal.returns-then-is_busy
+unfolding ready_of guarded
+returns-then-is_busy c = search chain depth 20
 
 pub returns : goal.returns
-returns c = search ready_pass
+unfolding ready_of guarded sized_of
+returns c = search chain depth 20

@@ -1,8 +1,8 @@
 use Rattle.submissions.proofs.plan.Laws.{started_no, started_at}
 use Rattle.submissions.proofs.plan.plan_started.Goals as goal
 
-pub returns-in-Refused : goal.returns-in-Refused
-returns-in-Refused c = search started_no
+pub returns-in-Err : goal.returns-in-Err
+returns-in-Err c = search started_no
 
-pub returns-in-At : goal.returns-in-At
-returns-in-At c = search started_at
+pub returns-in-Ok : goal.returns-in-Ok
+returns-in-Ok c = search started_at

@@ -1,8 +1,8 @@
 use Rattle.submissions.proofs.submit_reply.Laws.{reply_token, reply_error}
 use Rattle.submissions.proofs.submit_reply.reply_to.Goals as goal
 
-pub returns-in-Token : goal.returns-in-Token
-returns-in-Token c = search reply_token
+pub returns-in-Ok : goal.returns-in-Ok
+returns-in-Ok c = search reply_token
 
-pub returns-in-Error : goal.returns-in-Error
-returns-in-Error c = search reply_error
+pub returns-in-Err : goal.returns-in-Err
+returns-in-Err c = search reply_error

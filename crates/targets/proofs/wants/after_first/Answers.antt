@@ -1,8 +1,9 @@
+use Rattle.std.proofs.Common.{rules}
 use Rattle.targets.proofs.wants.Laws.{after_stop, after_on}
 use Rattle.targets.proofs.wants.after_first.Goals as goal
 
-pub returns-in-Refused : goal.returns-in-Refused
-returns-in-Refused c = search after_stop
+pub returns-in_err-device : goal.returns-in_err-device
+returns-in_err-device c = search (rules, after_stop)
 
-pub returns-in-Ready : goal.returns-in-Ready
-returns-in-Ready c = search after_on
+pub returns : goal.returns
+returns c = search (rules, after_on)

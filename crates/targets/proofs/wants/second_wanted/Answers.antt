@@ -2,17 +2,17 @@ use Rattle.chain.proofs.Chain.{chain}
 use Rattle.targets.specs.Wants.{second_wanted}
 use Rattle.targets.proofs.wants.second_wanted.Goals as goal
 
-pub returns-then-control : goal.returns-then-control
+pub returns-then-is_control : goal.returns-then-is_control
 unfolding second_wanted
-returns-then-control c = search chain depth 20
+returns-then-is_control c = search chain depth 20
 
-pub returns-then-not-configured : goal.returns-then-not-configured
+pub returns-then-not-is_configured : goal.returns-then-not-is_configured
 unfolding second_wanted
-returns-then-not-configured c = search chain depth 20
+returns-then-not-is_configured c = search chain depth 20
 
-pub returns-then-not-missing : goal.returns-then-not-missing
+pub returns-then-not-is_missing : goal.returns-then-not-is_missing
 unfolding second_wanted
-returns-then-not-missing c = search chain depth 20
+returns-then-not-is_missing c = search chain depth 20
 
 pub returns : goal.returns
 unfolding second_wanted

@@ -1,5 +1,0 @@
-use Rattle.words.proofs.Parts.{copied}
-use Rattle.words.proofs.slices.copy_words.Goals as goal
-
-pub returns : goal.returns
-returns c = search copied
