@@ -6,11 +6,12 @@ ghost use Rattle.words.specs.Words.{read_flag};
 ghost use Rattle.models.specs.Values.{read_request_id};
 ghost use Rattle.session.specs.Lent.{lent_of};
 ghost use Rattle.submissions.specs.Submit.{request_in};
+ghost use Rattle.recovery.specs.RecoveryReply.{lists_in};
 ghost use Rattle.session_words.specs.State.{is_session};
 ghost use Rattle.calls.specs.Answers.{outcome};
 ghost use Rattle.calls.specs.Calls.{Change, Withdraw, plan_request};
 ghost use Rattle.calls.specs.Step.{step_of, world};
-ghost use Rattle.call_words.specs.Arguments.{read_request, read_plan_request};
+ghost use Rattle.call_words.specs.Arguments.{read_request, read_plan_request, read_lists};
 ghost use Rattle.call_words.specs.Decode.{read_submission, read_changing, read_reporting, read_recovering};
 ghost use Rattle.dispatch.specs.Slices.{StepsRows, ReadsMemory, RunsMemory, WritesRows, WritesAnswer};
 
@@ -18,7 +19,7 @@ use answer_words::{encode, lists};
 use call_words::arguments;
 use calls::{Answer, Outcome, answers};
 use models::values::id_at;
-use recovery::{recover, recovery_reply};
+use recovery::{BackendLists, recover, recovery_reply};
 use reports::{change, status};
 use session::Session;
 use session_words::state;
@@ -170,6 +171,18 @@ pub(crate) fn recover_call(
     }
 }
 
+// What the words of call 24 bring beside the backend's answer.
+fn backend_lists<'a>(call: &'a [u64], bytes: &'a [u8]) -> BackendLists<'a>
+    ensures { lists_in result ≡ read_lists call.now bytes.now }
+{
+    BackendLists {
+        tokens: arguments::completed(call),
+        completions: arguments::completions(call),
+        aborted: arguments::aborted(call),
+        bytes,
+    }
+}
+
 fn recovered(
     session: Session,
     rows: &mut [u64],
@@ -181,19 +194,8 @@ fn recovered(
     ensures { RunsMemory result (read_recovering 24 call.now bytes.now) session rows.old rows.new area.old area.new lists.old lists.new }
 {
     let answer = arguments::backend_abort(call);
-    let tokens = arguments::completed(call);
-    let completions = arguments::completions(call);
-    let aborted = arguments::aborted(call);
-    let replied = recovery_reply::reply_by_places(
-        session,
-        rows,
-        area,
-        answer,
-        tokens,
-        completions,
-        aborted,
-        bytes,
-    );
+    let returned = backend_lists(call, bytes);
+    let replied = recovery_reply::reply_by_places(session, rows, area, answer, returned);
     lists::write_replied(lists, rows, replied);
     answers::of_replied(replied)
 }

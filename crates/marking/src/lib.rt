@@ -15,7 +15,7 @@ use calls::{Answer, Outcome, answers};
 use models::{Cause, RequestId, RequestReport};
 use paper::{PaperEvent, form};
 use polls::{PollAnswer, poll, poll_reply};
-use recovery::{Replied, recover, recovery_reply};
+use recovery::{BackendLists, Replied, recover, recovery_reply};
 use reports::change;
 use session::{Called, Session};
 use submissions::{NewRequest, Submission, submit, submit_reply};
@@ -174,7 +174,13 @@ fn reply_to_abort(
     let none: [u64; 0] = [];
     let n = (count as usize).min(128);
     let reply = said::ready_reply();
-    recovery_reply::reply_by_places(session, rows, area, reply, &none, &none, &tokens[..n], b"")
+    let lists = BackendLists {
+        tokens: &none,
+        completions: &none,
+        aborted: &tokens[..n],
+        bytes: b"",
+    };
+    recovery_reply::reply_by_places(session, rows, area, reply, lists)
 }
 
 fn abort_event(session: Session, rows: &mut [u64], area: &mut [u8], e: PaperEvent) -> Marked

@@ -3,7 +3,7 @@
 #![tactic(auto)]
 
 use crate::fixtures::{bulk, device, id_of, opening};
-use recovery::{BackendAbort, Recovered, recover, recovery_reply};
+use recovery::{BackendAbort, BackendLists, Recovered, recover, recovery_reply};
 use reports::status;
 use session::lifecycle::AcquireFailure;
 use session::{Session, lifecycle, place};
@@ -67,8 +67,14 @@ fn abort(s: Session, rows: &mut [u64], area: &mut [u8], restart_ready: bool) -> 
         restart_ready,
         error: None,
     });
+    let lists = BackendLists {
+        tokens: &none,
+        completions: &none,
+        aborted: &seven,
+        bytes: b"",
+    };
     let begun = recover::abort_request(s, rows, id_of(0));
-    recovery_reply::recovery_reply(begun.session, rows, area, reply, &none, &none, &seven, b"")
+    recovery_reply::recovery_reply(begun.session, rows, area, reply, lists)
 }
 
 // The store and the session after the recovery.

@@ -17,7 +17,7 @@ use Rattle.scope.specs.Affected.{affected_of, tokens_of}
 use Rattle.scope.specs.Scope.{meant, in_scope}
 use Rattle.scope.specs.Returned.{read_returned, lists_agree}
 use Rattle.recovery.specs.Entries.{onward_by, complete_all, aborts_in}
-use Rattle.recovery.specs.declared.{AbortReport.AbortReport, BackendAbort.BackendAbort, Replied.Replied, recovery_reply.Ended.Ended}
+use Rattle.recovery.specs.declared.{AbortReport.AbortReport, BackendAbort.BackendAbort, BackendLists.BackendLists, Replied.Replied, recovery_reply.Ended.Ended}
 
 -- what comes with a reply: the tokens that the backend completed, the words of their completions, those that it aborted, and the data
 pub record ReplyLists : Type 0 where
@@ -28,6 +28,10 @@ pub record ReplyLists : Type 0 where
 
 abbrev pub reply_lists : List ℕ → List ℕ → List ℕ → List ℕ → ReplyLists
 reply_lists tokens completions aborted bytes = record { tokens = tokens; completions = completions; aborted = aborted; bytes = bytes }
+
+-- what the code's record says
+abbrev pub lists_in : BackendLists → ReplyLists
+lists_in x = reply_lists x.tokens.now x.completions.now x.aborted.now x.bytes.now
 
 -- completions in order, then aborts; `place` says which row a token means
 unfoldable pub apply_all : Size → (ℕ → ℕ) → ReplyLists → Memory → After (Result ⊤ Refusal) Memory

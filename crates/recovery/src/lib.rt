@@ -25,6 +25,15 @@ pub struct BackendAbort {
     pub error: Option<OperationError>,
 }
 
+// What comes with a reply: the tokens that the backend completed, the words of their completions, those that it aborted, and the data.
+#[derive(Clone, Copy)]
+pub struct BackendLists<'a> {
+    pub tokens: &'a [u64],
+    pub completions: &'a [u64],
+    pub aborted: &'a [u64],
+    pub bytes: &'a [u8],
+}
+
 // How many requests were completed and aborted; their ids stand beside the answer.
 #[derive(Clone, Copy)]
 pub struct AbortReport {

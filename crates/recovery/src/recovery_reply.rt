@@ -11,11 +11,11 @@ ghost use Rattle.session.specs.Lent.{memory_of};
 ghost use Rattle.recovery.specs.Entries.{itself};
 ghost use Rattle.recovery.specs.Places.{Below, Fit, Places, Agree};
 ghost use Rattle.recovery.specs.Reports.{ids_of, id_lists, many_in, filled, with_ids};
-ghost use Rattle.recovery.specs.RecoveryReply.{reply_lists, apply_all, is_whole, matching, restored_by, reset_by, session_after, refused_after, abort_report, recovery_refused, concluded_by, settled_of, done_of, reply_by, reply_sized, recovery_reply_of};
+ghost use Rattle.recovery.specs.RecoveryReply.{reply_lists, lists_in, apply_all, is_whole, matching, restored_by, reset_by, session_after, refused_after, abort_report, recovery_refused, concluded_by, settled_of, done_of, reply_by, reply_sized, recovery_reply_of};
 ghost use Rattle.recovery.specs.Said.{recovery_said, recovery_reply_numbers};
 ghost use Rattle.rows.specs.Table.{read_rows};
 
-use crate::{AbortReport, BackendAbort, Ids, Recovered, Replied, entries};
+use crate::{AbortReport, BackendAbort, BackendLists, Ids, Recovered, Replied, entries};
 use ledger::search;
 use models::{Cause, ControllerState, OperationError, Refusal, RequestId};
 use rows::columns;
@@ -193,25 +193,29 @@ fn settle(
     area: &mut [u8],
     affected: &[usize],
     own: &[u64],
-    tokens: &[u64],
-    completions: &[u64],
-    aborted: &[u64],
-    bytes: &[u8],
+    lists: BackendLists<'_>,
 ) -> Replied
     requires { Places ended.idle.size rows.old area.old affected.now
-        × Agree tokens.now completions.now bytes.now
-        × (length tokens.now + length aborted.now ≤ 128) }
+        × Agree lists.tokens.now lists.completions.now lists.bytes.now
+        × (length lists.tokens.now + length lists.aborted.now ≤ 128) }
     ensures { after result (memory_of rows.new area.new)
-        ≡ settled_of ended (meant affected.now own.now)
-        (reply_lists tokens.now completions.now aborted.now bytes.now) (memory_of rows.old area.old) }
+        ≡ settled_of ended (meant affected.now own.now) (lists_in lists.entry) (memory_of rows.old area.old) }
 {
     let idle = ended.idle;
     let size = idle.size;
-    let places = entries::places_of(affected, own, tokens, aborted);
-    let n = tokens.len();
-    let end = n + aborted.len();
-    let report = report_of(ended, n as u64, aborted.len() as u64);
-    let verdict = apply_all(rows, area, size, &places[..end], n, completions, bytes);
+    let places = entries::places_of(affected, own, lists.tokens, lists.aborted);
+    let n = lists.tokens.len();
+    let end = n + lists.aborted.len();
+    let report = report_of(ended, n as u64, lists.aborted.len() as u64);
+    let verdict = apply_all(
+        rows,
+        area,
+        size,
+        &places[..end],
+        n,
+        lists.completions,
+        lists.bytes,
+    );
     conclude(verdict, ended, rows, report, places)
 }
 
@@ -222,68 +226,35 @@ fn reply_affected(
     area: &mut [u8],
     affected: &[usize],
     own: &[u64],
-    tokens: &[u64],
-    completions: &[u64],
-    aborted: &[u64],
-    bytes: &[u8],
+    lists: BackendLists<'_>,
 ) -> Replied
     requires { Places ended.idle.size rows.old area.old affected.now
-        × Agree tokens.now completions.now bytes.now
+        × Agree lists.tokens.now lists.completions.now lists.bytes.now
         × (length own.now ≤ 128) }
     ensures { after result (memory_of rows.new area.new)
-        ≡ done_of ended affected.now own.now (reply_lists tokens.now completions.now aborted.now bytes.now)
-        (memory_of rows.old area.old) }
+        ≡ done_of ended affected.now own.now (lists_in lists.entry) (memory_of rows.old area.old) }
 {
     let idle = ended.idle;
     let outcome = ended.outcome;
     let whole = is_whole(outcome);
-    if !tokens::in_scope(whole, own, tokens, aborted) {
+    if !tokens::in_scope(whole, own, lists.tokens, lists.aborted) {
         return refused_by(session::mark(idle), Cause::WrongTokens);
     }
-    settle(
-        ended,
-        rows,
-        area,
-        affected,
-        own,
-        tokens,
-        completions,
-        aborted,
-        bytes,
-    )
+    settle(ended, rows, area, affected, own, lists)
 }
 
 // The affected rows by ascending id, and their tokens.
-fn reply_done(
-    ended: Ended,
-    rows: &mut [u64],
-    area: &mut [u8],
-    tokens: &[u64],
-    completions: &[u64],
-    aborted: &[u64],
-    bytes: &[u8],
-) -> Replied
-    requires { Fit ended.idle.size rows.old area.old × Agree tokens.now completions.now bytes.now }
+fn reply_done(ended: Ended, rows: &mut [u64], area: &mut [u8], lists: BackendLists<'_>) -> Replied
+    requires { Fit ended.idle.size rows.old area.old × Agree lists.tokens.now lists.completions.now lists.bytes.now }
     ensures { after result (memory_of rows.new area.new)
-        ≡ reply_by (Ok ended.outcome) ended.recovery (reply_lists tokens.now completions.now aborted.now bytes.now)
-        ended.idle (memory_of rows.old area.old) }
+        ≡ reply_by (Ok ended.outcome) ended.recovery (lists_in lists.entry) ended.idle (memory_of rows.old area.old) }
 {
     let recovery = ended.recovery;
     let device = recovery.device;
     let mut list = [0usize; 128];
     let count = affected::collect(rows, &mut list, device, recovery.endpoint);
     let own = affected::tokens_of(rows, &list[..count]);
-    reply_affected(
-        ended,
-        rows,
-        area,
-        &list[..count],
-        &own[..count],
-        tokens,
-        completions,
-        aborted,
-        bytes,
-    )
+    reply_affected(ended, rows, area, &list[..count], &own[..count], lists)
 }
 
 // Refuses by 45, always with a mark, if the backend failed.
@@ -293,14 +264,11 @@ fn reply_to(
     area: &mut [u8],
     recovery: Recovery,
     reply: Result<BackendAbort, OperationError>,
-    tokens: &[u64],
-    completions: &[u64],
-    aborted: &[u64],
-    bytes: &[u8],
+    lists: BackendLists<'_>,
 ) -> Replied
-    requires { Fit idle.size rows.old area.old × Agree tokens.now completions.now bytes.now }
+    requires { Fit idle.size rows.old area.old × Agree lists.tokens.now lists.completions.now lists.bytes.now }
     ensures { after result (memory_of rows.new area.new)
-        ≡ reply_by reply recovery (reply_lists tokens.now completions.now aborted.now bytes.now) idle (memory_of rows.old area.old) }
+        ≡ reply_by reply recovery (lists_in lists.entry) idle (memory_of rows.old area.old) }
 {
     match reply {
         Err(error) => {
@@ -315,7 +283,7 @@ fn reply_to(
                 recovery,
                 outcome,
             };
-            reply_done(ended, rows, area, tokens, completions, aborted, bytes)
+            reply_done(ended, rows, area, lists)
         }
     }
 }
@@ -327,33 +295,20 @@ fn reply_sized(
     area: &mut [u8],
     recovery: Recovery,
     reply: Result<BackendAbort, OperationError>,
-    tokens: &[u64],
-    completions: &[u64],
-    aborted: &[u64],
-    bytes: &[u8],
+    lists: BackendLists<'_>,
 ) -> Replied
     ensures { after result (memory_of rows.new area.new)
-        ≡ reply_sized reply recovery (reply_lists tokens.now completions.now aborted.now bytes.now) session (memory_of rows.old area.old) }
+        ≡ reply_sized reply recovery (lists_in lists.entry) session (memory_of rows.old area.old) }
 {
     let size = session.size;
     if !sizes::memory_fits(size, rows.len(), area.len()) {
         return refused_by(session, Cause::WrongSize);
     }
-    if !returned::lists_agree(tokens, completions, bytes.len()) {
+    if !returned::lists_agree(lists.tokens, lists.completions, lists.bytes.len()) {
         return refused_by(session, Cause::ListsDisagree);
     }
     let idle = session::with_flight(session, InFlight::Nothing);
-    reply_to(
-        idle,
-        rows,
-        area,
-        recovery,
-        reply,
-        tokens,
-        completions,
-        aborted,
-        bytes,
-    )
+    reply_to(idle, rows, area, recovery, reply, lists)
 }
 
 // The reply by row indices. Refuses by 2 if no recovery waits for one.
@@ -362,13 +317,10 @@ pub fn reply_by_places(
     rows: &mut [u64],
     area: &mut [u8],
     reply: Result<BackendAbort, OperationError>,
-    tokens: &[u64],
-    completions: &[u64],
-    aborted: &[u64],
-    bytes: &[u8],
+    lists: BackendLists<'_>,
 ) -> Replied
     ensures step { after result (memory_of rows.new area.new)
-        ≡ recovery_reply_of reply (reply_lists tokens.now completions.now aborted.now bytes.now) session (memory_of rows.old area.old) }
+        ≡ recovery_reply_of reply (lists_in lists.entry) session (memory_of rows.old area.old) }
     ensures table { Tabled recovery_reply_numbers (recovery_said result.answer) }
 {
     let flight = session.in_flight;
@@ -376,17 +328,7 @@ pub fn reply_by_places(
         InFlight::Nothing => refused_by(session, Cause::NothingWaits),
         InFlight::Submission(_) => refused_by(session, Cause::NothingWaits),
         InFlight::Poll(_) => refused_by(session, Cause::NothingWaits),
-        InFlight::Recovery(recovery) => reply_sized(
-            session,
-            rows,
-            area,
-            recovery,
-            reply,
-            tokens,
-            completions,
-            aborted,
-            bytes,
-        ),
+        InFlight::Recovery(recovery) => reply_sized(session, rows, area, recovery, reply, lists),
     }
 }
 
@@ -437,24 +379,12 @@ pub fn recovery_reply(
     rows: &mut [u64],
     area: &mut [u8],
     reply: Result<BackendAbort, OperationError>,
-    tokens: &[u64],
-    completions: &[u64],
-    aborted: &[u64],
-    bytes: &[u8],
+    lists: BackendLists<'_>,
 ) -> Recovered
     ensures step { after result (memory_of rows.new area.new)
-        ≡ with_ids (recovery_reply_of reply (reply_lists tokens.now completions.now aborted.now bytes.now) session (memory_of rows.old area.old)) }
+        ≡ with_ids (recovery_reply_of reply (lists_in lists.entry) session (memory_of rows.old area.old)) }
     ensures table { Tabled recovery_reply_numbers (recovery_said result.answer) }
 {
-    let replied = reply_by_places(
-        session,
-        rows,
-        area,
-        reply,
-        tokens,
-        completions,
-        aborted,
-        bytes,
-    );
+    let replied = reply_by_places(session, rows, area, reply, lists);
     fill(rows, replied)
 }

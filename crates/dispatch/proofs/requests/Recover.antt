@@ -16,10 +16,10 @@ use Rattle.bus.specs.Tables.{Bus}
 use Rattle.session.specs.Lent.{Memory, memory, lent}
 use Rattle.session.specs.declared.{RecoveryKind.RecoveryKind, Session.Session}
 use Rattle.recovery.specs.Recover.{recover_of}
-use Rattle.recovery.specs.RecoveryReply.{reply_lists, recovery_reply_of}
-use Rattle.recovery.specs.declared.{BackendAbort.BackendAbort, Begun.Begun, Replied.Replied}
+use Rattle.recovery.specs.RecoveryReply.{lists_in, recovery_reply_of}
+use Rattle.recovery.specs.declared.{BackendAbort.BackendAbort, BackendLists.BackendLists, Begun.Begun, Replied.Replied}
 use Rattle.calls.specs.Answers.{outcome, of_begin, of_recovery}
-use Rattle.call_words.specs.Arguments.{read_recovery_reply, read_completed, read_completions, read_aborted, read_lists}
+use Rattle.call_words.specs.Arguments.{read_recovery_reply, read_lists}
 use Rattle.calls.specs.Calls.{Recover, ToRecovery, Begin, Reply}
 use Rattle.answer_words.specs.Lists.{begun_lists, recovered_lists, lists_of, put_lists}
 use Rattle.calls.specs.Step.{World, world, begins, recovers, begun_of, replied_of, step_of}
@@ -37,16 +37,15 @@ module _ (s : Session) (store : Store) (area w bytes l m : List ℕ) (r : Outcom
   abbrev Runs : ℕ → Memory → Type 0
   Runs n next = (b : Bus) → ran (after r (lent b next)) m ≡ run_of (read_recovering n w bytes) (handed b) l
 
-  pub places_run : (w₁ area₁ : List ℕ) (p : Replied) (reply : Result BackendAbort OperationError) (tokens words aborted : List ℕ) → reply ≡ read_recovery_reply w
-      → tokens ≡ read_completed w → words ≡ read_completions w → aborted ≡ read_aborted w
-      → after p (memory (store_of w₁) area₁) ≡ recovery_reply_of reply (reply_lists tokens words aborted bytes) s (memory store area)
+  pub places_run : (w₁ area₁ : List ℕ) (p : Replied) (reply : Result BackendAbort OperationError) (x : BackendLists) → reply ≡ read_recovery_reply w
+      → lists_in x ≡ read_lists w bytes
+      → after p (memory (store_of w₁) area₁) ≡ recovery_reply_of reply (lists_in x) s (memory store area)
       → m ≡ put_lists (recovered_lists p (read_rows w₁)) l → r ≡ outcome (of_recovery p.answer) p.session → Runs 24 (memory (store_of w₁) area₁)
   unfolding store_of run_of step_of replied_of lists_of read_recovering
-  places_run w₁ area₁ p reply tokens words aborted er et ew ea h el eo b =
+  places_run w₁ area₁ p reply x er ex h el eo b =
       let next : Memory = memory (store_of w₁) area₁ in
-      let c : Reply (ToRecovery reply (reply_lists tokens words aborted bytes)) ≡ Reply (ToRecovery (read_recovery_reply w) (read_lists w bytes)) =
-      rw (er, et, ew, ea) in
-      ran_said (Reply (ToRecovery reply (reply_lists tokens words aborted bytes))) (read_recovering 24 w bytes) (handed b) _ l (search (chain, c) depth 20)
+      let c : Reply (ToRecovery reply (lists_in x)) ≡ Reply (ToRecovery (read_recovery_reply w) (read_lists w bytes)) = rw (er, ex) in
+      ran_said (Reply (ToRecovery reply (lists_in x))) (read_recovering 24 w bytes) (handed b) _ l (search (chain, c) depth 20)
       (ap (λ (z : Outcome). ran (after z (lent b next)) m) eo
       ∙ ap (ran (recovers (after p next) (handed b))) el
       ∙ ap (λ (z : After Replied Memory). ran (recovers z (handed b)) (put_lists (recovered_lists z.result z.lent.store.rows) l)) h)
