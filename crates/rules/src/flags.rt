@@ -52,12 +52,13 @@ pub(crate) fn timeout(row: Row) -> Result<Step, Refusal>
     let RequestState::Pending { logical_cancel, .. } = row.state else {
         return refused(Cause::NotPending);
     };
+    let state = RequestState::Pending {
+        logical_cancel,
+        timed_out: true,
+    };
     moved_to(Row {
         timed_out: true,
-        state: RequestState::Pending {
-            logical_cancel,
-            timed_out: true,
-        },
+        state,
         ..row
     })
 }

@@ -28,7 +28,17 @@ pub fn copy<T: Copy>(dst: &mut [T], at: usize, src: &[T], n: usize)
     requires { (at + n ≤ length dst.old) × (n ≤ length src.now) }
     ensures { dst.new ≡ splice at (take n src.now) dst.old }
 {
-    dst[at..at + n].copy_from_slice(&src[..n]);
+    copy_all(&mut dst[at..at + n], &src[..n]);
+}
+
+// The library's `copy_from_slice` becomes `memmove`, a name that C would have to bring.
+fn copy_all<T: Copy>(dst: &mut [T], src: &[T])
+    requires { length dst.old ≡ length src.now }
+    ensures { dst.new ≡ src.now }
+{
+    for (k, x) in src.iter().enumerate() {
+        dst[k] = *x;
+    }
 }
 
 // The elements of src, to the room of n from at on: cut at its end.
