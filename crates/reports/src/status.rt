@@ -1,8 +1,8 @@
 // Reports, completed bytes and tallies. All are allowed while something is in flight; a submission in flight has no report yet.
-ghost use Rattle.std.specs.Prelude.{◌≡◌, ◌↔◌, length, ◌<◌, Err, IsOk, IfOk, IfErr};
+ghost use Rattle.std.specs.Prelude.{◌≡◌, ◌↔◌, length, cond, ◌<◌, IfSome, Some, None, Err, IsOk, IfOk, IfErr};
 ghost use Rattle.chain.specs.Lists.{count};
 ghost use Rattle.rows.specs.Table.{read_rows, row_in};
-ghost use Rattle.reports.specs.Status.{is_submitting, shown_at, status_of, is_shown, comes_after, beats, report_at, better_at, best_from, next_of, shown_count, completed_length, completed_part, bytes_of, held_count_of, tally_of, held_bytes_of};
+ghost use Rattle.reports.specs.Status.{is_submitting, shown_at, status_of, is_shown, comes_after, beats, report_at, is_better, best_from, next_of, shown_count, completed_length, completed_part, bytes_of, held_count_of, tally_of, held_bytes_of};
 ghost use Rattle.models.specs.Said.{Tabled};
 ghost use Rattle.reports.specs.Said.{report_said, next_said, tally_said, part_said, status_numbers, tally_numbers};
 ghost use Rattle.rows.specs.Store.{store_of};
@@ -82,27 +82,23 @@ fn beats_best(rows: &[u64], best: Option<usize>, id: RequestId) -> bool
     }
 }
 
-// The better of the best row so far and row i.
-fn better_of(
-    rows: &[u64],
-    best: Option<usize>,
-    i: usize,
-    flight: InFlight,
-    after: Option<RequestId>,
-) -> Option<usize>
+// The earlier by id of the best row so far and row i.
+fn earlier_of(rows: &[u64], best: Option<usize>, i: usize) -> Option<usize>
     requires { i < length (read_rows rows.now) }
-    ensures { result ≡ better_at flight after (read_rows rows.now) best i }
+    ensures { result ≡ cond (beats (report_at best (read_rows rows.now)) (row_in (read_rows rows.now) i).id) (Some i) best }
 {
-    if !is_shown(rows, i, flight) {
-        return best;
-    }
-    let id = columns::id_at(rows, i);
-    let later = comes_after(after, id);
-    let wins = beats_best(rows, best, id);
-    if later & wins {
+    if beats_best(rows, best, columns::id_at(rows, i)) {
         return Some(i);
     }
     best
+}
+
+// Row i has a report, and its id comes after the one that is given, if one is.
+fn is_shown_after(rows: &[u64], i: usize, flight: InFlight, after: Option<RequestId>) -> bool
+    requires { i < length (read_rows rows.now) }
+    ensures { result ≡ is_better flight after None (row_in (read_rows rows.now) i) }
+{
+    is_shown(rows, i, flight) && comes_after(after, columns::id_at(rows, i))
 }
 
 // The report with the least id, or the least after an id. The row of a submission in flight is left out.
@@ -118,15 +114,22 @@ pub fn request_reports(
     Ok(best_of(rows, session.in_flight, after))
 }
 
+// The place of the best report. The filter skips free rows in a loop of its own: a `for` that hands the `Option` on takes half as long again where most
+// rows are free.
+fn best_place(rows: &[u64], flight: InFlight, after: Option<RequestId>) -> Option<usize>
+    ensures inside { IfSome result (λ i. i < length (read_rows rows.now)) }
+    ensures best { report_at result (read_rows rows.now) ≡ best_from flight after None (read_rows rows.now) }
+{
+    (0..rows::count(rows))
+        .filter(|i| is_shown_after(rows, *i, flight, after))
+        .fold(None, |best, i| earlier_of(rows, best, i))
+}
+
 // The best is kept by its place, and read whole at the end.
 fn best_of(rows: &[u64], flight: InFlight, after: Option<RequestId>) -> Option<RequestReport>
     ensures { result ≡ best_from flight after None (read_rows rows.now) }
 {
-    let mut best = None;
-    for i in 0..rows::count(rows) {
-        best = better_of(rows, best, i, flight, after);
-    }
-    let row = rows::read_row(rows, best?);
+    let row = rows::read_row(rows, best_place(rows, flight, after)?);
     Some(rules::report_of(row))
 }
 

@@ -1,6 +1,7 @@
 -- One law for each way out of reports, completed bytes and tallies: its premises are the facts in hand there. Assumes nothing.
-use Rattle.std.specs.Prelude.{Option, Some, None, Result, Ok, Err, ⊤, ok_or}
-use Rattle.std.specs.Result.{result_unwrap_or, result_ok}
+use Rattle.std.specs.Prelude.{Option, Some, None, IfSome, Result, Ok, Err, ⊤, ok_or}
+use Rattle.std.specs.List.{fold, filter, range_with_len}
+use Rattle.std.specs.Result.{result_ok}
 use Prim.Native.Nat.{ℕ, suc, zero, ◌+◌, ◌-◌, ◌*◌, ◌^◌, ◌<◌, ◌≤◌, min}
 use mathlib.Core.Bool.{Bool, true, false, cond, not, ◌&&◌}
 use mathlib.Core.List.{List, [], ◌∷◌}
@@ -15,7 +16,7 @@ use mir.Syntax.{w64}
 use mir.Val.{Fits, bool_byte}
 use Rattle.chain.specs.Chain.{◌if◌else◌}
 use Rattle.chain.specs.Lists.{count, found_in}
-use Rattle.chain.proofs.Chain.{caseB, takes, passes, through, if_all}
+use Rattle.chain.proofs.Chain.{caseB, takes, passes, through}
 use Rattle.models.specs.Refusals.{refusal_of}
 use Rattle.models.specs.Requests.{same_request, request_before}
 use Rattle.models.specs.declared.{Refusal.Refusal, RequestId.RequestId, RequestReport.RequestReport}
@@ -109,24 +110,6 @@ module _ (f : InFlight) (row : Row) (u : Bool) (eu : u ≡ row.used) where
   unfolding is_shown
   shown_used id a t ei ea = rw (sym eu ∙ not-false u t, ea, ei)
 
--- the better place
-module _ (f : InFlight) (o : Option RequestId) (rows : List Row) (best : Option ℕ) (i : ℕ) (a : Bool) (ea : a ≡ is_shown f (row_in rows i)) where
-  pub place_hidden : not a ≡ true → best ≡ better_at f o rows best i
-  unfolding better_at
-  place_hidden t = passes (Option ℕ) _ _ _ _ (rw (sym ea ∙ not-true a t)) refl
-
-  module _ (t : not a ≡ false) (id : RequestId) (b c : Bool) (ei : id ≡ id_in rows i) (eb : b ≡ comes_after o id) (ec : c ≡ beats (report_at best rows) id) where
-    wins : (v : Bool) → (b && c) ≡ v → is_better f o (report_at best rows) (row_in rows i) ≡ v
-    wins v e = rw (sym ea ∙ not-false a t, ← ei, ← eb, ← ec) e
-
-    pub place_next : (b && c) ≡ true → Some i ≡ better_at f o rows best i
-    unfolding better_at
-    place_next e = takes (Option ℕ) _ _ _ _ (wins true e) refl
-
-    pub place_best : (b && c) ≡ false → best ≡ better_at f o rows best i
-    unfolding better_at
-    place_best e = passes (Option ℕ) _ _ _ _ (wins false e) refl
-
 -- the best of the rows: what is left leads to the whole
 best-suc : (f : InFlight) (o : Option RequestId) (l : List Row) (best : Option RequestReport) (i : ℕ) → i < length l
     → best_from f o best (drop i l) ≡ best_from f o (better f o best (get_or l i empty_row)) (drop (suc i) l)
@@ -150,31 +133,67 @@ abbrev pub up_to : Option ℕ → ℕ
 up_to (Some i) = i + 1
 up_to None = 0
 
-abbrev pub Leads : InFlight → Option RequestId → List Row → ℕ → Option ℕ → Type 0
-Leads f o l i best = (up_to best ≤ i) × (best_from f o (report_at best l) (drop i l) ≡ best_from f o None l)
+-- the fold over the places of the rows that have a report after the id
+module _ (f : InFlight) (o : Option RequestId) (l : List Row) where
+  abbrev pub shown_after : ℕ → Bool
+  shown_after i = is_better f o None (row_in l i)
 
-pub best_near : (f : InFlight) (o : Option RequestId) (l : List Row) (i : ℕ) (best after : Option ℕ) → up_to best ≤ i → after ≡ better_at f o l best i → up_to after ≤ i + 1
-unfolding better_at
-best_near f o l i best after h e = rw e (if_all (λ x. up_to x ≤ i + 1) (Some i) _ best (omega arith) (omega arith))
+  abbrev pub earlier_in : Option ℕ → ℕ → Option ℕ
+  earlier_in best i = cond (beats (report_at best l) (row_in l i).id) (Some i) best
 
-module _ (f : InFlight) (o : Option RequestId) (l : List Row) (n i : ℕ) (best : Option ℕ) (e : n ≡ length l) (k : best_from f o (report_at best l) (drop i l) ≡ best_from f o None l) where
-  pub best_on : (after : Option ℕ) → i < n → after ≡ better_at f o l best i → best_from f o (report_at after l) (drop (i + 1) l) ≡ best_from f o None l
-  best_on after h ea =
-      rw (ea, place_report f o l best i, add-one) (sym (best-suc f o l (report_at best l) i (omega arith)) ∙ k)
+  abbrev pub folded_place : Option ℕ → ℕ → ℕ → Option ℕ
+  folded_place best i k = fold earlier_in best (filter shown_after (range_with_len i k))
 
-  module _ (h : n ≤ i) where
-    best_end : report_at best l ≡ best_from f o None l
-    best_end = sym (best_past f o l (report_at best l) i (omega arith)) ∙ k
+  -- of the rows that have a report after the id the one earlier by id is the better, and no other row is better
+  better_shown : (x : Option RequestReport) (r : Row) → is_better f o x r ≡ (is_better f o None r && beats x r.id)
+  better_shown x r = by (is_shown f r && comes_after o r.id) (beats x r.id)
+    where
+      by : (t q : Bool) → (t && q) ≡ ((t && true) && q)
+      by true q = refl
+      by false q = refl
 
-    pub best_none : best ≡ None → None ≡ best_from f o None l
-    best_none eb = rw eb at best_end
+  better_earlier : (best : Option ℕ) (i : ℕ) → shown_after i ≡ true → better_at f o l best i ≡ earlier_in best i
+  unfolding better_at ◌if◌else◌
+  better_earlier best i e =
+      caseB (beats (report_at best l) (row_in l i).id)
+      (λ u. rw (better_shown (report_at best l) (row_in l i), e, u) refl)
+      (λ u. rw (better_shown (report_at best l) (row_in l i), e, u) refl)
 
-    pub best_found : (place : ℕ) (row : Row) (x : RequestReport) → best ≡ Some place → row ≡ row_in l place → x ≡ report_of row
-        → Some x ≡ best_from f o None l
-    best_found place row x eb er ex = rw (ex, er) (rw eb at best_end)
+  better_other : (best : Option ℕ) (i : ℕ) → shown_after i ≡ false → better_at f o l best i ≡ best
+  unfolding better_at ◌if◌else◌
+  better_other best i e = rw (better_shown (report_at best l) (row_in l i), e) refl
 
-pub best_inside : (l : List Row) (n i place : ℕ) (best : Option ℕ) → n ≡ length l → i ≤ n → up_to best ≤ i → best ≡ Some place → place < length l
-best_inside l n i place best e h k eb = let z : place + 1 ≤ i = rw eb at k in omega arith
+  cond_near : (n i : ℕ) (best : Option ℕ) (t : Bool) → up_to (Some i) ≤ n → up_to best ≤ n → up_to (cond t (Some i) best) ≤ n
+  cond_near n i best true g h = g
+  cond_near n i best false g h = h
+
+  fold_near : (k i : ℕ) (best : Option ℕ) → i + k ≡ length l → up_to best ≤ length l → up_to (folded_place best i k) ≤ length l
+  fold_near zero i best e h = h
+  fold_near (suc k) i best e h =
+      caseB (shown_after i)
+      (λ u. rw u (fold_near k (i + 1) (earlier_in best i) (omega arith) (cond_near (length l) i best _ (omega arith) h)))
+      (λ u. rw u (fold_near k (i + 1) best (omega arith) h))
+
+  fold_best : (k i : ℕ) (best : Option ℕ) → i + k ≡ length l → report_at (folded_place best i k) l ≡ best_from f o (report_at best l) (drop i l)
+  fold_best zero i best e = sym (best_past f o l (report_at best l) i (omega arith))
+  fold_best (suc k) i best e =
+      let rest : Option ℕ → Option RequestReport = λ x. best_from f o (report_at x l) (drop (i + 1) l) in
+      let on : rest (better_at f o l best i) ≡ best_from f o (report_at best l) (drop i l)
+      = rw (place_report f o l best i, add-one) (sym (best-suc f o l (report_at best l) i (omega arith))) in
+      caseB (shown_after i)
+      (λ u. rw u (fold_best k (i + 1) (earlier_in best i) (omega arith) ∙ ap rest (sym (better_earlier best i u)) ∙ on))
+      (λ u. rw u (fold_best k (i + 1) best (omega arith) ∙ ap rest (sym (better_other best i u)) ∙ on))
+
+  inside : (best : Option ℕ) → up_to best ≤ length l → IfSome best (λ i. i < length l)
+  inside None h = tt
+  inside (Some i) h = omega arith
+
+  module _ (best : Option ℕ) (n : ℕ) (e : n ≡ length l) (eb : best ≡ folded_place None 0 n) where
+    pub folded_inside : IfSome best (λ i. i < length l)
+    folded_inside = inside best (rw (eb, e) (fold_near (length l) 0 None (omega arith) (omega arith)))
+
+    pub folded_best : report_at best l ≡ best_from f o None l
+    folded_best = rw (eb, e) (fold_best (length l) 0 None (omega arith))
 
 -- how many have a report
 abbrev pub Counted : InFlight → List Row → ℕ → ℕ → Type 0

@@ -1,15 +1,21 @@
-use Rattle.std.proofs.Common.{rules, tests, get_or, arith}
-use Rattle.std.proofs.lemmas.Iterator.{YieldsList-from_range}
-use Rattle.std.proofs.lemmas.Iterator.Search.{find_from_yields_List}
+use Rattle.std.proofs.Common.{arith, ap, sym, ◌∙◌, not}
+use Rattle.chain.proofs.Lists.{find_on, found_at, found_none}
 use Rattle.rows.specs.Table.{read_rows, empty_row}
 use Rattle.ledger.specs.Search.{is_free}
-use Rattle.ledger.proofs.search.Laws.{first_before, found_all}
 use Rattle.ledger.proofs.search.first_free.Goals as goal
 
-pub returns : goal.returns
+pub returns-then-not-used_at : goal.returns-then-not-used_at
 unfolding is_free
+returns-then-not-used_at c =
+    found_at is_free (read_rows c.args.rows.now) c.loop-i.i empty_row (omega (arith, c.loop-i-test.true, c.count-i-end.ensures)) c.loop-i.invariant
+    (ap not (sym c.used_at.ensures ∙ c.if-not-used_at.true))
+
+pub loop-i-preserved : goal.loop-i-preserved
+unfolding is_free
+loop-i-preserved c =
+    find_on is_free empty_row (read_rows c.args.rows.now) c.loop-i.i (omega (arith, c.loop-i-test.true, c.count-i-end.ensures)) c.loop-i.invariant
+    (ap not (sym c.used_at.ensures ∙ c.if-not-used_at.false))
+
+pub returns : goal.returns
 returns c =
-    let l = read_rows c.args.rows.now in
-    let n = c.count.result in
-    let e = find_from_yields_List (λ i. is_free (get_or l i empty_row)) _ _ c.find.result c.find.ensures.ran (YieldsList-from_range 0 n n (cc) (omega arith)) (λ x b q k. search (rules, tests)) in
-    found_all is_free l n _ c.count.ensures (first_before is_free l 0 n n _ (omega arith) e (omega arith) (omega arith))
+    found_none is_free (read_rows c.args.rows.now) c.loop-i.i (omega (arith, c.loop-i-test.false, c.count-i-end.ensures)) c.loop-i.invariant
