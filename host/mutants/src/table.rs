@@ -206,7 +206,7 @@ fn went(rows: &[(&Edit, Row)]) -> String {
         "
 ## Edits that went
 
-{} edits of crates/\\*/must-fail changed code below a contract that is an equation: such an edit can only fail, and each proved its crate again. They went.
+{} edits of crates/\\*/must-fail changed code below a contract that is an equation: such an edit can only fail, and each proved its crate again. They went (a 63rd, `slot_alone` of `scope`, is back).
 The mutant that makes the change shows that the comparison would notice it: by recorded scripts or stored papers, how many and which first, else by a seed's
 call or a test.
 
